@@ -1,0 +1,42 @@
+-- Paper 01, "Refusal table", 1 to 5: "The lowest number that applies is returned."
+use mathlib.Core.Bool.{Bool, true, false}
+use mathlib.Core.List.{List}
+use mathlib.Core.Option.{Option, none, some}
+use Prim.Native.Nat.{ℕ}
+use Rattle.csl.specs.Parties.{bitsOf}
+use Rattle.csl.specs.Syntax.{Agreement}
+use Rattle.csl.specs.Decode.{decode, sized}
+use Rattle.csl.specs.Typing.{typed}
+use Rattle.csl.specs.Guards.{guardedFrom}
+use Rattle.csl.specs.Widths.{narrowAll}
+
+-- a refusal's number, or the agreement and its main clause's parties
+pub data Checked : Type 0 where
+  refused : ℕ → Checked
+  accepted : Agreement → List ℕ → Checked
+
+unfoldable pub checkTyped : Agreement → List ℕ → Checked
+checkTyped a ps = elim (guardedFrom 0 (a .templates)) [ false ↦ refused 4 | true ↦ elim (narrowAll a) [ false ↦ refused 5 | true ↦ accepted a ps ] ]
+
+unfoldable pub checkDecoded : Agreement → Checked
+checkDecoded a = elim (typed a) [ none ↦ refused 3 | some ps ↦ checkTyped a ps ]
+
+unfoldable pub checked : List ℕ → Checked
+checked bytes = elim (sized bytes) [ false ↦ refused 1 | true ↦ elim (decode bytes) [ none ↦ refused 2 | some a ↦ checkDecoded a ] ]
+
+-- ---- the entry: "check also returns the main clause's parties"
+pub record CheckAnswer : Type 0 where
+  pub number : ℕ
+  pub parties : ℕ
+
+unfoldable pub checkAnswer : Checked → CheckAnswer
+checkAnswer (refused n) = record { number = n; parties = 0 }
+checkAnswer (accepted a ps) = record { number = 0; parties = bitsOf ps }
+
+unfoldable pub checkOf : List ℕ → CheckAnswer
+checkOf bytes = checkAnswer (checked bytes)
+
+-- what a proof by computation unfolds
+unfoldable pub computes : Unit {0}
+unfolding checkTyped checkDecoded checked checkAnswer checkOf
+computes = tt

@@ -1,0 +1,99 @@
+-- Paper 01, "The run by the rules", and refusals 8 to 11: fed the agreement and the readings' bytes, nothing from a table.
+use mathlib.Core.Bool.{Bool, true, false, _&&_}
+use mathlib.Core.List.{List, [], _∷_}
+use mathlib.Core.Option.{Option, none, some}
+use Prim.Native.Nat.{ℕ, zero, suc, _+_, _-_, _/_, _%_}
+use lib.Dec.{leb, ltb, eqb}
+use lib.IntN.{ℤ}
+use lib.ListN.{length}
+use Rattle.csl.specs.Lists.{_>>=_, need, at}
+use Rattle.csl.specs.Bytes.{byte, le32, signed32, isRecord, kindNumber}
+use Rattle.csl.specs.Syntax.{Ty, Agreement}
+use Rattle.csl.specs.Decode.{between}
+use Rattle.csl.specs.Values.{valuesOf}
+use Rattle.csl.specs.Outcomes.{units, Outcome, done, breach, running, stuck}
+use Rattle.csl.specs.Rules.{Reading, activate}
+use Rattle.csl.specs.Places.{follow}
+
+-- ---- a reading's bytes
+pub record Raw : Type 0 where
+  pub time : ℕ
+  pub type : ℕ
+  pub numbers : List ℤ
+
+unfoldable pub numbersFrom : ℕ → List ℕ → ℕ → List ℤ
+numbersFrom zero s i = []
+numbersFrom (suc n) s i = signed32 s i ∷ numbersFrom n s (i + 4)
+
+-- "one whole record of kind 64: time (4 bytes), type (1), 0 to 4 values of 4 bytes, signed": refusal 8 where this is none
+unfoldable pub rawReading : List ℕ → Option Raw
+rawReading s = do
+  _ ← need (isRecord s && eqb (kindNumber s) 64)
+  _ ← need (between 9 25 (length s) && eqb ((length s - 9) % 4) 0)
+  some (record { time = le32 s 4; type = byte s 8; numbers = numbersFrom ((length s - 9) / 4) s 9 })
+
+-- "Reading type 0 is a time mark without values"
+unfoldable pub valuesWanted : Agreement → ℕ → Option (List Ty)
+valuesWanted a zero = some []
+valuesWanted a (suc k) = at (a .readings) k
+
+-- "type over the reading count, wrong value count, or value not of its type or out of its range": refusal 9 where this is none
+unfoldable pub typedReading : Agreement → Raw → Option Reading
+typedReading a r = do
+  ts ← valuesWanted a (r .type)
+  _ ← need (eqb (length ts) (length (r .numbers)))
+  vs ← valuesOf (a .parties) ts (r .numbers)
+  some (record { time = r .time; type = r .type; values = vs .0 })
+
+-- the lowest of 8, 9 and 10 that applies, or the reading
+pub data Fit : Type 0 where
+  unfit : ℕ → Fit
+  fit : Reading → Fit
+
+unfoldable pub fitOf : Agreement → ℕ → List ℕ → Fit
+fitOf a now bytes = elim (rawReading bytes) [ none ↦ unfit 8 | some r ↦ elim (typedReading a r) [ none ↦ unfit 9 | some d ↦ elim (ltb (d .time) now) [ true ↦ unfit 10 | false ↦ fit d ] ] ]
+
+-- ---- the run
+pub record Run : Type 0 where
+  pub lastTime : ℕ
+  pub outcome : Outcome
+
+-- "Over 128 units is 11"
+unfoldable pub tooMany : Outcome → Bool
+tooMany done = false
+tooMany (breach t ps) = false
+tooMany (running r) = ltb 128 (units r)
+tooMany stuck = false
+
+-- a number, and the run after it
+pub record Stepped : Type 0 where
+  pub number : ℕ
+  pub run : Run
+
+-- "over 128 units it is 11 and nothing changes, otherwise 0"
+unfoldable pub kept : Run → Run → Stepped
+kept before after = elim (tooMany (after .outcome)) [ true ↦ record { number = 11; run = before } | false ↦ record { number = 0; run = after } ]
+
+-- "the main clause is activated at the start time, which is the last reading time at first"
+unfoldable pub started : Agreement → Stepped
+started a =
+    let o = activate (a .templates) (a .main) (record { params = []; values = [] }) (a .start) in
+    let r : Run = record { lastTime = a .start; outcome = o } in
+    kept r r
+
+-- "Else, once breached, it is 0 and nothing changes. Else it is followed"
+unfoldable pub followed : Agreement → Run → Reading → Stepped
+followed a r d = elim (r .outcome) [
+    done ↦ record { number = 0; run = record { lastTime = d .time; outcome = done } }
+  | breach t ps ↦ record { number = 0; run = r }
+  | running res ↦ kept r (record { lastTime = d .time; outcome = follow a d res })
+  | stuck ↦ record { number = 0; run = r } ]
+
+-- "if 8, 9 or 10 applies, the lowest is its number and nothing changes"
+unfoldable pub step : Agreement → Run → List ℕ → Stepped
+step a r bytes = elim (fitOf a (r .lastTime) bytes) [ unfit n ↦ record { number = n; run = r } | fit d ↦ followed a r d ]
+
+-- what a proof by computation unfolds
+unfoldable pub computes : Unit {0}
+unfolding numbersFrom rawReading valuesWanted typedReading fitOf tooMany kept started followed step
+computes = tt
