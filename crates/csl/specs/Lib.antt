@@ -16,3 +16,5 @@ pub mod Run
 pub mod Table
 pub mod Entries
 pub mod Demand3
+pub mod Build
+pub mod Trials
