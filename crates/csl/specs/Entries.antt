@@ -33,13 +33,15 @@ isTable cells = eqb (length cells) tableLength
 -- "Start ignores the table's earlier contents."
 unfoldable pub startOf : List ℕ → List ℤ → Answer
 startOf bytes cells = elim (checked bytes) [
-    refused n ↦ refusal n cells
-  | accepted a ps ↦ elim (isTable cells) [ false ↦ refusal 6 cells | true ↦ written cells (started a) ] ]
+  | refused n ↦ refusal n cells
+  | accepted a ps ↦ elim (isTable cells) [ false ↦ refusal 6 cells | true ↦ written cells (started a) ]
+]
 
 unfoldable pub readingOf : List ℕ → List ℤ → List ℕ → Answer
 readingOf bytes cells reading = elim (checked bytes) [
-    refused n ↦ refusal n cells
-  | accepted a ps ↦ elim (isTable cells) [ false ↦ refusal 6 cells | true ↦ elim (runOf a ps cells) [ none ↦ refusal 7 cells | some r ↦ written cells (step a r reading) ] ] ]
+  | refused n ↦ refusal n cells
+  | accepted a ps ↦ elim (isTable cells) [ false ↦ refusal 6 cells | true ↦ elim (runOf a ps cells) [ none ↦ refusal 7 cells | some r ↦ written cells (step a r reading) ] ]
+]
 
 -- ---- a time and parties by bit, or none; `noForecast` stands for what `soundness` shows to be impossible
 pub data Forecast : Type 0 where
@@ -60,8 +62,9 @@ forecastRun a r = elim (r .outcome) [ done ↦ done | breach t ps ↦ breach t p
 
 unfoldable pub forecastOf : List ℕ → List ℤ → Forecast
 forecastOf bytes cells = elim (checked bytes) [
-    refused n ↦ refusedForecast n
-  | accepted a ps ↦ elim (isTable cells) [ false ↦ refusedForecast 6 | true ↦ elim (runOf a ps cells) [ none ↦ refusedForecast 7 | some r ↦ shown (forecastRun a r) ] ] ]
+  | refused n ↦ refusedForecast n
+  | accepted a ps ↦ elim (isTable cells) [ false ↦ refusedForecast 6 | true ↦ elim (runOf a ps cells) [ none ↦ refusedForecast 7 | some r ↦ shown (forecastRun a r) ] ]
+]
 
 -- what a proof by computation unfolds
 unfoldable pub computes : Unit {0}

@@ -20,11 +20,13 @@ module _ (rs : List (List Ty)) (n p : ℕ) where
   unfoldable pub find : Clause → List Ty → Option Found
   find fulfilled env = none
   find (obligation b w t) env = elim (eqb p (w .place)) [
-      true ↦ some (record { clause = obligation b w t; sight = env; params = n })
-    | false ↦ find t (thenSight env (orNil (readingOfType rs (w .wanted)))) ]
+    | true ↦ some (record { clause = obligation b w t; sight = env; params = n })
+    | false ↦ find t (thenSight env (orNil (readingOfType rs (w .wanted))))
+  ]
   find (choice w t f) env = elim (eqb p (w .place)) [
-      true ↦ some (record { clause = choice w t f; sight = env; params = n })
-    | false ↦ orElse (find t (thenSight env (orNil (readingOfType rs (w .wanted))))) (find f env) ]
+    | true ↦ some (record { clause = choice w t f; sight = env; params = n })
+    | false ↦ orElse (find t (thenSight env (orNil (readingOfType rs (w .wanted))))) (find f env)
+  ]
   find (if c t f) env = orElse (find t env) (find f env)
   find (join j t f) env = orElse (find t env) (find f env)
   find (instance k es bs) env = none

@@ -52,7 +52,8 @@ during s ts c e a = walkIn s ts (length ts) c e a
 unfoldable pub activating : Step
 activating = record {
   onObligation = λ e a b w t. running (unit anObligation (w .place) a e);
-  onChoice = λ e a w t f. running (unit aChoice (w .place) a e) }
+  onChoice = λ e a w t f. running (unit aChoice (w .place) a e);
+}
 
 unfoldable pub activate : List Template → Clause → Sight → ℕ → Outcome
 activate ts c e a = during activating ts c e a
@@ -86,27 +87,33 @@ withValues s vs z = record { params = s .params; values = (s .values ++ vs) ++ (
 -- 2 and 3, not late: "`then` is activated at T, remaining time last − T. It does not see this reading again."; "Otherwise it waits on."
 unfoldable pub taken : List Template → Reading → Sight → Wait → Window → Clause → Outcome → Outcome
 taken ts r e w v t waiting = elim (wants w v r) [
-    false ↦ waiting
+  | false ↦ waiting
   | true ↦ orStuck (evalBool (e .values ++ r .values) (w .condition) >>= λ b. elim b [
-        false ↦ some waiting
-      | true ↦ some (activate ts t (withValues e (r .values) (v .last -ℤ pos (r .time))) (r .time)) ]) ]
+    | false ↦ some waiting
+    | true ↦ some (activate ts t (withValues e (r .values) (v .last -ℤ pos (r .time))) (r .time))
+  ])
+]
 
 -- 1, late: "an obligation is breached at the later of A and last, by its blame. A choice activates its else at that time, and the else follows this same reading."
 unfoldable pub following : List Template → Reading → Step
 following ts r = record {
   onObligation = λ e a b w t. orStuck (window e a w >>= λ v. elim (late v r) [
-      true ↦ blamed (e .params) b >>= (λ p. some (breach (laterOf a (v .last)) (p ∷ [])))
-    | false ↦ some (taken ts r e w v t (running (unit anObligation (w .place) a e))) ]);
+    | true ↦ blamed (e .params) b >>= (λ p. some (breach (laterOf a (v .last)) (p ∷ [])))
+    | false ↦ some (taken ts r e w v t (running (unit anObligation (w .place) a e)))
+  ]);
   onChoice = λ e a w t f. orStuck (window e a w >>= λ v. elim (late v r) [
-      true ↦ some (f (laterOf a (v .last)))
-    | false ↦ some (taken ts r e w v t (running (unit aChoice (w .place) a e))) ]) }
+    | true ↦ some (f (laterOf a (v .last)))
+    | false ↦ some (taken ts r e w v t (running (unit aChoice (w .place) a e)))
+  ]);
+}
 
 -- ---- forecasting: "an obligation gives its breach at the later of A and last; a choice gives what its else, activated at that time, gives"
 -- none is `done`, which `and` treats as later than every time and which fulfils an `or`
 unfoldable pub forecasting : Step
 forecasting = record {
   onObligation = λ e a b w t. orStuck (window e a w >>= λ v. blamed (e .params) b >>= λ p. some (breach (laterOf a (v .last)) (p ∷ [])));
-  onChoice = λ e a w t f. orStuck (window e a w >>= λ v. some (f (laterOf a (v .last)))) }
+  onChoice = λ e a w t f. orStuck (window e a w >>= λ v. some (f (laterOf a (v .last))));
+}
 
 -- what a proof by computation unfolds
 unfoldable pub computes : Unit {0}

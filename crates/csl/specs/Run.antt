@@ -84,10 +84,11 @@ started a =
 -- "Else, once breached, it is 0 and nothing changes. Else it is followed"
 unfoldable pub followed : Agreement → Run → Reading → Stepped
 followed a r d = elim (r .outcome) [
-    done ↦ record { number = 0; run = record { lastTime = d .time; outcome = done } }
+  | done ↦ record { number = 0; run = record { lastTime = d .time; outcome = done } }
   | breach t ps ↦ record { number = 0; run = r }
   | running res ↦ kept r (record { lastTime = d .time; outcome = follow a d res })
-  | stuck ↦ record { number = 0; run = r } ]
+  | stuck ↦ record { number = 0; run = r }
+]
 
 -- "if 8, 9 or 10 applies, the lowest is its number and nothing changes"
 unfoldable pub step : Agreement → Run → List ℕ → Stepped

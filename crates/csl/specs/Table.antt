@@ -64,10 +64,11 @@ tableLength = 3080
 
 unfoldable pub tableOf : Run → List ℤ
 tableOf r = elim (r .outcome) [
-    done ↦ padded tableLength (headCells 2 (r .lastTime) 0 0 0)
+  | done ↦ padded tableLength (headCells 2 (r .lastTime) 0 0 0)
   | breach t ps ↦ padded tableLength (headCells 3 (r .lastTime) t (bitsOf ps) 0)
   | running res ↦ padded tableLength (headCells 1 (r .lastTime) 0 0 (units res) ++ residueCells res)
-  | stuck ↦ [] ]
+  | stuck ↦ []
+]
 
 -- ---- the run that a table shows
 unfoldable pub asNats : List ℤ → Option (List ℕ)

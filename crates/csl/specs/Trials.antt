@@ -103,19 +103,22 @@ follows bytes ag cells r (l ∷ ls) =
     elim (fits bytes a s (l .expected)) [ true ↦ follows bytes ag (a .table) (s .run) ls | false ↦ false ]
 
 unfoldable pub passes : Trial → Bool
-passes t = elim (checked (t .bytes)) [ refused n ↦ false | accepted ag ps ↦
-    let a = startOf (t .bytes) zeros in
-    let s = started ag in
-    elim (fits (t .bytes) a s (t .first)) [ true ↦ follows (t .bytes) ag (a .table) (s .run) (t .lines) | false ↦ false ] ]
+passes t = elim (checked (t .bytes)) [
+  | refused n ↦ false
+  | accepted ag ps ↦
+      let a = startOf (t .bytes) zeros in
+      let s = started ag in
+      elim (fits (t .bytes) a s (t .first)) [ true ↦ follows (t .bytes) ag (a .table) (s .run) (t .lines) | false ↦ false ]
+]
 
 -- ---- P1 to P15
 -- P1 to P4 with the sample transcript's refused reading
 unfoldable pub p1to4 : Trial
 p1to4 = trial sample (live 100 1 160 1) (
     line (reading 110 (pos 240)) (live 110 1 160 1)
-  ∷ line (reading 105 (pos 250)) (10 ∷ 1 ∷ 110 ∷ 0 ∷ 0 ∷ 1 ∷ 160 ∷ 1 ∷ [])
-  ∷ line (mark 160) (live 160 1 160 1)
-  ∷ line (reading 160 (pos 250)) (fulfils 160) ∷ [])
+    ∷ line (reading 105 (pos 250)) (10 ∷ 1 ∷ 110 ∷ 0 ∷ 0 ∷ 1 ∷ 160 ∷ 1 ∷ [])
+    ∷ line (mark 160) (live 160 1 160 1)
+    ∷ line (reading 160 (pos 250)) (fulfils 160) ∷ [])
 
 unfoldable pub p5and6 : Trial
 p5and6 = trial sample (live 100 1 160 1) (line (mark 161) (breaches 161 160 1) ∷ line (reading 161 (pos 250)) (breaches 161 160 1) ∷ [])
@@ -163,18 +166,18 @@ doubling = agreement (templateOf [] 0 1 (owes 0 yes′ (pos 0) (pos 60) (all′ 
 unfoldable pub p15 : Trial
 p15 = trial doubling (live 100 1 160 1) (
     line (reading 101 (pos 0)) (live 101 3 161 1)
-  ∷ line (reading 102 (pos 0)) (live 102 7 162 1)
-  ∷ line (reading 103 (pos 0)) (live 103 15 163 1)
-  ∷ line (reading 104 (pos 0)) (live 104 31 164 1)
-  ∷ line (reading 105 (pos 0)) (live 105 63 165 1)
-  ∷ line (reading 106 (pos 0)) (live 106 127 166 1)
-  ∷ line (reading 107 (pos 0)) (11 ∷ 1 ∷ 106 ∷ 0 ∷ 0 ∷ 127 ∷ 166 ∷ 1 ∷ []) ∷ [])
+    ∷ line (reading 102 (pos 0)) (live 102 7 162 1)
+    ∷ line (reading 103 (pos 0)) (live 103 15 163 1)
+    ∷ line (reading 104 (pos 0)) (live 104 31 164 1)
+    ∷ line (reading 105 (pos 0)) (live 105 63 165 1)
+    ∷ line (reading 106 (pos 0)) (live 106 127 166 1)
+    ∷ line (reading 107 (pos 0)) (11 ∷ 1 ∷ 106 ∷ 0 ∷ 0 ∷ 127 ∷ 166 ∷ 1 ∷ []) ∷ [])
 
 -- `then` does not see the reading that activated it
 unfoldable pub twice : Trial
 twice = trial (agreement [] (owes 0 yes′ (pos 0) (pos 60) (simply 1 (pos 30)))) (live 100 1 160 1) (
     line (reading 120 (pos 1)) (live 120 1 150 2)
-  ∷ line (reading 150 (pos 1)) (fulfils 150) ∷ [])
+    ∷ line (reading 150 (pos 1)) (fulfils 150) ∷ [])
 
 unfoldable pub trials : List Trial
 trials = p1to4 ∷ p5and6 ∷ p7 ∷ p8 ∷ p9 ∷ p10 ∷ p11 ∷ p12a ∷ p12b ∷ p13 ∷ p14 ∷ p15 ∷ twice ∷ []

@@ -1,0 +1,188 @@
+-- Decoding puts the waiting clauses of an agreement at places that strictly increase, so that each place is one clause's alone.
+use mathlib.Core.Bool.{_&&_, Bool, cond, false, true}
+use mathlib.Core.List.{List, [], _∷_}
+use mathlib.Core.Option.{Option, none, some}
+use mathlib.Core.Path.{ap, refl, subst, sym, _∙_, _≡_}
+use Prim.Native.Nat.{_+_, _-_, min, suc, zero, ℕ, _≤_}
+use native.Mathlib.Decide.{decLe}
+use native.Mathlib.Nat.{min-le-right}
+use native.Mathlib.Omega.{arith}
+use lib.Dec.{T, eqb, leb, leb→le}
+use lib.ListN.{drop, drop-of-length-le, length, length-drop, length-take, take}
+use lib.Seq.{take-nil}
+use Rattle.csl.specs.Lists.{all, at, each}
+use Rattle.csl.specs.Bytes.{byte, isRecord, kindNumber, le16, le32, part, recordEnd}
+use Rattle.csl.specs.Syntax.{Agreement, Clause, Expr, Head, Template, badClause, fulfilled}
+use Rattle.csl.specs.Decode.{ClauseKind, Piece, argumentsEnd, between, bodyOf, bodyPlace, choiceKind, clause, clauseBody, clauseHead, clauseKind, decode, expr, fulfilledKind, ifKind, instanceKind, instanceOf, joinKind, noClause, obligationKind, pieces, piecesEnd, readingType, templateHead, templatesOf, tyOf, waitAt, waitEnd, whole, wholeTemplate}
+use Rattle.soundness.proofs.Inversion.{T-left, T-right, from-bind, from-need, some-inj}
+use Rattle.soundness.proofs.Places.{Ranged, ranged-le, ranged-wider}
+
+-- ---- where a record ends
+pub end-within : (s : List ℕ) (a : ℕ) → recordEnd s a ≤ length s
+unfolding recordEnd
+end-within s a = min-le-right (a + le16 s a) (length s)
+
+pub end-from : (s : List ℕ) (a : ℕ) → min a (length s) ≤ recordEnd s a
+unfolding recordEnd
+end-from s a = omega arith
+
+pub part-length : (s : List ℕ) (a e : ℕ) → e ≤ length s → length (part s a e) ≡ e - a
+part-length s a e h = length-take (e - a) (drop a s) ∙ omega (arith, length-drop a s)
+
+-- what lies from c to the end of s, s standing at p
+rest-end : (s : List ℕ) (p c : ℕ) → c ≤ length s → (p + c) + length (part s c (length s)) ≡ p + length s
+rest-end s p c h = omega (arith, part-length s c (length s) (omega arith))
+
+-- what lies from c up to f
+middle-end : (s : List ℕ) (p c f : ℕ) → c ≤ f → f ≤ length s → (p + c) + length (part s c f) ≡ p + f
+middle-end s p c f h k = omega (arith, part-length s c f k)
+
+wait-within : (s : List ℕ) (i : ℕ) → waitEnd s i ≤ length s
+unfolding waitEnd
+wait-within s i = end-within s (recordEnd s (recordEnd s (i + 1)))
+
+wait-from : (s : List ℕ) (i : ℕ) → min (i + 1) (length s) ≤ waitEnd s i
+unfolding waitEnd
+wait-from s i =
+    let a = recordEnd s (i + 1) in
+    let b = recordEnd s a in
+    omega (arith, end-from s (i + 1), end-from s a, end-from s b, end-within s (i + 1), end-within s a)
+
+-- ---- one clause
+either-ranged : (lo hi : ℕ) (b : Bool) (c d : Clause) → Ranged lo hi c → Ranged lo hi d → Ranged lo hi (cond b c d)
+either-ranged lo hi true c d g h = g
+either-ranged lo hi false c d g h = h
+
+instance-ranged : (lo hi : ℕ) (e : List ℕ → Expr) (s : List ℕ) (o : Option Head) → lo ≤ hi → Ranged lo hi (instanceOf e s o)
+unfolding instanceOf Ranged
+instance-ranged lo hi e s none h = h
+instance-ranged lo hi e s (some hd) h = either-ranged lo hi (eqb (argumentsEnd (length (hd .values)) s 5 + hd .params) (length s)) _ badClause h h
+
+module _ (hs : List Head) (e : List ℕ → Expr) (inner : ℕ → List ℕ → Clause) (io : (q : ℕ) (u : List ℕ) → Ranged q (q + length u) (inner q u)) (p : ℕ) (s : List ℕ) (room : 4 ≤ length s) where
+  -- the records within, by where they begin and end
+  last-ranged : (c : ℕ) → c ≤ length s → Ranged (p + c) (p + length s) (inner (p + c) (part s c (length s)))
+  last-ranged c h = subst (λ z. Ranged (p + c) z (inner (p + c) (part s c (length s)))) (rest-end s p c h) (io (p + c) (part s c (length s)))
+
+  middle-ranged : (c f : ℕ) → c ≤ f → f ≤ length s → Ranged (p + c) (p + f) (inner (p + c) (part s c f))
+  middle-ranged c f h k = subst (λ z. Ranged (p + c) z (inner (p + c) (part s c f))) (middle-end s p c f h k) (io (p + c) (part s c f))
+
+  on-from : (c : ℕ) → c ≤ length s → c ≤ recordEnd s c
+  on-from c h = omega (arith, end-from s c)
+
+  body-ranged : (k : ClauseKind) → Ranged p (p + length s) (clauseBody hs e inner p s k)
+  unfolding clauseBody Ranged waitAt
+  body-ranged fulfilledKind = either-ranged p (p + length s) (eqb (length s) 4) fulfilled badClause (omega arith) (omega arith)
+  body-ranged obligationKind =
+      let c = waitEnd s 5 in
+      (p + c, omega arith, omega (arith, wait-from s 5), last-ranged c (wait-within s 5))
+  body-ranged choiceKind =
+      let c = waitEnd s 4 in
+      let f = recordEnd s c in
+      (p + c, p + f, omega arith, omega (arith, wait-from s 4), middle-ranged c f (on-from c (wait-within s 4)) (end-within s c), last-ranged f (end-within s c))
+  body-ranged ifKind =
+      let c = recordEnd s 4 in
+      let f = recordEnd s c in
+      (p + f, ranged-wider (p + c) p (p + f) (p + f) (inner (p + c) (part s c f)) (omega arith) (omega arith) (middle-ranged c f (on-from c (end-within s 4)) (end-within s c)), last-ranged f (end-within s c))
+  body-ranged (joinKind j) =
+      let f = recordEnd s 4 in
+      (p + f, ranged-wider (p + 4) p (p + f) (p + f) (inner (p + 4) (part s 4 f)) (omega arith) (omega arith) (middle-ranged 4 f (on-from 4 room) (end-within s 4)), last-ranged f (end-within s 4))
+  body-ranged instanceKind = instance-ranged p (p + length s) e s (at hs (byte s 4)) (omega arith)
+  body-ranged noClause = omega arith
+
+pub clause-ranged : (hs : List Head) (d p : ℕ) (s : List ℕ) → Ranged p (p + length s) (clause hs d p s)
+unfolding clause clauseHead isRecord
+clause-ranged hs zero p s = unfold Ranged in omega arith
+clause-ranged hs (suc d) p s = go (leb 4 (length s) && eqb (le16 s 0) (length s)) refl (clause-ranged hs d)
+  where
+    go : (b : Bool) → (leb 4 (length s) && eqb (le16 s 0) (length s)) ≡ b → ((q : ℕ) (u : List ℕ) → Ranged q (q + length u) (clause hs d q u)) → Ranged p (p + length s) (clauseBody hs (expr d) (clause hs d) p s (cond b (clauseKind (kindNumber s)) noClause))
+    go true h io = body-ranged hs (expr d) (clause hs d) io p s (leb→le 4 (length s) (T-left (leb 4 (length s)) _ (subst T (sym h) tt))) (clauseKind (kindNumber s))
+    go false h io = unfold clauseBody Ranged in omega arith
+
+-- ---- a template's body lies within its record
+no-clause : (hs : List Head) (d p : ℕ) → clause hs d p [] ≡ badClause
+unfolding clause clauseHead isRecord clauseBody
+no-clause hs zero p = refl
+no-clause hs (suc d) p = refl
+
+gone : (s : List ℕ) (a : ℕ) → length s ≤ a → part s a (length s) ≡ []
+gone s a l = ap (λ u. take (length s - a) u) (drop-of-length-le s l) ∙ take-nil (length s - a)
+
+body-within : (hs : List Head) (q : Piece) → Ranged (q .place) (q .place + length (q .bytes)) (bodyOf hs q)
+unfolding bodyOf
+body-within hs q = go (decLe (bodyPlace (q .bytes)) (length (q .bytes)))
+  where
+    go : Dec (bodyPlace (q .bytes) ≤ length (q .bytes)) → Ranged (q .place) (q .place + length (q .bytes)) (clause hs 22 (q .place + bodyPlace (q .bytes)) (part (q .bytes) (bodyPlace (q .bytes)) (length (q .bytes))))
+    go (yes h) = ranged-wider (q .place + bodyPlace (q .bytes)) (q .place) _ (q .place + length (q .bytes)) _ (omega arith) (omega (arith, rest-end (q .bytes) (q .place) (bodyPlace (q .bytes)) h)) (clause-ranged hs 22 (q .place + bodyPlace (q .bytes)) (part (q .bytes) (bodyPlace (q .bytes)) (length (q .bytes))))
+    go (no h) = subst (λ u. Ranged (q .place) (q .place + length (q .bytes)) (clause hs 22 (q .place + bodyPlace (q .bytes)) u)) (sym (gone (q .bytes) (bodyPlace (q .bytes)) (omega arith))) (subst (λ c. Ranged (q .place) (q .place + length (q .bytes)) c) (sym (no-clause hs 22 (q .place + bodyPlace (q .bytes)))) (unfold Ranged in omega arith))
+
+-- ---- templates in order
+unfoldable pub TRanged : ℕ → ℕ → List Template → Type 0
+TRanged lo hi [] = lo ≤ hi
+TRanged lo hi (t ∷ ts) = (k : ℕ) × Ranged lo k (t .body) × TRanged k hi ts × (t .head .params ≤ 4)
+
+pub tranged-le : (lo hi : ℕ) (ts : List Template) → TRanged lo hi ts → lo ≤ hi
+unfolding TRanged
+tranged-le lo hi [] h = h
+tranged-le lo hi (t ∷ ts) h = omega (arith, ranged-le lo (h .0) (t .body) (h .1), tranged-le (h .0) hi ts (h .2))
+
+head-params : (s : List ℕ) (h : Head) → templateHead s ≡ some h → h .params ≤ 4
+unfolding templateHead
+head-params s h e =
+    from-need (isRecord s && eqb (kindNumber s) 3) _ h e λ t₁ b₁.
+    from-need (leb (byte s 4) 8) _ h b₁ λ t₂ b₂.
+    from-bind (each tyOf (part s 5 (5 + byte s 4))) _ h b₂ λ ts a₃ b₃.
+    from-need (leb (byte s (5 + byte s 4)) 4) _ h b₃ λ t₄ b₄.
+    subst (λ z. z .params ≤ 4) (some-inj b₄) (leb→le (byte s (5 + byte s 4)) 4 t₄)
+
+templates-ranged : (hs : List Head) (s : List ℕ) (n i : ℕ) (us : List Head) → each (λ q. templateHead (q .bytes)) (pieces n s i) ≡ some us → i ≤ length s → TRanged i (piecesEnd n s i) (templatesOf hs us (pieces n s i))
+unfolding pieces piecesEnd each templatesOf TRanged
+templates-ranged hs s zero i us e l = subst (λ z. TRanged i i (templatesOf hs z [])) (some-inj e) (omega arith)
+templates-ranged hs s (suc n) i us e l =
+    from-bind (templateHead (part s i (recordEnd s i))) _ us e λ h a₁ b₁.
+    from-bind (each (λ q. templateHead (q .bytes)) (pieces n s (recordEnd s i))) _ us b₁ λ vs a₂ b₂.
+    subst (λ z. TRanged i (piecesEnd n s (recordEnd s i)) (templatesOf hs z (record { place = i; bytes = part s i (recordEnd s i) } ∷ pieces n s (recordEnd s i)))) (some-inj b₂) (
+      recordEnd s i,
+      subst (λ z. Ranged i z (bodyOf hs (record { place = i; bytes = part s i (recordEnd s i) }))) (omega (arith, end-from s i, part-length s i (recordEnd s i) (end-within s i))) (body-within hs (record { place = i; bytes = part s i (recordEnd s i) })),
+      templates-ranged hs s n (recordEnd s i) vs a₂ (end-within s i),
+      head-params (part s i (recordEnd s i)) h a₁,
+    )
+
+pieces-within : (s : List ℕ) (n i : ℕ) → i ≤ length s → piecesEnd n s i ≤ length s
+unfolding piecesEnd
+pieces-within s zero i l = l
+pieces-within s (suc n) i l = pieces-within s n (recordEnd s i) (end-within s i)
+
+some-within : (s : List ℕ) (n i : ℕ) → 1 ≤ n → piecesEnd n s i ≤ length s
+unfolding piecesEnd
+some-within s zero i l = absurd (omega arith)
+some-within s (suc n) i l = pieces-within s n (recordEnd s i) (end-within s i)
+
+-- ---- what decoding gives
+pub record Decoded (s : List ℕ) (a : Agreement) : Type 0 where
+  pub start : a .start ≡ le32 s 4
+  pub few : a .parties ≤ 16
+  pub lo : ℕ
+  pub mid : ℕ
+  pub templates : TRanged lo mid (a .templates)
+  pub main : Ranged mid (length s) (a .main)
+
+pub decoded : (s : List ℕ) (a : Agreement) → decode s ≡ some a → Decoded s a
+unfolding decode between
+decoded s a e =
+    from-need (eqb (kindNumber s) 1) _ a e λ t₁ b₁.
+    from-need (between 1 16 (byte s 8) && between 1 16 (byte s 9) && leb (byte s 10) 32) _ a b₁ λ t₂ b₂.
+    from-bind (each (λ q. readingType (q .bytes)) (pieces (byte s 9) s 11)) _ a b₂ λ rs a₃ b₃.
+    let i = piecesEnd (byte s 9) s 11 in
+    from-bind (each (λ q. templateHead (q .bytes)) (pieces (byte s 10) s i)) _ a b₃ λ hs a₄ b₄.
+    let m = piecesEnd (byte s 10) s i in
+    from-need (whole (clause hs 23 m (part s m (length s))) && all wholeTemplate (templatesOf hs hs (pieces (byte s 10) s i))) _ a b₄ λ t₅ b₅.
+    let counts = T-left (between 1 16 (byte s 8) && between 1 16 (byte s 9)) (leb (byte s 10) 32) t₂ in
+    let in-s : i ≤ length s = some-within s (byte s 9) 11 (leb→le 1 (byte s 9) (T-left (leb 1 (byte s 9)) _ (T-right (between 1 16 (byte s 8)) (between 1 16 (byte s 9)) counts))) in
+    subst (λ z. Decoded s z) (some-inj b₅) (record {
+      start = refl;
+      few = leb→le (byte s 8) 16 (T-right (leb 1 (byte s 8)) _ (T-left (between 1 16 (byte s 8)) (between 1 16 (byte s 9)) counts));
+      lo = i;
+      mid = m;
+      templates = templates-ranged hs s (byte s 10) i hs a₄ in-s;
+      main = subst (λ z. Ranged m z (clause hs 23 m (part s m (length s)))) (omega (arith, part-length s m (length s) (omega arith), pieces-within s (byte s 10) i in-s)) (clause-ranged hs 23 m (part s m (length s)));
+    })

@@ -1,0 +1,16 @@
+pub mod Inversion
+pub mod Members
+pub mod Evaluation
+pub mod Times
+pub mod Good
+pub mod Walks
+pub mod Activation
+pub mod Following
+pub mod Bits
+pub mod RoundTrip
+pub mod Places
+pub mod Decoding
+pub mod Checked
+pub mod Readings
+pub mod Demand3
+pub mod ReadBack
