@@ -16,5 +16,6 @@ pub mod Run
 pub mod Table
 pub mod Entries
 pub mod Demand3
+pub mod ForecastClaim
 pub mod Build
 pub mod Trials

@@ -1,420 +1,169 @@
 -- Demand 3 holds: for an accepted, started agreement and every list of readings, whatever their bytes.
-use mathlib.Core.Bool.{_&&_, Bool, false, not, true}
-use mathlib.Core.List.{_++_, List, [], _∷_}
+use mathlib.Core.Bool.{Bool, false, not, true}
+use mathlib.Core.List.{List, [], _∷_}
 use mathlib.Core.Logic.{inl, inr, _↔_, _≢_, _⊎_}
-use mathlib.Core.Option.{Option, none, some}
+use mathlib.Core.Option.{none, some}
 use mathlib.Core.Path.{ap, ap₂, refl, subst, sym, _∙_, _≡_}
-use Prim.Native.Nat.{_*_, _+_, _<_, _^_, suc, zero, ℕ, _≤_}
+use Prim.Native.Nat.{_<_, ℕ, _≤_}
 use native.Mathlib.Omega.{arith}
-use lib.Dec.{T, leb, leb→le, ltb, ltb→lt, nltb→le}
-use lib.IntN.{ℤ}
-use lib.ListN.{length, length-append}
-use Rattle.csl.specs.Lists.{_>>=_, all}
-use Rattle.csl.specs.Parties.{bitsOf, members}
+use lib.Dec.{T, nltb→le}
+use Rattle.csl.specs.Lists.{all}
 use Rattle.csl.specs.Syntax.{Agreement, number}
-use Rattle.csl.specs.Typing.{blameOk, namesOf}
 use Rattle.csl.specs.Check.{accepted, checked, refused}
-use Rattle.csl.specs.Outcomes.{Outcome, Residue, both, breach, done, running, stuck, unit, units}
+use Rattle.csl.specs.Outcomes.{Outcome}
 use Rattle.csl.specs.Rules.{Reading, activate, taken}
-use Rattle.csl.specs.Places.{follow}
-use Rattle.csl.specs.Run.{Fit, Raw, Run, Stepped, fit, fitOf, followed, kept, rawReading, started, step, tooMany, typedReading, unfit}
-use Rattle.csl.specs.Table.{headCells, joinCells, natCells, padded, residueCells, runOf, standFor, tableLength, tableOf}
-use Rattle.csl.specs.Entries.{Answer, isTable, readingOf, refusal, startOf, written}
-use Rattle.csl.specs.Demand3.{Agrees, AllBytes, Answers, BreachOk, Bytes, Demand3, IsBreach, NotStuck, Throughout, fitting, needed, numbersBy, numbersOf, reached, runAfter, tableAfter}
-use Rattle.soundness.proofs.Inversion.{T-left, T-or, T-right, some-bind, some-inj}
-use Rattle.soundness.proofs.Members.{In, Sub, stand-in, sub→subset}
+use Rattle.csl.specs.Run.{Stepped, followed, kept, started, step, tooMany}
+use Rattle.csl.specs.Table.{standFor, tableOf}
+use Rattle.csl.specs.Entries.{startOf}
+use Rattle.csl.specs.Demand3.{AllBytes, Answers, BreachOk, Bytes, Demand3, IsBreach, Throughout, fitting, needed, numbersBy, numbersOf, reached, runAfter, tableAfter}
+use Rattle.soundness.proofs.Inversion.{some-inj}
+use Rattle.soundness.proofs.Members.{In, Sub, stand-in}
 use Rattle.soundness.proofs.Evaluation.{HaveTy}
-use Rattle.soundness.proofs.Good.{Good, Ok, good-sub}
-use Rattle.soundness.proofs.Walks.{Fair, blamed-constant, stands-blamed}
-use Rattle.soundness.proofs.Activation.{activate-good, typed-blames}
-use Rattle.soundness.proofs.Following.{ReadingOk, follow-good}
-use Rattle.soundness.proofs.Bits.{bits-back}
-use Rattle.soundness.proofs.RoundTrip.{breach-reads, done-reads, join-length, len-padded, running-reads, units-length}
-use Rattle.soundness.proofs.Checked.{Passed, fair, passed}
-use Rattle.soundness.proofs.Readings.{raw-time, reading-ok, start-lt}
-
-abbrev pub runAt : ℕ → Outcome → Run
-runAt t o = record { lastTime = t; outcome = o }
-
-abbrev stepped : ℕ → Run → Stepped
-stepped n r = record { number = n; run = r }
-
--- ---- a reading fits or not
-fit-cases : {C : Type 0} (a : Agreement) (now : ℕ) (bytes : List ℕ)
-    → ((n : ℕ) → (n ≡ 8) ⊎ (n ≡ 9) → fitting a bytes ≡ none → fitOf a now bytes ≡ unfit n → C)
-    → ((d : Reading) → fitting a bytes ≡ some d → d .time < now → fitOf a now bytes ≡ unfit 10 → C)
-    → ((w : Raw) (d : Reading) → rawReading bytes ≡ some w → typedReading a w ≡ some d → fitting a bytes ≡ some d → now ≤ d .time → fitOf a now bytes ≡ fit d → C) → C
-unfolding fitting fitOf _>>=_
-fit-cases {C = C} a now bytes k₁ k₂ k₃ = raw (rawReading bytes) refl
-  where
-    late : Reading → Fit
-    late d = elim (ltb (d .time) now) [ true ↦ unfit 10 | false ↦ fit d ]
-
-    typ : Option Reading → Fit
-    typ o = elim o [ none ↦ unfit 9 | some d ↦ late d ]
-
-    timed : (w : Raw) (d : Reading) → rawReading bytes ≡ some w → typedReading a w ≡ some d → (b : Bool) → ltb (d .time) now ≡ b → C
-    timed w d e f true g = k₂ d (some-bind (rawReading bytes) (typedReading a) w e ∙ f) (ltb→lt (d .time) now (subst T (sym g) tt))
-        (ap (λ o. elim o [ none ↦ unfit 8 | some r ↦ typ (typedReading a r) ]) e ∙ ap typ f ∙ ap (λ b. elim b [ true ↦ unfit 10 | false ↦ fit d ]) g)
-    timed w d e f false g = k₃ w d e f (some-bind (rawReading bytes) (typedReading a) w e ∙ f) (nltb→le (d .time) now (subst (λ b. T (not b)) (sym g) tt))
-        (ap (λ o. elim o [ none ↦ unfit 8 | some r ↦ typ (typedReading a r) ]) e ∙ ap typ f ∙ ap (λ b. elim b [ true ↦ unfit 10 | false ↦ fit d ]) g)
-
-    typedAt : (w : Raw) → rawReading bytes ≡ some w → (o : Option Reading) → typedReading a w ≡ o → C
-    typedAt w e none f = k₁ 9 (inr refl) (some-bind (rawReading bytes) (typedReading a) w e ∙ f) (ap (λ o. elim o [ none ↦ unfit 8 | some r ↦ typ (typedReading a r) ]) e ∙ ap typ f)
-    typedAt w e (some d) f = timed w d e f (ltb (d .time) now) refl
-
-    raw : (o : Option Raw) → rawReading bytes ≡ o → C
-    raw none e = k₁ 8 (inl refl) (ap (λ o. o >>= typedReading a) e) (ap (λ o. elim o [ none ↦ unfit 8 | some r ↦ typ (typedReading a r) ]) e)
-    raw (some w) e = typedAt w e (typedReading a w) refl
-
-tooMany-is : (o : Outcome) → tooMany o ≡ ltb 128 (needed o)
-unfolding tooMany needed
-tooMany-is done = refl
-tooMany-is (breach t ps) = refl
-tooMany-is (running r) = refl
-tooMany-is stuck = refl
-
--- ---- the cases of a step
-pub data Case (a : Agreement) (t : ℕ) (o : Outcome) (bytes : List ℕ) : Type 0 where
-  misfit : (n : ℕ) → (n ≡ 8) ⊎ (n ≡ 9) → fitting a bytes ≡ none → step a (runAt t o) bytes ≡ stepped n (runAt t o) → Case a t o bytes
-  early : (d : Reading) → fitting a bytes ≡ some d → d .time < t → step a (runAt t o) bytes ≡ stepped 10 (runAt t o) → Case a t o bytes
-  many : (d : Reading) → fitting a bytes ≡ some d → t ≤ d .time → 128 < needed (reached a o d) → step a (runAt t o) bytes ≡ stepped 11 (runAt t o) → Case a t o bytes
-  after : (d : Reading) → fitting a bytes ≡ some d → t ≤ d .time → needed (reached a o d) ≤ 128 → (IsBreach o → ⊥) → ReadingOk a d → (Bytes bytes → d .time < 2 ^ 32) → step a (runAt t o) bytes ≡ stepped 0 (runAt (d .time) (reached a o d)) → Case a t o bytes
-  final : (d : Reading) → fitting a bytes ≡ some d → t ≤ d .time → IsBreach o → needed (reached a o d) ≤ 128 → step a (runAt t o) bytes ≡ stepped 0 (runAt t o) → Case a t o bytes
-
-follow-case : (a : Agreement) (t : ℕ) (o : Outcome) (bytes : List ℕ) (d : Reading) → NotStuck o → fitting a bytes ≡ some d → t ≤ d .time → ReadingOk a d → (Bytes bytes → d .time < 2 ^ 32) → step a (runAt t o) bytes ≡ followed a (runAt t o) d → Case a t o bytes
-unfolding followed NotStuck reached needed IsBreach kept
-follow-case a t done bytes d ns f le ok lt e = after d f le (omega arith) (λ b. b) ok lt e
-follow-case a t (breach u ps) bytes d ns f le ok lt e = final d f le tt (omega arith) e
-follow-case a t (running res) bytes d ns f le ok lt e = go (tooMany (follow a d res)) refl
-  where
-    go : (b : Bool) → tooMany (follow a d res) ≡ b → Case a t (running res) bytes
-    go true g = many d f le (ltb→lt 128 (needed (follow a d res)) (subst T (sym g ∙ tooMany-is (follow a d res)) tt)) (e ∙ ap (λ b. elim b [ true ↦ stepped 11 (runAt t (running res)) | false ↦ stepped 0 (runAt (d .time) (follow a d res)) ]) g)
-    go false g = after d f le (nltb→le 128 (needed (follow a d res)) (subst (λ b. T (not b)) (sym g ∙ tooMany-is (follow a d res)) tt)) (λ b. b) ok lt (e ∙ ap (λ b. elim b [ true ↦ stepped 11 (runAt t (running res)) | false ↦ stepped 0 (runAt (d .time) (follow a d res)) ]) g)
-follow-case a t stuck bytes d ns f le ok lt e = absurd ns
-
-pub cases : (a : Agreement) (t : ℕ) (o : Outcome) (bytes : List ℕ) → NotStuck o → Case a t o bytes
-unfolding step
-cases a t o bytes ns = fit-cases a t bytes
-    (λ n w f e. misfit n w f (ap (λ x. elim x [ unfit m ↦ stepped m (runAt t o) | fit d ↦ followed a (runAt t o) d ]) e))
-    (λ d f lt e. early d f lt (ap (λ x. elim x [ unfit m ↦ stepped m (runAt t o) | fit d ↦ followed a (runAt t o) d ]) e))
-    (λ w d rw′ td f le e. let ok = reading-ok a w d td in follow-case a t o bytes d ns f le (ok .0) (λ h. subst (λ z. z < 2 ^ 32) (sym (ok .1)) (raw-time bytes w h rw′)) (ap (λ x. elim x [ unfit m ↦ stepped m (runAt t o) | fit d ↦ followed a (runAt t o) d ]) e))
-
--- ---- the invariant of a run
-abbrev pub Since : Agreement → ℕ → ℕ → Type 0
-Since a now t = (a .start ≤ t) × (t ≤ now)
-
-pub record Inv (a : Agreement) (mains : List ℕ) (now : ℕ) (o : Outcome) : Type 0 where
-  pub from : a .start ≤ now
-  pub fits : now < 2 ^ 32
-  pub good : Good a (Since a now) mains o
-  pub small : needed o ≤ 128
-
-not-stuck : (a : Agreement) (mains : List ℕ) (now : ℕ) (o : Outcome) → Good a (Since a now) mains o → NotStuck o
-unfolding Good NotStuck
-not-stuck a mains now done g = tt
-not-stuck a mains now (breach t ps) g = tt
-not-stuck a mains now (running r) g = tt
-not-stuck a mains now stuck g = g
-
-breach-ok : (a : Agreement) (mains : List ℕ) (now : ℕ) (o : Outcome) → Good a (Since a now) mains o → BreachOk a mains now o
-unfolding Good BreachOk In
-breach-ok a mains now done g = tt
-breach-ok a mains now (breach t ps) g = (nonempty ps (g .0) (g .1), sub→subset ps mains (g .2), g .3 .0, g .3 .1)
-  where
-    nonempty : (ps : List ℕ) (p : ℕ) → In p ps → ps ≢ []
-    nonempty ps p i e = subst (λ l. In p l) e i
-breach-ok a mains now (running r) g = tt
-breach-ok a mains now stuck g = g
-
-cells-len : (a : Agreement) (W : ℕ → Type 0) (res : Residue) (ps : List ℕ) → Ok a W res ps → length (residueCells res) ≡ 24 * units res
-unfolding Ok residueCells units
-cells-len a W (unit s p t e) ps ok = units-length a W s p t e ps ok
-cells-len a W (both j l r) ps ok = length-append (joinCells j) (residueCells l ++ residueCells r) ∙ omega (arith, join-length a W j, length-append (residueCells l) (residueCells r), cells-len a W l (ok .0) (ok .2), cells-len a W r (ok .1) (ok .3))
-
-head-len : (s n t b u : ℕ) → length (headCells s n t b u) ≡ 8
-unfolding headCells natCells
-head-len s n t b u = refl
-
-table-len : (a : Agreement) (mains : List ℕ) (now : ℕ) (o : Outcome) → Inv a mains now o → length (tableOf (runAt now o)) ≡ 3080
-unfolding tableOf
-table-len a mains now done i = len-padded 3080 (headCells 2 now 0 0 0) (omega (arith, head-len 2 now 0 0 0))
-table-len a mains now (breach t ps) i = len-padded 3080 (headCells 3 now t (bitsOf ps) 0) (omega (arith, head-len 3 now t (bitsOf ps) 0))
-table-len a mains now (running r) i = len-padded 3080 (headCells 1 now 0 0 (units r) ++ residueCells r) (unfold Good needed in omega (arith, head-len 1 now 0 0 (units r), length-append (headCells 1 now 0 0 (units r)) (residueCells r), cells-len a (Since a now) r (i .good .0) (i .good .1), i .small))
-table-len a mains now stuck i = absurd (unfold Good in i .good)
-
--- what a table reads back as: the run, up to the form of a breach's set
-pub data Alike : Outcome → Outcome → Type 0 where
-  same : (o : Outcome) → Alike o o
-  breached : (t : ℕ) (ps : List ℕ) → Alike (breach t (members (bitsOf ps))) (breach t ps)
-
-pub reads : (a : Agreement) (mains : List ℕ) (few : (q : ℕ) → In q mains → q < 16) (now : ℕ) (o : Outcome) → Inv a mains now o → (q : Outcome) × (runOf a mains (tableOf (runAt now o)) ≡ some (runAt now q)) × Alike q o
-unfolding Good needed
-reads a mains few now done i = (done, done-reads a mains now (i .from) (i .fits), same done)
-reads a mains few now (breach t ps) i = (breach t (members (bitsOf ps)), breach-reads a mains few now (i .from) (i .fits) t ps (i .good .0) (i .good .1) (i .good .2) (i .good .3 .0) (i .good .3 .1), breached t ps)
-reads a mains few now (running r) i = (running r, running-reads a mains now (i .from) (i .fits) r (i .good .0) (i .good .1) (i .good .2) (i .small), same (running r))
-reads a mains few now stuck i = absurd (i .good)
-
--- ---- what the entry answers on a run's table
-abbrev Fine : Agreement → ℕ → Outcome → List ℤ → List ℕ → Answer → Type 0
-Fine a now o cells r x = (x .number ≡ (step a (runAt now o) r) .number) × (x .table ≡ tableOf ((step a (runAt now o) r) .run))
-
-written-fine : (a : Agreement) (now : ℕ) (o : Outcome) (r : List ℕ) → NotStuck o → Fine a now o (tableOf (runAt now o)) r (written (tableOf (runAt now o)) (step a (runAt now o) r))
-unfolding written refusal
-written-fine a now o r ns = go (cases a now o r ns)
-  where
-    refuses : (n : ℕ) → step a (runAt now o) r ≡ stepped (suc n) (runAt now o) → Fine a now o (tableOf (runAt now o)) r (written (tableOf (runAt now o)) (step a (runAt now o) r))
-    refuses n e = subst (λ s. ((written (tableOf (runAt now o)) s) .number ≡ s .number) × ((written (tableOf (runAt now o)) s) .table ≡ tableOf (s .run))) (sym e) (refl, refl)
-
-    takes : (s : Run) → step a (runAt now o) r ≡ stepped 0 s → Fine a now o (tableOf (runAt now o)) r (written (tableOf (runAt now o)) (step a (runAt now o) r))
-    takes s e = subst (λ s. ((written (tableOf (runAt now o)) s) .number ≡ s .number) × ((written (tableOf (runAt now o)) s) .table ≡ tableOf (s .run))) (sym e) (refl, refl)
-
-    go : Case a now o r → Fine a now o (tableOf (runAt now o)) r (written (tableOf (runAt now o)) (step a (runAt now o) r))
-    go (misfit n (inl e₈) f e) = refuses 7 (e ∙ ap (λ n. stepped n (runAt now o)) e₈)
-    go (misfit n (inr e₉) f e) = refuses 8 (e ∙ ap (λ n. stepped n (runAt now o)) e₉)
-    go (early d f lt e) = refuses 9 e
-    go (many d f le nd e) = refuses 10 e
-    go (after d f le nd nb ok lt e) = takes (runAt (d .time) (reached a o d)) e
-    go (final d f le ib nd e) = takes (runAt now o) e
-
-bits-same : (now t : ℕ) (ps : List ℕ) → tableOf (runAt now (breach t (members (bitsOf ps)))) ≡ tableOf (runAt now (breach t ps))
-unfolding tableOf members bitsOf
-bits-same now t ps = ap (λ b. padded tableLength (headCells 3 now t b 0)) (bits-back 16 0 ps)
-
-alike-fine : (a : Agreement) (now : ℕ) (q o : Outcome) (r : List ℕ) → Alike q o → NotStuck o → Fine a now o (tableOf (runAt now o)) r (written (tableOf (runAt now o)) (step a (runAt now q) r))
-unfolding written refusal step followed
-alike-fine a now q o r (same o′) ns = written-fine a now o r ns
-alike-fine a now q o r (breached t ps) ns = fit-cases a now r (λ n w f e. on (unfit n) e (refusing n w)) (λ d f lt e. on (unfit 10) e (refl, refl)) (λ w d rw′ td f le e. on (fit d) e (refl, bits-same now t ps))
-  where
-    Q : Outcome
-    Q = breach t (members (bitsOf ps))
-
-    O : Outcome
-    O = breach t ps
-
-    by : Outcome → Fit → Stepped
-    by x z = elim z [ unfit m ↦ stepped m (runAt now x) | fit d ↦ followed a (runAt now x) d ]
-
-    on : (z : Fit) → fitOf a now r ≡ z → ((written (tableOf (runAt now O)) (by Q z)) .number ≡ (by O z) .number) × ((written (tableOf (runAt now O)) (by Q z)) .table ≡ tableOf ((by O z) .run))
-        → ((written (tableOf (runAt now O)) (by Q (fitOf a now r))) .number ≡ (by O (fitOf a now r)) .number) × ((written (tableOf (runAt now O)) (by Q (fitOf a now r))) .table ≡ tableOf ((by O (fitOf a now r)) .run))
-    on z e h = subst (λ z. ((written (tableOf (runAt now O)) (by Q z)) .number ≡ (by O z) .number) × ((written (tableOf (runAt now O)) (by Q z)) .table ≡ tableOf ((by O z) .run))) (sym e) h
-
-    refusing : (n : ℕ) → (n ≡ 8) ⊎ (n ≡ 9) → ((written (tableOf (runAt now O)) (by Q (unfit n))) .number ≡ (by O (unfit n)) .number) × ((written (tableOf (runAt now O)) (by Q (unfit n))) .table ≡ tableOf ((by O (unfit n)) .run))
-    refusing zero (inl e) = absurd (omega arith)
-    refusing zero (inr e) = absurd (omega arith)
-    refusing (suc n) e = (refl, refl)
-
--- the main clause's parties are parties
-pub main-in : (a : Agreement) (mains : List ℕ) → Fair a mains → (q : ℕ) → In q mains → q < a .parties
-unfolding blameOk namesOf
-main-in a mains fr q i = T-or (ltb q (a .parties)) (leb 128 q && ltb q (128 + 0)) (typed-blames a mains fr (a .main) 0 [] mains (fr .main) q i) (λ t. ltb→lt q (a .parties) t)
-    (λ t. absurd (omega (arith, leb→le 128 q (T-left (leb 128 q) _ t), ltb→lt q (128 + 0) (T-right (leb 128 q) _ t))))
+use Rattle.soundness.proofs.Good.{Good, good-sub}
+use Rattle.soundness.proofs.Walks.{blamed-constant, stands-blamed}
+use Rattle.soundness.proofs.Activation.{activate-good}
+use Rattle.soundness.proofs.Readings.{start-lt}
+use Rattle.soundness.proofs.Runs.{Case, Inv, InvOf, Since, after, agrees, breach-ok, cases, early, few-mains, final, isFair, isPassed, many, misfit, not-stuck, reached-good, reading-fine, runAt, start-is, step-inv, stepped, tooMany-is, written-zero}
 
 -- ---- the entries of a checked agreement
 module _ (bytes : List ℕ) (a : Agreement) (mains : List ℕ) (ck : checked bytes ≡ accepted a mains) where
-  sized-is : (cells : List ℤ) → length cells ≡ 3080 → isTable cells ≡ true
-  unfolding isTable
-  sized-is cells h = rw h refl
+  -- ---- what the step says of a reading
+  same-reading : (d d′ : Reading) (r : List ℕ) → fitting a r ≡ some d → fitting a r ≡ some d′ → d ≡ d′
+  same-reading d d′ r e f = some-inj (sym e ∙ f)
 
-  reading-is : (cells : List ℤ) (q : Run) (r : List ℕ) → length cells ≡ 3080 → runOf a mains cells ≡ some q → readingOf bytes cells r ≡ written cells (step a q r)
-  unfolding readingOf
-  reading-is cells q r h e =
-      ap (λ c. elim c [ refused n ↦ refusal n cells | accepted a ps ↦ elim (isTable cells) [ false ↦ refusal 6 cells | true ↦ elim (runOf a ps cells) [ none ↦ refusal 7 cells | some x ↦ written cells (step a x r) ] ] ]) ck
-      ∙ ap (λ b. elim b [ false ↦ refusal 6 cells | true ↦ elim (runOf a mains cells) [ none ↦ refusal 7 cells | some x ↦ written cells (step a x r) ] ]) (sized-is cells h)
-      ∙ ap (λ o. elim o [ none ↦ refusal 7 cells | some x ↦ written cells (step a x r) ]) e
+  abbrev Fits : ℕ → Outcome → List ℕ → (ℕ → Type 0) → Type 0
+  Fits now o r P = (d : Reading) × (fitting a r ≡ some d) × (now ≤ d .time) × P (needed (reached a o d))
 
-  start-is : (cells : List ℤ) → length cells ≡ 3080 → startOf bytes cells ≡ written cells (started a)
-  unfolding startOf
-  start-is cells h =
-      ap (λ c. elim c [ refused n ↦ refusal n cells | accepted a ps ↦ elim (isTable cells) [ false ↦ refusal 6 cells | true ↦ written cells (started a) ] ]) ck
-      ∙ ap (λ b. elim b [ false ↦ refusal 6 cells | true ↦ written cells (started a) ]) (sized-is cells h)
+  no-reading : {C : Type 0} (r : List ℕ) (d : Reading) → fitting a r ≡ none → fitting a r ≡ some d → C
+  no-reading r d e f = let z : _≡_ {A = ℕ} 0 1 = cc in absurd (omega arith)
 
-  module _ (hb : Bytes bytes) where
-    pass′ : Passed bytes a mains
-    pass′ = passed bytes a mains ck
+  step-taken : (now : ℕ) (o : Outcome) (r : List ℕ) → Case a now o r → ((step a (runAt now o) r) .number ≡ 0) ↔ Fits now o r (λ n. n ≤ 128)
+  step-taken now o r (misfit n w f e) = (λ z. absurd (eight n w (sym (ap (λ s. s .number) e) ∙ z)), λ h. no-reading r (h .0) f (h .1))
+    where
+      eight : (n : ℕ) → (n ≡ 8) ⊎ (n ≡ 9) → n ≡ 0 → ⊥
+      eight n (inl p) q = omega arith
+      eight n (inr p) q = omega arith
+  step-taken now o r (early d f lt e) = (
+    λ z. let q : _≡_ {A = ℕ} 10 0 = sym (ap (λ s. s .number) e) ∙ z in absurd (omega arith),
+    λ h. let q : d ≡ h .0 = same-reading d (h .0) r f (h .1) in let t : d .time ≡ h .0 .time = ap (λ x. x .time) q in absurd (omega (arith, h .2)),
+  )
+  step-taken now o r (many d f le nd e) = (
+    λ z. let q : _≡_ {A = ℕ} 11 0 = sym (ap (λ s. s .number) e) ∙ z in absurd (omega arith),
+    λ h. let q : d ≡ h .0 = same-reading d (h .0) r f (h .1) in let t : needed (reached a o d) ≡ needed (reached a o (h .0)) = ap (λ x. needed (reached a o x)) q in absurd (omega (arith, h .3)),
+  )
+  step-taken now o r (after d f le nd nb ok lt e) = (λ z. (d, f, le, nd), λ h. ap (λ s. s .number) e)
+  step-taken now o r (final d f le ib nd e) = (λ z. (d, f, le, nd), λ h. ap (λ s. s .number) e)
 
-    isFair : Fair a mains
-    isFair = fair bytes a mains pass′
+  step-eleven : (now : ℕ) (o : Outcome) (r : List ℕ) → Case a now o r → ((step a (runAt now o) r) .number ≡ 11) ↔ Fits now o r (λ n. 128 < n)
+  step-eleven now o r (misfit n w f e) = (λ z. absurd (eight n w (sym (ap (λ s. s .number) e) ∙ z)), λ h. no-reading r (h .0) f (h .1))
+    where
+      eight : (n : ℕ) → (n ≡ 8) ⊎ (n ≡ 9) → n ≡ 11 → ⊥
+      eight n (inl p) q = omega arith
+      eight n (inr p) q = omega arith
+  step-eleven now o r (early d f lt e) = (
+    λ z. let q : _≡_ {A = ℕ} 10 11 = sym (ap (λ s. s .number) e) ∙ z in absurd (omega arith),
+    λ h. let q : d ≡ h .0 = same-reading d (h .0) r f (h .1) in let t : d .time ≡ h .0 .time = ap (λ x. x .time) q in absurd (omega (arith, h .2)),
+  )
+  step-eleven now o r (many d f le nd e) = (λ z. (d, f, le, nd), λ h. ap (λ s. s .number) e)
+  step-eleven now o r (after d f le nd nb ok lt e) = (
+    λ z. let q : _≡_ {A = ℕ} 0 11 = sym (ap (λ s. s .number) e) ∙ z in absurd (omega arith),
+    λ h. let q : d ≡ h .0 = same-reading d (h .0) r f (h .1) in let t : needed (reached a o d) ≡ needed (reached a o (h .0)) = ap (λ x. needed (reached a o x)) q in absurd (omega (arith, h .3)),
+  )
+  step-eleven now o r (final d f le ib nd e) = (
+    λ z. let q : _≡_ {A = ℕ} 0 11 = sym (ap (λ s. s .number) e) ∙ z in absurd (omega arith),
+    λ h. let q : d ≡ h .0 = same-reading d (h .0) r f (h .1) in let t : needed (reached a o d) ≡ needed (reached a o (h .0)) = ap (λ x. needed (reached a o x)) q in absurd (omega (arith, h .3)),
+  )
 
-    few-mains : (q : ℕ) → In q mains → q < 16
-    few-mains q i = omega (arith, main-in a mains isFair q i, isFair .few)
+  step-shows : (now : ℕ) (o : Outcome) (r : List ℕ) → Inv a mains now o → Case a now o r → (IsBreach o → ⊥) → IsBreach ((step a (runAt now o) r) .run .outcome) → (d : Reading) × (fitting a r ≡ some d) × BreachOk a mains (d .time) ((step a (runAt now o) r) .run .outcome)
+  step-shows now o r i (misfit n w f e) nb b = absurd (nb (subst (λ s. IsBreach (s .run .outcome)) e b))
+  step-shows now o r i (early d f lt e) nb b = absurd (nb (subst (λ s. IsBreach (s .run .outcome)) e b))
+  step-shows now o r i (many d f le nd e) nb b = absurd (nb (subst (λ s. IsBreach (s .run .outcome)) e b))
+  step-shows now o r i (after d f le nd nb′ ok lt e) nb b = (d, f, subst (λ s. BreachOk a mains (d .time) (s .run .outcome)) (sym e) (breach-ok a mains (d .time) (reached a o d) (reached-good bytes a mains ck now o d le ok nb i)))
+  step-shows now o r i (final d f le ib nd e) nb b = absurd (nb ib)
 
-    reading-fine : (now : ℕ) (o : Outcome) (r : List ℕ) → Inv a mains now o → Fine a now o (tableOf (runAt now o)) r (readingOf bytes (tableOf (runAt now o)) r)
-    reading-fine now o r i =
-        let x = reads a mains few-mains now o i in
-        subst (λ z. Fine a now o (tableOf (runAt now o)) r z) (sym (reading-is (tableOf (runAt now o)) (runAt now (x .0)) r (table-len a mains now o i) (x .1)))
-        (alike-fine a now (x .0) o r (x .2) (not-stuck a mains now o (i .good)))
+  step-final : (now : ℕ) (o : Outcome) (r : List ℕ) → Case a now o r → IsBreach o → (step a (runAt now o) r) .run ≡ runAt now o
+  step-final now o r (misfit n w f e) b = ap (λ s. s .run) e
+  step-final now o r (early d f lt e) b = ap (λ s. s .run) e
+  step-final now o r (many d f le nd e) b = ap (λ s. s .run) e
+  step-final now o r (after d f le nd nb ok lt e) b = absurd (nb b)
+  step-final now o r (final d f le ib nd e) b = ap (λ s. s .run) e
 
-    -- ---- a reading keeps the invariant
-    reached-good : (now : ℕ) (o : Outcome) (d : Reading) → now ≤ d .time → ReadingOk a d → (IsBreach o → ⊥) → Inv a mains now o → Good a (Since a (d .time)) mains (reached a o d)
-    unfolding reached Good IsBreach
-    reached-good now done d le ok nb i = tt
-    reached-good now (breach t ps) d le ok nb i = absurd (nb tt)
-    reached-good now (running r) d le ok nb i = good-sub a (Since a (d .time)) (i .good .0) mains (follow a d r) (i .good .2) (follow-good a mains isFair d ok now le r (i .good .0) (i .good .1))
-    reached-good now stuck d le ok nb i = i .good
+  -- a reading that is taken before a breach is followed, and one that is refused changes nothing
+  step-followed : (now : ℕ) (o : Outcome) (r : List ℕ) → Case a now o r → (d : Reading) → fitting a r ≡ some d → now ≤ d .time → needed (reached a o d) ≤ 128 → (IsBreach o → ⊥) → (step a (runAt now o) r) .run ≡ runAt (d .time) (reached a o d)
+  step-followed now o r (misfit n w f e) d fd le nd nb = no-reading r d f fd
+  step-followed now o r (early d′ f lt e) d fd le nd nb = let t : d′ .time ≡ d .time = ap (λ x. x .time) (same-reading d′ d r f fd) in absurd (omega arith)
+  step-followed now o r (many d′ f le′ nd′ e) d fd le nd nb = let t : needed (reached a o d′) ≡ needed (reached a o d) = ap (λ x. needed (reached a o x)) (same-reading d′ d r f fd) in absurd (omega arith)
+  step-followed now o r (after d′ f le′ nd′ nb′ ok lt e) d fd le nd nb = ap (λ s. s .run) e ∙ ap (λ x. runAt (x .time) (reached a o x)) (same-reading d′ d r f fd)
+  step-followed now o r (final d′ f le′ ib nd′ e) d fd le nd nb = absurd (nb ib)
 
-    abbrev InvOf : Run → Type 0
-    InvOf r = Inv a mains (r .lastTime) (r .outcome)
+  step-refused : (now : ℕ) (o : Outcome) (r : List ℕ) → Case a now o r → (step a (runAt now o) r) .number ≢ 0 → (step a (runAt now o) r) .run ≡ runAt now o
+  step-refused now o r (misfit n w f e) nz = ap (λ s. s .run) e
+  step-refused now o r (early d f lt e) nz = ap (λ s. s .run) e
+  step-refused now o r (many d f le nd e) nz = ap (λ s. s .run) e
+  step-refused now o r (after d f le nd nb ok lt e) nz = absurd (nz (ap (λ s. s .number) e))
+  step-refused now o r (final d f le ib nd e) nz = ap (λ s. s .run) e
 
-    step-inv : (now : ℕ) (o : Outcome) (r : List ℕ) → Bytes r → Inv a mains now o → InvOf ((step a (runAt now o) r) .run)
-    step-inv now o r hr i = go (cases a now o r (not-stuck a mains now o (i .good)))
-      where
-        go : Case a now o r → InvOf ((step a (runAt now o) r) .run)
-        go (misfit n w f e) = subst (λ s. InvOf (s .run)) (sym e) i
-        go (early d f lt e) = subst (λ s. InvOf (s .run)) (sym e) i
-        go (many d f le nd e) = subst (λ s. InvOf (s .run)) (sym e) i
-        go (after d f le nd nb ok lt e) = subst (λ s. InvOf (s .run)) (sym e) (record { from = omega (arith, i .from); fits = lt hr; good = reached-good now o d le ok nb i; small = nd })
-        go (final d f le ib nd e) = subst (λ s. InvOf (s .run)) (sym e) i
+  answers : (now : ℕ) (o : Outcome) (r : List ℕ) → Inv a mains now o → Answers bytes a mains (tableOf (runAt now o)) (runAt now o) r
+  answers now o r i =
+      let x = reading-fine bytes a mains ck now o r i in
+      let c = cases a now o r (not-stuck a mains now o (i .good)) in
+      let t = step-taken now o r c in
+      let l = step-eleven now o r c in
+      record {
+        number = x .0;
+        taken = (λ h. t .0 (sym (x .0) ∙ h), λ h. x .0 ∙ t .1 h);
+        eleven = (λ h. l .0 (sym (x .0) ∙ h), λ h. x .0 ∙ l .1 h);
+        followed = step-followed now o r c;
+        refused = λ nz. x .1 ∙ ap tableOf (step-refused now o r c (λ z. nz (x .0 ∙ z)));
+        shows = step-shows now o r i c;
+        final = λ b. x .1 ∙ ap tableOf (step-final now o r c b);
+      }
 
-    agrees : (now : ℕ) (o : Outcome) → Inv a mains now o → Agrees a mains (tableOf (runAt now o)) (runAt now o)
-    agrees now o i = let x = reads a mains few-mains now o i in
-        record { table = refl; wellTyped = (runAt now (x .0), x .1); moves = not-stuck a mains now o (i .good); breachOk = breach-ok a mains now o (i .good) }
+  throughout : (now : ℕ) (o : Outcome) (rs : List (List ℕ)) → AllBytes rs → Inv a mains now o → Throughout bytes a mains (tableOf (runAt now o)) (runAt now o) rs
+  unfolding Throughout AllBytes
+  throughout now o [] h i = agrees bytes a mains ck now o i
+  throughout now o (r ∷ rs) h i =
+      let s = (step a (runAt now o) r) .run in
+      (agrees bytes a mains ck now o i, answers now o r i, subst (λ cells. Throughout bytes a mains cells s rs) (sym ((reading-fine bytes a mains ck now o r i) .1)) (throughout (s .lastTime) (s .outcome) rs (h .1) (step-inv bytes a mains ck now o r (h .0) i)))
 
-    -- ---- what the step says of a reading
-    same-reading : (d d′ : Reading) (r : List ℕ) → fitting a r ≡ some d → fitting a r ≡ some d′ → d ≡ d′
-    same-reading d d′ r e f = some-inj (sym e ∙ f)
+  table-after : (now : ℕ) (o : Outcome) (rs : List (List ℕ)) → AllBytes rs → Inv a mains now o → tableAfter bytes (tableOf (runAt now o)) rs ≡ tableOf (runAfter a (runAt now o) rs)
+  unfolding tableAfter runAfter AllBytes
+  table-after now o [] h i = refl
+  table-after now o (r ∷ rs) h i =
+      let s = (step a (runAt now o) r) .run in
+      ap (λ c. tableAfter bytes c rs) ((reading-fine bytes a mains ck now o r i) .1) ∙ table-after (s .lastTime) (s .outcome) rs (h .1) (step-inv bytes a mains ck now o r (h .0) i)
 
-    abbrev Fits : ℕ → Outcome → List ℕ → (ℕ → Type 0) → Type 0
-    Fits now o r P = (d : Reading) × (fitting a r ≡ some d) × (now ≤ d .time) × P (needed (reached a o d))
+  numbers-after : (now : ℕ) (o : Outcome) (rs : List (List ℕ)) → AllBytes rs → Inv a mains now o → numbersOf bytes (tableOf (runAt now o)) rs ≡ numbersBy a (runAt now o) rs
+  unfolding numbersOf numbersBy AllBytes
+  numbers-after now o [] h i = refl
+  numbers-after now o (r ∷ rs) h i =
+      let x = reading-fine bytes a mains ck now o r i in
+      let s = (step a (runAt now o) r) .run in
+      ap₂ (λ n c. n ∷ numbersOf bytes c rs) (x .0) (x .1) ∙ ap (λ l. (step a (runAt now o) r) .number ∷ l) (numbers-after (s .lastTime) (s .outcome) rs (h .1) (step-inv bytes a mains ck now o r (h .0) i))
 
-    no-reading : {C : Type 0} (r : List ℕ) (d : Reading) → fitting a r ≡ none → fitting a r ≡ some d → C
-    no-reading r d e f = let z : _≡_ {A = ℕ} 0 1 = cc in absurd (omega arith)
+  -- ---- the start
+  first : Outcome
+  first = activate (a .templates) (a .main) (record { params = []; values = [] }) (a .start)
 
-    step-taken : (now : ℕ) (o : Outcome) (r : List ℕ) → Case a now o r → ((step a (runAt now o) r) .number ≡ 0) ↔ Fits now o r (λ n. n ≤ 128)
-    step-taken now o r (misfit n w f e) = (λ z. absurd (eight n w (sym (ap (λ s. s .number) e) ∙ z)), λ h. no-reading r (h .0) f (h .1))
-      where
-        eight : (n : ℕ) → (n ≡ 8) ⊎ (n ≡ 9) → n ≡ 0 → ⊥
-        eight n (inl p) q = omega arith
-        eight n (inr p) q = omega arith
-    step-taken now o r (early d f lt e) = (
-      λ z. let q : _≡_ {A = ℕ} 10 0 = sym (ap (λ s. s .number) e) ∙ z in absurd (omega arith),
-      λ h. let q : d ≡ h .0 = same-reading d (h .0) r f (h .1) in let t : d .time ≡ h .0 .time = ap (λ x. x .time) q in absurd (omega (arith, h .2)),
-    )
-    step-taken now o r (many d f le nd e) = (
-      λ z. let q : _≡_ {A = ℕ} 11 0 = sym (ap (λ s. s .number) e) ∙ z in absurd (omega arith),
-      λ h. let q : d ≡ h .0 = same-reading d (h .0) r f (h .1) in let t : needed (reached a o d) ≡ needed (reached a o (h .0)) = ap (λ x. needed (reached a o x)) q in absurd (omega (arith, h .3)),
-    )
-    step-taken now o r (after d f le nd nb ok lt e) = (λ z. (d, f, le, nd), λ h. ap (λ s. s .number) e)
-    step-taken now o r (final d f le ib nd e) = (λ z. (d, f, le, nd), λ h. ap (λ s. s .number) e)
+  mains-stand : Sub (standFor [] mains) mains
+  unfolding Sub
+  mains-stand x i = let r = stand-in [] mains x i in subst (λ z. In z mains) (sym (r .2 ∙ stands-blamed [] (r .0) (r .0) (blamed-constant [] (r .0) (omega (arith, few-mains bytes a mains ck (r .0) (r .1)))))) (r .1)
 
-    step-eleven : (now : ℕ) (o : Outcome) (r : List ℕ) → Case a now o r → ((step a (runAt now o) r) .number ≡ 11) ↔ Fits now o r (λ n. 128 < n)
-    step-eleven now o r (misfit n w f e) = (λ z. absurd (eight n w (sym (ap (λ s. s .number) e) ∙ z)), λ h. no-reading r (h .0) f (h .1))
-      where
-        eight : (n : ℕ) → (n ≡ 8) ⊎ (n ≡ 9) → n ≡ 11 → ⊥
-        eight n (inl p) q = omega arith
-        eight n (inr p) q = omega arith
-    step-eleven now o r (early d f lt e) = (
-      λ z. let q : _≡_ {A = ℕ} 10 11 = sym (ap (λ s. s .number) e) ∙ z in absurd (omega arith),
-      λ h. let q : d ≡ h .0 = same-reading d (h .0) r f (h .1) in let t : d .time ≡ h .0 .time = ap (λ x. x .time) q in absurd (omega (arith, h .2)),
-    )
-    step-eleven now o r (many d f le nd e) = (λ z. (d, f, le, nd), λ h. ap (λ s. s .number) e)
-    step-eleven now o r (after d f le nd nb ok lt e) = (
-      λ z. let q : _≡_ {A = ℕ} 0 11 = sym (ap (λ s. s .number) e) ∙ z in absurd (omega arith),
-      λ h. let q : d ≡ h .0 = same-reading d (h .0) r f (h .1) in let t : needed (reached a o d) ≡ needed (reached a o (h .0)) = ap (λ x. needed (reached a o x)) q in absurd (omega (arith, h .3)),
-    )
-    step-eleven now o r (final d f le ib nd e) = (
-      λ z. let q : _≡_ {A = ℕ} 0 11 = sym (ap (λ s. s .number) e) ∙ z in absurd (omega arith),
-      λ h. let q : d ≡ h .0 = same-reading d (h .0) r f (h .1) in let t : needed (reached a o d) ≡ needed (reached a o (h .0)) = ap (λ x. needed (reached a o x)) q in absurd (omega (arith, h .3)),
-    )
+  first-good : Good a (Since a (a .start)) mains first
+  unfolding first HaveTy all
+  first-good = good-sub a (Since a (a .start)) (standFor [] mains) mains first mains-stand
+      (activate-good a mains (isFair bytes a mains ck) (Since a (a .start)) (a .main) 0 [] (record { params = []; values = [] }) (a .start) mains (record { count = refl; fewParams = omega arith; range = tt; values = tt }) (omega arith, omega arith) ((isFair bytes a mains ck) .main) ((isFair bytes a mains ck) .mainPlaced))
 
-    step-shows : (now : ℕ) (o : Outcome) (r : List ℕ) → Inv a mains now o → Case a now o r → (IsBreach o → ⊥) → IsBreach ((step a (runAt now o) r) .run .outcome) → (d : Reading) × (fitting a r ≡ some d) × BreachOk a mains (d .time) ((step a (runAt now o) r) .run .outcome)
-    step-shows now o r i (misfit n w f e) nb b = absurd (nb (subst (λ s. IsBreach (s .run .outcome)) e b))
-    step-shows now o r i (early d f lt e) nb b = absurd (nb (subst (λ s. IsBreach (s .run .outcome)) e b))
-    step-shows now o r i (many d f le nd e) nb b = absurd (nb (subst (λ s. IsBreach (s .run .outcome)) e b))
-    step-shows now o r i (after d f le nd nb′ ok lt e) nb b = (d, f, subst (λ s. BreachOk a mains (d .time) (s .run .outcome)) (sym e) (breach-ok a mains (d .time) (reached a o d) (reached-good now o d le ok nb i)))
-    step-shows now o r i (final d f le ib nd e) nb b = absurd (nb ib)
+  choose : Bool → Stepped
+  choose b = elim b [ true ↦ stepped 11 (runAt (a .start) first) | false ↦ stepped 0 (runAt (a .start) first) ]
 
-    step-final : (now : ℕ) (o : Outcome) (r : List ℕ) → Case a now o r → IsBreach o → (step a (runAt now o) r) .run ≡ runAt now o
-    step-final now o r (misfit n w f e) b = ap (λ s. s .run) e
-    step-final now o r (early d f lt e) b = ap (λ s. s .run) e
-    step-final now o r (many d f le nd e) b = ap (λ s. s .run) e
-    step-final now o r (after d f le nd nb ok lt e) b = absurd (nb b)
-    step-final now o r (final d f le ib nd e) b = ap (λ s. s .run) e
-
-    -- a reading that is taken before a breach is followed, and one that is refused changes nothing
-    step-followed : (now : ℕ) (o : Outcome) (r : List ℕ) → Case a now o r → (d : Reading) → fitting a r ≡ some d → now ≤ d .time → needed (reached a o d) ≤ 128 → (IsBreach o → ⊥) → (step a (runAt now o) r) .run ≡ runAt (d .time) (reached a o d)
-    step-followed now o r (misfit n w f e) d fd le nd nb = no-reading r d f fd
-    step-followed now o r (early d′ f lt e) d fd le nd nb = let t : d′ .time ≡ d .time = ap (λ x. x .time) (same-reading d′ d r f fd) in absurd (omega arith)
-    step-followed now o r (many d′ f le′ nd′ e) d fd le nd nb = let t : needed (reached a o d′) ≡ needed (reached a o d) = ap (λ x. needed (reached a o x)) (same-reading d′ d r f fd) in absurd (omega arith)
-    step-followed now o r (after d′ f le′ nd′ nb′ ok lt e) d fd le nd nb = ap (λ s. s .run) e ∙ ap (λ x. runAt (x .time) (reached a o x)) (same-reading d′ d r f fd)
-    step-followed now o r (final d′ f le′ ib nd′ e) d fd le nd nb = absurd (nb ib)
-
-    step-refused : (now : ℕ) (o : Outcome) (r : List ℕ) → Case a now o r → (step a (runAt now o) r) .number ≢ 0 → (step a (runAt now o) r) .run ≡ runAt now o
-    step-refused now o r (misfit n w f e) nz = ap (λ s. s .run) e
-    step-refused now o r (early d f lt e) nz = ap (λ s. s .run) e
-    step-refused now o r (many d f le nd e) nz = ap (λ s. s .run) e
-    step-refused now o r (after d f le nd nb ok lt e) nz = absurd (nz (ap (λ s. s .number) e))
-    step-refused now o r (final d f le ib nd e) nz = ap (λ s. s .run) e
-
-    answers : (now : ℕ) (o : Outcome) (r : List ℕ) → Inv a mains now o → Answers bytes a mains (tableOf (runAt now o)) (runAt now o) r
-    answers now o r i =
-        let x = reading-fine now o r i in
-        let c = cases a now o r (not-stuck a mains now o (i .good)) in
-        let t = step-taken now o r c in
-        let l = step-eleven now o r c in
-        record {
-          number = x .0;
-          taken = (λ h. t .0 (sym (x .0) ∙ h), λ h. x .0 ∙ t .1 h);
-          eleven = (λ h. l .0 (sym (x .0) ∙ h), λ h. x .0 ∙ l .1 h);
-          followed = step-followed now o r c;
-          refused = λ nz. x .1 ∙ ap tableOf (step-refused now o r c (λ z. nz (x .0 ∙ z)));
-          shows = step-shows now o r i c;
-          final = λ b. x .1 ∙ ap tableOf (step-final now o r c b);
-        }
-
-    throughout : (now : ℕ) (o : Outcome) (rs : List (List ℕ)) → AllBytes rs → Inv a mains now o → Throughout bytes a mains (tableOf (runAt now o)) (runAt now o) rs
-    unfolding Throughout AllBytes
-    throughout now o [] h i = agrees now o i
-    throughout now o (r ∷ rs) h i =
-        let s = (step a (runAt now o) r) .run in
-        (agrees now o i, answers now o r i, subst (λ cells. Throughout bytes a mains cells s rs) (sym ((reading-fine now o r i) .1)) (throughout (s .lastTime) (s .outcome) rs (h .1) (step-inv now o r (h .0) i)))
-
-    table-after : (now : ℕ) (o : Outcome) (rs : List (List ℕ)) → AllBytes rs → Inv a mains now o → tableAfter bytes (tableOf (runAt now o)) rs ≡ tableOf (runAfter a (runAt now o) rs)
-    unfolding tableAfter runAfter AllBytes
-    table-after now o [] h i = refl
-    table-after now o (r ∷ rs) h i =
-        let s = (step a (runAt now o) r) .run in
-        ap (λ c. tableAfter bytes c rs) ((reading-fine now o r i) .1) ∙ table-after (s .lastTime) (s .outcome) rs (h .1) (step-inv now o r (h .0) i)
-
-    numbers-after : (now : ℕ) (o : Outcome) (rs : List (List ℕ)) → AllBytes rs → Inv a mains now o → numbersOf bytes (tableOf (runAt now o)) rs ≡ numbersBy a (runAt now o) rs
-    unfolding numbersOf numbersBy AllBytes
-    numbers-after now o [] h i = refl
-    numbers-after now o (r ∷ rs) h i =
-        let x = reading-fine now o r i in
-        let s = (step a (runAt now o) r) .run in
-        ap₂ (λ n c. n ∷ numbersOf bytes c rs) (x .0) (x .1) ∙ ap (λ l. (step a (runAt now o) r) .number ∷ l) (numbers-after (s .lastTime) (s .outcome) rs (h .1) (step-inv now o r (h .0) i))
-
-    -- ---- the start
-    first : Outcome
-    first = activate (a .templates) (a .main) (record { params = []; values = [] }) (a .start)
-
-    mains-stand : Sub (standFor [] mains) mains
-    unfolding Sub
-    mains-stand x i = let r = stand-in [] mains x i in subst (λ z. In z mains) (sym (r .2 ∙ stands-blamed [] (r .0) (r .0) (blamed-constant [] (r .0) (omega (arith, few-mains (r .0) (r .1)))))) (r .1)
-
-    first-good : Good a (Since a (a .start)) mains first
-    unfolding first HaveTy all
-    first-good = good-sub a (Since a (a .start)) (standFor [] mains) mains first mains-stand
-        (activate-good a mains isFair (Since a (a .start)) (a .main) 0 [] (record { params = []; values = [] }) (a .start) mains (record { count = refl; fewParams = omega arith; range = tt; values = tt }) (omega arith, omega arith) (isFair .main) (isFair .mainPlaced))
-
-    choose : Bool → Stepped
-    choose b = elim b [ true ↦ stepped 11 (runAt (a .start) first) | false ↦ stepped 0 (runAt (a .start) first) ]
-
-    start-inv : (started a) .number ≡ 0 → InvOf ((started a) .run)
-    unfolding started kept first choose
-    start-inv h = go (tooMany first) refl h
-      where
-        go : (b : Bool) → tooMany first ≡ b → (choose b) .number ≡ 0 → InvOf ((choose b) .run)
-        go true e q = absurd (omega arith)
-        go false e q = record { from = omega arith; fits = start-lt bytes a hb (pass′ .decodes); good = first-good; small = nltb→le 128 (needed first) (subst (λ b. T (not b)) (sym e ∙ tooMany-is first) tt) }
-
-written-zero : (cells : List ℤ) (s : Stepped) → s .number ≡ 0 → written cells s ≡ record { number = 0; table = tableOf (s .run) }
-unfolding written refusal
-written-zero cells s h = go (s .number) h
-  where
-    go : (n : ℕ) → n ≡ 0 → _≡_ {A = Answer} (elim n [ zero ↦ record { number = 0; table = tableOf (s .run) } | suc m ↦ record { number = s .number; table = cells } ]) (record { number = 0; table = tableOf (s .run) })
-    go zero e = refl
-    go (suc n) e = absurd (omega arith)
+  start-inv : Bytes bytes → (started a) .number ≡ 0 → InvOf bytes a mains ck ((started a) .run)
+  unfolding started kept first choose
+  start-inv hb h = go (tooMany first) refl h
+    where
+      go : (b : Bool) → tooMany first ≡ b → (choose b) .number ≡ 0 → InvOf bytes a mains ck ((choose b) .run)
+      go true e q = absurd (omega arith)
+      go false e q = record { from = omega arith; fits = start-lt bytes a hb ((isPassed bytes a mains ck) .decodes); good = first-good; small = nltb→le 128 (needed first) (subst (λ b. T (not b)) (sym e ∙ tooMany-is first) tt) }
 
 pub demand3 : Demand3
 unfolding Demand3
@@ -424,7 +173,7 @@ demand3 bytes a mains cells rs hb hr ck l st =
     let i = start-inv bytes a mains ck hb st in
     record {
       start = ap (λ x. x .number) e;
-      table = ap (λ x. tableAfter bytes (x .table) rs) e ∙ table-after bytes a mains ck hb (s .lastTime) (s .outcome) rs hr i;
-      numbers = ap (λ x. numbersOf bytes (x .table) rs) e ∙ numbers-after bytes a mains ck hb (s .lastTime) (s .outcome) rs hr i;
-      throughout = subst (λ x. Throughout bytes a mains (x .table) s rs) (sym e) (throughout bytes a mains ck hb (s .lastTime) (s .outcome) rs hr i);
+      table = ap (λ x. tableAfter bytes (x .table) rs) e ∙ table-after bytes a mains ck (s .lastTime) (s .outcome) rs hr i;
+      numbers = ap (λ x. numbersOf bytes (x .table) rs) e ∙ numbers-after bytes a mains ck (s .lastTime) (s .outcome) rs hr i;
+      throughout = subst (λ x. Throughout bytes a mains (x .table) s rs) (sym e) (throughout bytes a mains ck (s .lastTime) (s .outcome) rs hr i);
     }

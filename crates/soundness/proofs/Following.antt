@@ -16,7 +16,7 @@ use Rattle.csl.specs.Syntax.{Agreement, Clause, Ty, Wait, choice, number, oblig
 use Rattle.csl.specs.Typing.{blameOk, hasType, namesOf, readingOfType, thenSight, typeClause, typeWait}
 use Rattle.csl.specs.Values.{evalBool, evalNum, who}
 use Rattle.csl.specs.Outcomes.{Outcome, Residue, Sight, both, breach, joined, orStuck, unit}
-use Rattle.csl.specs.Rules.{Reading, activate, activating, blamed, during, following, late, taken, wants, window, withValues}
+use Rattle.csl.specs.Rules.{Reading, Step, activate, activating, blamed, during, following, late, taken, wants, window, withValues}
 use Rattle.csl.specs.Places.{across, clauseAt, follow}
 use Rattle.csl.specs.Table.{standFor, standsFor}
 use Rattle.soundness.proofs.Inversion.{both-true, from-bind, from-need, some-bind, some-inj}
@@ -26,6 +26,7 @@ use Rattle.soundness.proofs.Times.{later-from, later-to, remaining-rang
 use Rattle.soundness.proofs.Good.{Good, Ok, Placed, SightOk, good-sub, joined-good}
 use Rattle.soundness.proofs.Walks.{Fair, StepGood, blamed-ok, bool-typed, good-bind, num-typed}
 use Rattle.soundness.proofs.Activation.{activate-good, activating-good, during-good, heads-declared}
+use Rattle.soundness.proofs.Checked.{fair}
 
 -- a reading's values have the types of its reading type
 unfoldable pub ReadingOk : Agreement → Reading → Type 0
@@ -35,7 +36,7 @@ unfoldable pub Within : Agreement → ℕ → ℕ → Type 0
 Within ag now t = (ag .start ≤ t) × (t ≤ now)
 
 -- what a typed wait has
-from-wait : {C : Type 0} (ag : Agreement) (n : ℕ) (env : List Ty) (w : Wait) (vs : List Ty) → typeWait (namesOf ag n) env w ≡ some vs
+pub from-wait : {C : Type 0} (ag : Agreement) (n : ℕ) (env : List Ty) (w : Wait) (vs : List Ty) → typeWait (namesOf ag n) env w ≡ some vs
     → ((u₁ u₂ u₃ : Unit {0}) → readingOfType (ag .readings) (w .wanted) ≡ some vs → hasType (ag .parties) (env ++ vs) (w .condition) truth ≡ some u₁ → hasType (ag .parties) env (w .after) number ≡ some u₂ → hasType (ag .parties) env (w .within) number ≡ some u₃ → C) → C
 unfolding typeWait namesOf
 from-wait ag n env w vs e k =
@@ -46,6 +47,29 @@ from-wait ag n env w vs e k =
     from-bind (hasType (ag .parties) env (w .within) number) _ vs q₃ λ u₃ h₃ q₄.
     let s : vs′ ≡ vs = some-inj q₄ in
     k u₁ u₂ u₃ (p ∙ ap some s) (subst (λ z. hasType (ag .parties) (env ++ z) (w .condition) truth ≡ some u₁) s h₁) h₂ h₃
+
+pub window-is : (e : Sight) (a : ℕ) (w : Wait) (x y : ℤ) → evalNum (e .values) (w .after) ≡ some x → evalNum (e .values) (w .within) ≡ some y → window e a w ≡ some (record { first = pos a +ℤ x; last = (pos a +ℤ x) +ℤ y })
+unfolding window
+window-is e a w x y p q = some-bind (evalNum (e .values) (w .after)) _ x p ∙ some-bind (evalNum (e .values) (w .within)) _ y q
+
+pub breach-good : (ag : Agreement) (W : ℕ → Type 0) (params : List ℕ) (b p u : ℕ) (ps bs : List ℕ) → standsFor params b ≡ p → b ∷ ps ≡ bs → W u → Good ag W (standFor params bs) (breach u (p ∷ []))
+unfolding Good Sub In standFor
+breach-good ag W params b p u ps bs st eq wu = subst (λ l. Good ag W (standFor params l) (breach u (p ∷ []))) eq (p, inl refl, sub, wu)
+  where
+    sub : (x : ℕ) → (x ≡ p) ⊎ ⊥ → (x ≡ standsFor params b) ⊎ In x (standFor params ps)
+    sub x (inl e) = inl (e ∙ sym st)
+    sub x (inr h) = absurd h
+
+-- a good step keeps a whole residue good
+pub across-good : (ag : Agreement) (mains : List ℕ) (fair : Fair ag mains) (Q W : ℕ → Type 0) → ((t : ℕ) → Q t → W t) → (s : Step) → StepGood ag (fair .few) (heads-declared ag mains fair) W s → (res : Residue) (ps : List ℕ) → Ok ag Q res ps → Good ag W ps (across s ag res)
+unfolding across Ok orStuck
+across-good ag mains fair Q W qw s sg (unit k p a e) ps ok =
+    good-bind ag (fair .few) (heads-declared ag mains fair) W ps (clauseAt ag p) _ (ok .found) (ok .isAt)
+    (subst (λ l. Good ag W l (during s (ag .templates) (ok .found .clause) e a)) (sym (ok .parties))
+    (during-good ag mains fair W s sg (ok .found .clause) (ok .found .params) (ok .found .sight) e a (ok .blames) (ok .sight) (qw a (ok .when)) (ok .typed) (ok .placed)))
+across-good ag mains fair Q W qw s sg (both j l m) ps ok =
+    subst (λ x. Good ag W x (joined j (across s ag l) (across s ag m))) (sym (ok .5))
+    (joined-good ag W j (ok .0) (ok .1) (across s ag l) (across s ag m) (ok .4) (across-good ag mains fair Q W qw s sg l (ok .0) (ok .2)) (across-good ag mains fair Q W qw s sg m (ok .1) (ok .3)))
 
 module _ (ag : Agreement) (mains : List ℕ) (fair : Fair ag mains) (r : Reading) (rok : ReadingOk ag r) where
   abbrev W : ℕ → Type 0
@@ -79,10 +103,6 @@ module _ (ag : Agreement) (mains : List ℕ) (fair : Fair ag mains) (r : Reading
           bool-typed (ag .parties) (env ++ vs) (e .values ++ r .values) (vals h) (w .condition) u₁ tc λ b eb.
           good-bind ag (fair .few) (heads-declared ag mains fair) W P (evalBool (e .values ++ r .values) (w .condition)) _ b eb (choose b h k)
 
-  window-is : (e : Sight) (a : ℕ) (w : Wait) (x y : ℤ) → evalNum (e .values) (w .after) ≡ some x → evalNum (e .values) (w .within) ≡ some y → window e a w ≡ some (record { first = pos a +ℤ x; last = (pos a +ℤ x) +ℤ y })
-  unfolding window
-  window-is e a w x y p q = some-bind (evalNum (e .values) (w .after)) _ x p ∙ some-bind (evalNum (e .values) (w .within)) _ y q
-
   orNil-is : (w : Wait) (vs env : List Ty) → readingOfType (ag .readings) (w .wanted) ≡ some vs → thenSight env (orNil (readingOfType (ag .readings) (w .wanted))) ≡ thenSight env vs
   unfolding orNil
   orNil-is w vs env e = rw e refl
@@ -90,14 +110,6 @@ module _ (ag : Agreement) (mains : List ℕ) (fair : Fair ag mains) (r : Reading
   by-test : (P : List ℕ) (b : Bool) (X Y : Option Outcome) → (T b → Good ag W P (orStuck X)) → (T (not b) → Good ag W P (orStuck Y)) → Good ag W P (orStuck (elim b [ true ↦ X | false ↦ Y ]))
   by-test P true X Y f g = f tt
   by-test P false X Y f g = g tt
-
-  breach-good : (params : List ℕ) (b p u : ℕ) (ps bs : List ℕ) → standsFor params b ≡ p → b ∷ ps ≡ bs → W u → Good ag W (standFor params bs) (breach u (p ∷ []))
-  unfolding Good Sub In standFor
-  breach-good params b p u ps bs st eq wu = subst (λ l. Good ag W (standFor params l) (breach u (p ∷ []))) eq (p, inl refl, sub, wu)
-    where
-      sub : (x : ℕ) → (x ≡ p) ⊎ ⊥ → (x ≡ standsFor params b) ⊎ In x (standFor params ps)
-      sub x (inl e) = inl (e ∙ sym st)
-      sub x (inr h) = absurd h
 
   tail-sub : (params : List ℕ) (b : ℕ) (ps bs : List ℕ) → b ∷ ps ≡ bs → Sub (standFor params ps) (standFor params bs)
   unfolding Sub In standFor
@@ -116,7 +128,7 @@ module _ (ag : Agreement) (mains : List ℕ) (fair : Fair ag mains) (r : Reading
       (by-test (standFor (e .params) bs) (ltZ ((pos a +ℤ x) +ℤ y) (pos (r .time))) _ _
       (λ late-now. blamed-ok ag n env e ok (fair .few) b bo λ who eq st lt.
       good-bind ag (fair .few) (heads-declared ag mains fair) W (standFor (e .params) bs) (blamed (e .params) b) _ who eq
-      (breach-good (e .params) b who (laterOf a ((pos a +ℤ x) +ℤ y)) ps bs st (some-inj q₃) (omega (arith, later-from a ((pos a +ℤ x) +ℤ y), wa .0), later-to a (r .time) ((pos a +ℤ x) +ℤ y) (wa .1) late-now)))
+      (breach-good ag W (e .params) b who (laterOf a ((pos a +ℤ x) +ℤ y)) ps bs st (some-inj q₃) (omega (arith, later-from a ((pos a +ℤ x) +ℤ y), wa .0), later-to a (r .time) ((pos a +ℤ x) +ℤ y) (wa .1) late-now)))
       (λ not-late. taken-good n env e w vs (pos a +ℤ x) y t ps (standFor (e .params) bs) _ u₁ ok rt tc ry not-late p (subst (λ z. Placed ag n z t) (orNil-is w vs env rt) (pl .1)) (tail-sub (e .params) b ps bs (some-inj q₃)) (omega (arith, wa .0, wa .1))
       (activating-good ag mains fair W .obligation n env b w t e a bs ok wa ty pl)))
 
@@ -142,11 +154,5 @@ module _ (ag : Agreement) (mains : List ℕ) (fair : Fair ag mains) (r : Reading
 
   -- ---- a whole residue
   pub follow-good : (now : ℕ) → now ≤ r .time → (res : Residue) (ps : List ℕ) → Ok ag (λ t. (ag .start ≤ t) × (t ≤ now)) res ps → Good ag W ps (follow ag r res)
-  unfolding follow across Ok orStuck
-  follow-good now le (unit s p a e) ps ok =
-      good-bind ag (fair .few) (heads-declared ag mains fair) W ps (clauseAt ag p) _ (ok .found) (ok .isAt)
-      (subst (λ l. Good ag W l (during (following (ag .templates) r) (ag .templates) (ok .found .clause) e a)) (sym (ok .parties))
-      (during-good ag mains fair W (following (ag .templates) r) following-good (ok .found .clause) (ok .found .params) (ok .found .sight) e a (ok .blames) (ok .sight) (ok .when .0, omega (arith, ok .when .1)) (ok .typed) (ok .placed)))
-  follow-good now le (both j l m) ps ok =
-      subst (λ x. Good ag W x (joined j (follow ag r l) (follow ag r m))) (sym (ok .5))
-      (joined-good ag W j (ok .0) (ok .1) (follow ag r l) (follow ag r m) (ok .4) (follow-good now le l (ok .0) (ok .2)) (follow-good now le m (ok .1) (ok .3)))
+  unfolding follow
+  follow-good now le = across-good ag mains fair (λ t. (ag .start ≤ t) × (t ≤ now)) W (λ t h. (h .0, omega (arith, h .1))) (following (ag .templates) r) following-good

@@ -12,5 +12,8 @@ pub mod Places
 pub mod Decoding
 pub mod Checked
 pub mod Readings
+pub mod Runs
 pub mod Demand3
 pub mod ReadBack
+pub mod Forecasts
+pub mod Marks

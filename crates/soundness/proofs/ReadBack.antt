@@ -28,7 +28,7 @@ use Rattle.soundness.proofs.Walks.{Fair}
 use Rattle.soundness.proofs.Bits.{bits-members}
 use Rattle.soundness.proofs.RoundTrip.{++-assoc, len-nats}
 use Rattle.soundness.proofs.Readings.{values-typed}
-use Rattle.soundness.proofs.Demand3.{Inv, Since, main-in, reads, runAt, same}
+use Rattle.soundness.proofs.Runs.{Inv, Since, main-in, reads, runAt, same}
 
 -- ---- what the finder finds
 from-orElse : {A C : Type 0} (o u : Option A) (y : A) → orElse o u ≡ some y → (o ≡ some y → C) → (u ≡ some y → C) → C
