@@ -1,11 +1,11 @@
 -- Paper 01, "Records", and refusals 1 and 2: from bytes to an agreement.
 use mathlib.Core.Bool.{Bool, true, false, cond, _&&_}
-use mathlib.Core.List.{List, [], _∷_}
+use mathlib.Core.List.{List, [], _∷_, map}
 use mathlib.Core.Option.{Option, none, some}
 use Prim.Native.Nat.{ℕ, zero, suc, _+_}
 use lib.Dec.{leb, ltb, eqb}
 use lib.ListN.{length}
-use Rattle.csl.specs.Lists.{_>>=_, need, all, at, each}
+use Rattle.csl.specs.Lists.{all, at}
 use Rattle.csl.specs.Numbers.{Arithmetic, plus, minus, times, quot}
 use Rattle.csl.specs.Bytes.{byte, le16, le32, signed32, part, isRecord, kindNumber, recordEnd}
 use Rattle.csl.specs.Parties.{members}
@@ -141,35 +141,43 @@ whole (join j t f) = whole t && whole f
 whole (instance k es bs) = all wholeExpr es
 whole badClause = false
 
--- ---- reading types and templates' heads
-unfoldable pub tyOf : ℕ → Option Ty
-tyOf b = cond (eqb b 1) (some number) (cond (eqb b 2) (some truth) (cond (eqb b 3) (some party) none))
+unfoldable pub between : ℕ → ℕ → ℕ → Bool
+between a b n = leb a n && leb n b
 
--- "2 reading type: value count 0 to 4, then their types"
-unfoldable pub readingType : List ℕ → Option (List Ty)
-readingType s = do
-  _ ← need (isRecord s && eqb (kindNumber s) 2)
-  _ ← need (leb (byte s 4) 4 && eqb (length s) (5 + byte s 4))
-  each tyOf (part s 5 (length s))
+-- ---- "(1 number, 2 truth, 3 party)"
+unfoldable pub isType : ℕ → Bool
+isType b = between 1 3 b
 
--- "3 template: value count 0 to 8 and their types, party parameter count 0 to 4, declared parties, one clause"
-unfoldable pub templateHead : List ℕ → Option Head
-templateHead s = do
-  _ ← need (isRecord s && eqb (kindNumber s) 3)
-  _ ← need (leb (byte s 4) 8)
-  ts ← each tyOf (part s 5 (5 + byte s 4))
-  _ ← need (leb (byte s (5 + byte s 4)) 4)
-  some (record { values = ts; params = byte s (5 + byte s 4); declared = members (le16 s (6 + byte s 4)) })
+unfoldable pub tyOf : ℕ → Ty
+tyOf b = cond (eqb b 1) number (cond (eqb b 2) truth party)
+
+unfoldable pub tysOf : List ℕ → List Ty
+tysOf bs = map tyOf bs
+
+-- ---- "2 reading type: value count 0 to 4, then their types"
+unfoldable pub readingTypeOk : List ℕ → Bool
+readingTypeOk s = isRecord s && eqb (kindNumber s) 2 && leb (byte s 4) 4 && eqb (length s) (5 + byte s 4) && all isType (part s 5 (length s))
+
+unfoldable pub readingType : List ℕ → List Ty
+readingType s = tysOf (part s 5 (length s))
+
+-- ---- "3 template: value count 0 to 8 and their types, party parameter count 0 to 4, declared parties, one clause"
+unfoldable pub templateOk : List ℕ → Bool
+templateOk s = isRecord s && eqb (kindNumber s) 3 && leb (byte s 4) 8 && all isType (part s 5 (5 + byte s 4)) && leb (byte s (5 + byte s 4)) 4
+
+unfoldable pub templateHead : List ℕ → Head
+templateHead s = record { values = tysOf (part s 5 (5 + byte s 4)); params = byte s (5 + byte s 4); declared = members (le16 s (6 + byte s 4)) }
 
 unfoldable pub bodyPlace : List ℕ → ℕ
 bodyPlace s = 8 + byte s 4
 
--- ---- agreements
+-- ---- "1 agreement: start time (4 bytes), party count 1 to 16, reading count 1 to 16, template count 0 to 32; that many records of kind 2, of kind 3, then one clause"
 -- a record within the agreement, with its byte place
 pub record Piece : Type 0 where
   pub place : ℕ
   pub bytes : List ℕ
 
+-- n records one after another from i, and where the last of them ends
 unfoldable pub piecesEnd : ℕ → List ℕ → ℕ → ℕ
 piecesEnd zero s i = i
 piecesEnd (suc n) s i = piecesEnd n s (recordEnd s i)
@@ -178,35 +186,54 @@ unfoldable pub pieces : ℕ → List ℕ → ℕ → List Piece
 pieces zero s i = []
 pieces (suc n) s i = record { place = i; bytes = part s i (recordEnd s i) } ∷ pieces n s (recordEnd s i)
 
--- a template's body is at depth 3
+unfoldable pub templatesPlace : List ℕ → ℕ
+templatesPlace s = piecesEnd (byte s 9) s 11
+
+unfoldable pub mainPlace : List ℕ → ℕ
+mainPlace s = piecesEnd (byte s 10) s (templatesPlace s)
+
+unfoldable pub readingPieces : List ℕ → List Piece
+readingPieces s = pieces (byte s 9) s 11
+
+unfoldable pub templatePieces : List ℕ → List Piece
+templatePieces s = pieces (byte s 10) s (templatesPlace s)
+
+unfoldable pub headsOf : List ℕ → List Head
+headsOf s = map (λ q. templateHead (q .bytes)) (templatePieces s)
+
+-- "Records nest at most 24 deep, the agreement being depth 1": the main clause is at depth 2, a template's body at depth 3
+unfoldable pub mainOf : List ℕ → Clause
+mainOf s = clause (headsOf s) 23 (mainPlace s) (part s (mainPlace s) (length s))
+
 unfoldable pub bodyOf : List Head → Piece → Clause
 bodyOf hs q = clause hs 22 (q .place + bodyPlace (q .bytes)) (part (q .bytes) (bodyPlace (q .bytes)) (length (q .bytes)))
 
-unfoldable pub templatesOf : List Head → List Head → List Piece → List Template
-templatesOf hs [] qs = []
-templatesOf hs (h ∷ us) [] = []
-templatesOf hs (h ∷ us) (q ∷ qs) = record { head = h; body = bodyOf hs q } ∷ templatesOf hs us qs
+unfoldable pub templateOf : List Head → Piece → Template
+templateOf hs q = record { head = templateHead (q .bytes); body = bodyOf hs q }
 
-unfoldable pub between : ℕ → ℕ → ℕ → Bool
-between a b n = leb a n && leb n b
+unfoldable pub agreementOf : List ℕ → Agreement
+agreementOf s = record {
+  start = le32 s 4;
+  parties = byte s 8;
+  readings = map (λ q. readingType (q .bytes)) (readingPieces s);
+  templates = map (templateOf (headsOf s)) (templatePieces s);
+  main = mainOf s;
+}
 
-unfoldable pub wholeTemplate : Template → Bool
-wholeTemplate t = whole (t .body)
+unfoldable pub countsOk : List ℕ → Bool
+countsOk s = between 1 16 (byte s 8) && between 1 16 (byte s 9) && leb (byte s 10) 32
 
--- "1 agreement: start time, party count 1 to 16, reading count 1 to 16, template count 0 to 32; that many records of kind 2, of kind 3, then one clause"
+unfoldable pub wellFormed : List ℕ → Bool
+wellFormed s =
+    eqb (kindNumber s) 1 && countsOk s
+    && all (λ q. readingTypeOk (q .bytes)) (readingPieces s)
+    && all (λ q. templateOk (q .bytes)) (templatePieces s)
+    && whole (mainOf s)
+    && all (λ q. whole (bodyOf (headsOf s) q)) (templatePieces s)
+
 -- refusal 2 where this is none; the bytes are known to be one record
 unfoldable pub decode : List ℕ → Option Agreement
-decode s = do
-  _ ← need (eqb (kindNumber s) 1)
-  _ ← need (between 1 16 (byte s 8) && between 1 16 (byte s 9) && leb (byte s 10) 32)
-  readings ← each (λ q. readingType (q .bytes)) (pieces (byte s 9) s 11)
-  let i = piecesEnd (byte s 9) s 11
-  let qs = pieces (byte s 10) s i
-  heads ← each (λ q. templateHead (q .bytes)) qs
-  let m = piecesEnd (byte s 10) s i
-  let a : Agreement = record { start = le32 s 4; parties = byte s 8; readings = readings; templates = templatesOf heads heads qs; main = clause heads 23 m (part s m (length s)) }
-  _ ← need (whole (a .main) && all wholeTemplate (a .templates))
-  some a
+decode s = elim (wellFormed s) [ true ↦ some (agreementOf s) | false ↦ none ]
 
 -- "agreement under 4 or over 16,384 bytes, or not as long as its length says": refusal 1 where this is false
 unfoldable pub sized : List ℕ → Bool
@@ -214,5 +241,5 @@ sized s = between 4 16_384 (length s) && eqb (le16 s 0) (length s)
 
 -- what a proof by computation unfolds
 unfoldable pub computes : Unit {0}
-unfolding leafKind arithmeticOf opOf exprKind joinOf waitKind clauseKind ofLength exprBody exprHead expr waitEnd waitAt argumentsEnd arguments instanceOf clauseBody clauseHead clause wholeExpr wholeWait whole tyOf readingType templateHead bodyPlace piecesEnd pieces bodyOf templatesOf between wholeTemplate decode sized
+unfolding leafKind arithmeticOf opOf exprKind joinOf waitKind clauseKind ofLength exprBody exprHead expr waitEnd waitAt argumentsEnd arguments instanceOf clauseBody clauseHead clause wholeExpr wholeWait whole between isType tyOf tysOf readingTypeOk readingType templateOk templateHead bodyPlace piecesEnd pieces templatesPlace mainPlace readingPieces templatePieces headsOf mainOf bodyOf templateOf agreementOf countsOk wellFormed decode sized
 computes = tt

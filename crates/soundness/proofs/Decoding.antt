@@ -1,6 +1,6 @@
 -- Decoding puts the waiting clauses of an agreement at places that strictly increase, so that each place is one clause's alone.
 use mathlib.Core.Bool.{_&&_, Bool, cond, false, true}
-use mathlib.Core.List.{List, [], _∷_}
+use mathlib.Core.List.{List, [], map, _∷_}
 use mathlib.Core.Option.{Option, none, some}
 use mathlib.Core.Path.{ap, refl, subst, sym, _∙_, _≡_}
 use Prim.Native.Nat.{_+_, _-_, min, suc, zero, ℕ, _≤_}
@@ -10,11 +10,11 @@ use native.Mathlib.Omega.{arith}
 use lib.Dec.{T, eqb, leb, leb→le}
 use lib.ListN.{drop, drop-of-length-le, length, length-drop, length-take, take}
 use lib.Seq.{take-nil}
-use Rattle.csl.specs.Lists.{all, at, each}
+use Rattle.csl.specs.Lists.{all, at}
 use Rattle.csl.specs.Bytes.{byte, isRecord, kindNumber, le16, le32, part, recordEnd}
 use Rattle.csl.specs.Syntax.{Agreement, Clause, Expr, Head, Template, badClause, fulfilled}
-use Rattle.csl.specs.Decode.{ClauseKind, Piece, argumentsEnd, between, bodyOf, bodyPlace, choiceKind, clause, clauseBody, clauseHead, clauseKind, decode, expr, fulfilledKind, ifKind, instanceKind, instanceOf, joinKind, noClause, obligationKind, pieces, piecesEnd, readingType, templateHead, templatesOf, tyOf, waitAt, waitEnd, whole, wholeTemplate}
-use Rattle.soundness.proofs.Inversion.{T-left, T-right, from-bind, from-need, some-inj}
+use Rattle.csl.specs.Decode.{ClauseKind, Piece, agreementOf, argumentsEnd, between, bodyOf, bodyPlace, choiceKind, clause, clauseBody, clauseHead, clauseKind, countsOk, decode, expr, fulfilledKind, headsOf, ifKind, instanceKind, instanceOf, isType, joinKind, mainOf, mainPlace, noClause, obligationKind, pieces, piecesEnd, readingPieces, readingTypeOk, templateHead, templateOf, templateOk, templatePieces, templatesPlace, waitAt, waitEnd, wellFormed, whole}
+use Rattle.soundness.proofs.Inversion.{T-left, T-right, both-true, some-inj}
 use Rattle.soundness.proofs.Places.{Ranged, ranged-le, ranged-wider}
 
 -- ---- where a record ends
@@ -125,26 +125,19 @@ unfolding TRanged
 tranged-le lo hi [] h = h
 tranged-le lo hi (t ∷ ts) h = omega (arith, ranged-le lo (h .0) (t .body) (h .1), tranged-le (h .0) hi ts (h .2))
 
-head-params : (s : List ℕ) (h : Head) → templateHead s ≡ some h → h .params ≤ 4
-unfolding templateHead
-head-params s h e =
-    from-need (isRecord s && eqb (kindNumber s) 3) _ h e λ t₁ b₁.
-    from-need (leb (byte s 4) 8) _ h b₁ λ t₂ b₂.
-    from-bind (each tyOf (part s 5 (5 + byte s 4))) _ h b₂ λ ts a₃ b₃.
-    from-need (leb (byte s (5 + byte s 4)) 4) _ h b₃ λ t₄ b₄.
-    subst (λ z. z .params ≤ 4) (some-inj b₄) (leb→le (byte s (5 + byte s 4)) 4 t₄)
+head-params : (s : List ℕ) → T (templateOk s) → (templateHead s) .params ≤ 4
+unfolding templateOk templateHead
+head-params s t = leb→le (byte s (5 + byte s 4)) 4 (T-right (isRecord s && eqb (kindNumber s) 3 && leb (byte s 4) 8 && all isType (part s 5 (5 + byte s 4))) _ t)
 
-templates-ranged : (hs : List Head) (s : List ℕ) (n i : ℕ) (us : List Head) → each (λ q. templateHead (q .bytes)) (pieces n s i) ≡ some us → i ≤ length s → TRanged i (piecesEnd n s i) (templatesOf hs us (pieces n s i))
-unfolding pieces piecesEnd each templatesOf TRanged
-templates-ranged hs s zero i us e l = subst (λ z. TRanged i i (templatesOf hs z [])) (some-inj e) (omega arith)
-templates-ranged hs s (suc n) i us e l =
-    from-bind (templateHead (part s i (recordEnd s i))) _ us e λ h a₁ b₁.
-    from-bind (each (λ q. templateHead (q .bytes)) (pieces n s (recordEnd s i))) _ us b₁ λ vs a₂ b₂.
-    subst (λ z. TRanged i (piecesEnd n s (recordEnd s i)) (templatesOf hs z (record { place = i; bytes = part s i (recordEnd s i) } ∷ pieces n s (recordEnd s i)))) (some-inj b₂) (
+templates-ranged : (hs : List Head) (s : List ℕ) (n i : ℕ) → T (all (λ q. templateOk (q .bytes)) (pieces n s i)) → i ≤ length s → TRanged i (piecesEnd n s i) (map (templateOf hs) (pieces n s i))
+unfolding pieces piecesEnd all templateOf TRanged
+templates-ranged hs s zero i t l = omega arith
+templates-ranged hs s (suc n) i t l =
+    let q : Piece = record { place = i; bytes = part s i (recordEnd s i) } in (
       recordEnd s i,
-      subst (λ z. Ranged i z (bodyOf hs (record { place = i; bytes = part s i (recordEnd s i) }))) (omega (arith, end-from s i, part-length s i (recordEnd s i) (end-within s i))) (body-within hs (record { place = i; bytes = part s i (recordEnd s i) })),
-      templates-ranged hs s n (recordEnd s i) vs a₂ (end-within s i),
-      head-params (part s i (recordEnd s i)) h a₁,
+      subst (λ z. Ranged i z (bodyOf hs q)) (omega (arith, end-from s i, part-length s i (recordEnd s i) (end-within s i))) (body-within hs q),
+      templates-ranged hs s n (recordEnd s i) (T-right (templateOk (part s i (recordEnd s i))) _ t) (end-within s i),
+      head-params (part s i (recordEnd s i)) (T-left (templateOk (part s i (recordEnd s i))) _ t),
     )
 
 pieces-within : (s : List ℕ) (n i : ℕ) → i ≤ length s → piecesEnd n s i ≤ length s
@@ -158,6 +151,14 @@ some-within s zero i l = absurd (omega arith)
 some-within s (suc n) i l = pieces-within s n (recordEnd s i) (end-within s i)
 
 -- ---- what decoding gives
+pub decode-is : {C : Type 0} (s : List ℕ) (a : Agreement) → decode s ≡ some a → (T (wellFormed s) → agreementOf s ≡ a → C) → C
+unfolding decode
+decode-is {C = C} s a e k = go (wellFormed s) refl e
+  where
+    go : (b : Bool) → wellFormed s ≡ b → _≡_ {A = Option Agreement} (elim b [ true ↦ some (agreementOf s) | false ↦ none ]) (some a) → C
+    go true p q = k (subst T (sym p) tt) (some-inj q)
+    go false p q = let z : _≡_ {A = ℕ} 0 1 = cc in absurd (omega arith)
+
 pub record Decoded (s : List ℕ) (a : Agreement) : Type 0 where
   pub start : a .start ≡ le32 s 4
   pub few : a .parties ≤ 16
@@ -166,23 +167,49 @@ pub record Decoded (s : List ℕ) (a : Agreement) : Type 0 where
   pub templates : TRanged lo mid (a .templates)
   pub main : Ranged mid (length s) (a .main)
 
+-- the tests of `wellFormed`, each by itself
+pub record WellFormed (s : List ℕ) : Type 0 where
+  pub kind : T (eqb (kindNumber s) 1)
+  pub parties : T (between 1 16 (byte s 8))
+  pub readings : T (between 1 16 (byte s 9))
+  pub templates : T (leb (byte s 10) 32)
+  pub readingsOk : T (all (λ q. readingTypeOk (q .bytes)) (readingPieces s))
+  pub templatesOk : T (all (λ q. templateOk (q .bytes)) (templatePieces s))
+  pub main : T (whole (mainOf s))
+  pub bodies : T (all (λ q. whole (bodyOf (headsOf s) q)) (templatePieces s))
+
+pub well-formed : (s : List ℕ) → T (wellFormed s) → WellFormed s
+unfolding wellFormed countsOk
+well-formed s t =
+    let a = eqb (kindNumber s) 1 in
+    let p = between 1 16 (byte s 8) in
+    let r = between 1 16 (byte s 9) in
+    let n = leb (byte s 10) 32 in
+    let rs = all (λ q. readingTypeOk (q .bytes)) (readingPieces s) in
+    let ts = all (λ q. templateOk (q .bytes)) (templatePieces s) in
+    let m = whole (mainOf s) in
+    let bs = all (λ q. whole (bodyOf (headsOf s) q)) (templatePieces s) in
+    both-true (a && (p && r && n) && rs && ts && m) bs t λ t₁ h₈.
+    both-true (a && (p && r && n) && rs && ts) m t₁ λ t₂ h₇.
+    both-true (a && (p && r && n) && rs) ts t₂ λ t₃ h₆.
+    both-true (a && (p && r && n)) rs t₃ λ t₄ h₅.
+    both-true a (p && r && n) t₄ λ h₁ t₅.
+    both-true (p && r) n t₅ λ t₆ h₄.
+    both-true p r t₆ λ h₂ h₃.
+    record { kind = h₁; parties = h₂; readings = h₃; templates = h₄; readingsOk = h₅; templatesOk = h₆; main = h₇; bodies = h₈ }
+
 pub decoded : (s : List ℕ) (a : Agreement) → decode s ≡ some a → Decoded s a
-unfolding decode between
-decoded s a e =
-    from-need (eqb (kindNumber s) 1) _ a e λ t₁ b₁.
-    from-need (between 1 16 (byte s 8) && between 1 16 (byte s 9) && leb (byte s 10) 32) _ a b₁ λ t₂ b₂.
-    from-bind (each (λ q. readingType (q .bytes)) (pieces (byte s 9) s 11)) _ a b₂ λ rs a₃ b₃.
-    let i = piecesEnd (byte s 9) s 11 in
-    from-bind (each (λ q. templateHead (q .bytes)) (pieces (byte s 10) s i)) _ a b₃ λ hs a₄ b₄.
-    let m = piecesEnd (byte s 10) s i in
-    from-need (whole (clause hs 23 m (part s m (length s))) && all wholeTemplate (templatesOf hs hs (pieces (byte s 10) s i))) _ a b₄ λ t₅ b₅.
-    let counts = T-left (between 1 16 (byte s 8) && between 1 16 (byte s 9)) (leb (byte s 10) 32) t₂ in
-    let in-s : i ≤ length s = some-within s (byte s 9) 11 (leb→le 1 (byte s 9) (T-left (leb 1 (byte s 9)) _ (T-right (between 1 16 (byte s 8)) (between 1 16 (byte s 9)) counts))) in
-    subst (λ z. Decoded s z) (some-inj b₅) (record {
+unfolding agreementOf mainOf mainPlace templatesPlace templatePieces between
+decoded s a e = decode-is s a e λ t same.
+    let w = well-formed s t in
+    let i = templatesPlace s in
+    let m = mainPlace s in
+    let in-s : i ≤ length s = some-within s (byte s 9) 11 (leb→le 1 (byte s 9) (T-left (leb 1 (byte s 9)) _ (w .readings))) in
+    subst (λ z. Decoded s z) same (record {
       start = refl;
-      few = leb→le (byte s 8) 16 (T-right (leb 1 (byte s 8)) _ (T-left (between 1 16 (byte s 8)) (between 1 16 (byte s 9)) counts));
+      few = leb→le (byte s 8) 16 (T-right (leb 1 (byte s 8)) _ (w .parties));
       lo = i;
       mid = m;
-      templates = templates-ranged hs s (byte s 10) i hs a₄ in-s;
-      main = subst (λ z. Ranged m z (clause hs 23 m (part s m (length s)))) (omega (arith, part-length s m (length s) (omega arith), pieces-within s (byte s 10) i in-s)) (clause-ranged hs 23 m (part s m (length s)));
+      templates = templates-ranged (headsOf s) s (byte s 10) i (w .templatesOk) in-s;
+      main = subst (λ z. Ranged m z (mainOf s)) (omega (arith, part-length s m (length s) (omega arith), pieces-within s (byte s 10) i in-s)) (clause-ranged (headsOf s) 23 m (part s m (length s)));
     })

@@ -26,7 +26,6 @@ use Rattle.soundness.proofs.Times.{later-from, later-to, remaining-rang
 use Rattle.soundness.proofs.Good.{Good, Ok, Placed, SightOk, good-sub, joined-good}
 use Rattle.soundness.proofs.Walks.{Fair, StepGood, blamed-ok, bool-typed, good-bind, num-typed}
 use Rattle.soundness.proofs.Activation.{activate-good, activating-good, during-good, heads-declared}
-use Rattle.soundness.proofs.Checked.{fair}
 
 -- a reading's values have the types of its reading type
 unfoldable pub ReadingOk : Agreement → Reading → Type 0

@@ -12,7 +12,7 @@ use lib.ListN.{length}
 use Rattle.csl.specs.Lists.{_>>=_, all, at, orNil}
 use Rattle.csl.specs.Numbers.{inRange}
 use Rattle.csl.specs.Syntax.{Agreement, Clause, Expr, Head, Template, Ty, Wait, badClause, choice, fulfilled, if, instance, join, number, obligation, truth}
-use Rattle.csl.specs.Typing.{blameOk, hasType, haveTypes, headsIn, joinOk, namesOf, readingOfType, typeClause, typeExpr}
+use Rattle.csl.specs.Typing.{blameOk, hasType, haveTypes, headsIn, joinOk, namesOf, readingOfType, typeClause, typeExpr, typed}
 use Rattle.csl.specs.Guards.{guardedIn}
 use Rattle.csl.specs.Values.{Val, asBool, asNum, bool, eval, evalBool, evalNum, evals, num}
 use Rattle.csl.specs.Outcomes.{Outcome, Sight, orStuck}
