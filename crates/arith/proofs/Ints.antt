@@ -6,10 +6,10 @@ use native.Mathlib.Nat.{le-refl}
 use native.Mathlib.Omega.{arith}
 use lib.IntN.{ℤ, pos, negsuc, negℤ, natAbs, subℕ, _+ℤ_, _-ℤ_, _*ℤ_}
 use lib.Dec.{T, ltb, eqb}
-use lib.Signed.{mag, ltZ, quotZ, nonNeg, _≤ℤ_, yes-nonNeg, pos-natAbs, natAbs-le}
-use borrow.Author.Tests.{ltb-true, eqb-true, eqb-false, eq-eqb, ne-eqb}
+use lib.Signed.{mag, quotZ, nonNeg, _≤ℤ_, yes-nonNeg, pos-natAbs, natAbs-le}
+use borrow.Author.Tests.{ltb-true, ltb-false, eqb-true, eqb-false, eq-eqb, ne-eqb}
 use mir.Syntax.{w64}
-use mir.Val.{Fits, SFits, toZ, ofZ}
+use mir.Val.{Fits, SFits, sel, toZ, ofZ}
 use mir.ValLaws.{toZ-ofZ}
 use Rattle.csl.specs.Numbers.{eqZ}
 
@@ -61,6 +61,15 @@ small {z} h = record { sfits = omega (arith, mag-abs z) }
 -- what the machine reads back from the bits of z
 abbrev pub seen : ℤ → ℤ
 seen z = toZ w64 (ofZ w64 z)
+
+-- at whatever z, they are no larger
+pub abs-seen : (z : ℤ) → natAbs (seen z) ≤ natAbs z
+abs-seen (pos n) = by (λ t. natAbs (sel t (pos n) (negsuc (2 ^ 64 - suc n))) ≤ n) (ltb n (2 ^ 63))
+    (λ e. le-refl n) (λ e. omega (arith, ltb-false n (2 ^ 63) e))
+abs-seen (negsuc n) =
+    let m : ℕ = 2 ^ 64 - suc n in
+    by (λ t. natAbs (sel t (pos m) (negsuc (2 ^ 64 - suc m))) ≤ suc n) (ltb m (2 ^ 63))
+    (λ e. omega (arith, ltb-true m (2 ^ 63) e)) (λ e. omega (arith, ltb-false m (2 ^ 63) e))
 
 pub read : {z : ℤ} → SFits w64 z → seen z ≡ z
 read {z} h = toZ-ofZ w64 z h

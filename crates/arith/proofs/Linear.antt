@@ -1,16 +1,15 @@
 -- Linear arithmetic on integers, by omega. An integer z is up z - dn z, of which one is 0; what is said of integers is said of those.
-use mathlib.Core.Path.{_≡_, refl, sym, ap, _∙_, subst}
+use mathlib.Core.Path.{_≡_, refl, sym, ap, subst}
 use mathlib.Core.Bool.{Bool, true, false, cond}
-use Prim.Native.Nat.{ℕ, zero, suc, _+_, _-_, _*_, _/_, _^_, _≤_, _<_, min}
+use Prim.Native.Nat.{ℕ, zero, suc, _+_, _-_, _≤_, _<_, min}
 use native.Mathlib.Omega.{arith}
-use lib.IntN.{ℤ, pos, negsuc, negℤ, natAbs, subℕ, _+ℤ_, _-ℤ_, _*ℤ_, sucℤ, predℤ}
-use lib.Dec.{T, ltb, leb, eqb, lit≤, ltb→lt, lt→ltb, leb→le, le→leb}
+use lib.IntN.{ℤ, pos, negsuc, negℤ, natAbs, subℕ, _+ℤ_, _-ℤ_}
+use lib.Dec.{T, ltb, ltb→lt, lt→ltb, leb→le, le→leb}
 use lib.Signed.{mag, ltZ, leZ, _<ℤ_, _≤ℤ_}
-use borrow.Author.Tests.{ltb-true, ltb-false, leb-true, leb-false}
+use borrow.Author.Tests.{ltb-true, ltb-false}
 use mir.Syntax.{w64}
 use mir.Val.{SFits}
-use Rattle.csl.specs.Numbers.{Held}
-use Rattle.arith.proofs.Ints.{by}
+use Rattle.arith.proofs.Ints.{by, seen, read}
 
 -- z where it is above 0, and -z where it is below
 unfoldable pub up : ℤ → ℕ
@@ -141,4 +140,8 @@ to-eq (pos a) (negsuc b) e = absurd (omega arith)
 to-eq (negsuc a) (pos b) e = absurd (omega arith)
 to-eq (negsuc a) (negsuc b) e = ap negsuc (omega arith)
 
-pub ruleset ints = (arith, lt-fact, le-fact, lt-goal, le-goal, lt-true, lt-false, true-lt, false-lt, eq-parts, to-eq)
+-- what the machine reads back from the bits of a number that fits
+pub seen-parts : {z : ℤ} → SFits w64 z → up (seen z) + dn z ≡ up z + dn (seen z)
+seen-parts {z} h = eq-parts (seen z) z (read h)
+
+pub ruleset ints = (arith, lt-fact, le-fact, lt-goal, le-goal, lt-true, lt-false, true-lt, false-lt, eq-parts, to-eq, seen-parts)

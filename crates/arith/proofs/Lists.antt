@@ -1,13 +1,13 @@
 -- Parts of a list, a list filled from the front, three cells set in a row.
 use mathlib.Core.Path.{_≡_, refl, sym, ap, _∙_}
 use mathlib.Core.List.{List, [], _∷_, _++_, append-nil, append-assoc}
-use Prim.Native.Nat.{ℕ, zero, suc, _+_, _-_, _<_, _≤_, min}
+use Prim.Native.Nat.{ℕ, zero, suc, _+_, _-_, _<_, _≤_}
 use native.Mathlib.Nat.{not-suc-le-zero, le-of-suc-le-suc}
 use native.Mathlib.Numerals.{add-one}
 use native.Mathlib.Omega.{arith}
 use lib.ListN.{length, getD, set, take, drop, replicate, length-take, length-drop}
-use lib.Seq.{sets, sets-eq, drop-length, getD-take, getD-drop, take-take, take-nil, take-all, drop-drop}
-use borrow.Rule.Slice.PartMut.{midOf, putMid, post-is, mid-len}
+use lib.Seq.{sets-eq, drop-length, getD-take, getD-drop, take-take, take-nil, take-all, drop-drop}
+use borrow.Rule.Slice.PartMut.{putMid, post-is}
 
 module _ {A : Type 0} where
   -- ---- `take (e - a) (drop a l)` is what `&l[a..e]` denotes

@@ -1,17 +1,18 @@
 -- The laws of the language's numbers. What holds of all four operations is one law with the operation as a parameter.
 use mathlib.Core.Path.{_≡_, refl, sym, ap, _∙_, subst}
-use mathlib.Core.Bool.{Bool, true, false, cond}
-use Prim.Native.Nat.{ℕ, zero, suc, _+_, _*_, _/_, _≤_, _<_, max}
+use mathlib.Core.Bool.{true, false, cond}
+use Prim.Native.Nat.{ℕ, _+_, _≤_, _<_, max}
 use native.Mathlib.Nat.{le-refl, mul-le-mul, div-le-self, div-zero}
 use native.Mathlib.Omega.{arith}
 use lib.IntN.{ℤ, pos, negsuc, natAbs, _+ℤ_, _-ℤ_, _*ℤ_}
-use lib.Dec.{T, leb, lit≤}
+use lib.Dec.{T, leb, lit≤, leb→le, le→leb}
 use lib.Signed.{ltZ, quotZ, _≤ℤ_}
-use borrow.Author.Tests.{leb-true, leb-false, le-leb, lt-leb, ltb-true, ltb-false}
+use borrow.Author.Tests.{leb-true, leb-false, le-leb, ltb-true, ltb-false}
 use mir.Syntax.{w64}
 use mir.Val.{SFits, ofZ}
 use Rattle.csl.specs.Numbers.{Held, Arithmetic, plus, minus, times, quot, top, bottom, limit, held, inRange, quotient, calculate, laterOf}
-use Rattle.arith.proofs.Ints.{by, abs-add, abs-minus, abs-mul, abs-quot, small, seen, read, nought, some-bits}
+use Rattle.arith.specs.Within.{Within, far}
+use Rattle.arith.proofs.Ints.{by, abs-add, abs-minus, abs-mul, abs-quot, small, seen, abs-seen, read, nought, some-bits}
 use Rattle.arith.proofs.Linear.{ints, parts, up, dn, lt-false}
 
 -- ---- in range, as a test and as a fact
@@ -29,6 +30,28 @@ held-not z e h = omega (arith, leb-false (natAbs z) limit e)
 
 pub held-fits : {z : ℤ} → Held z → SFits w64 z
 held-fits h = small (omega arith)
+
+-- ---- `omega sizes` shows `Within n (seen z)`, from what is known of the sizes of numbers and of what the machine reads back
+pub within-goal : (n : ℕ) (z : ℤ) → natAbs z ≤ n → Within n z
+within-goal n z h = record { within = le→leb (natAbs z) n h }
+
+pub seen-goal : (n : ℕ) (z : ℤ) → natAbs z ≤ n → Within n (seen z)
+seen-goal n z h = within-goal n (seen z) (omega (arith, abs-seen z))
+
+-- omega applies one rule to a hypothesis: this one is for the field of `Within`, the next for the whole
+pub test-fact : (a n : ℕ) → T (leb a n) → a ≤ n
+test-fact a n t = leb→le a n t
+
+pub within-seen : {n : ℕ} {z : ℤ} → Within n z → natAbs (seen z) ≤ n
+within-seen {n} {z} h = omega (arith, leb→le (natAbs z) n (h .within), abs-seen z)
+
+pub held-seen : {z : ℤ} → Held z → natAbs (seen z) ≤ limit
+held-seen {z} h = omega (arith, abs-seen z)
+
+pub fits-seen : {z : ℤ} → SFits w64 z → natAbs (seen z) ≡ natAbs z
+fits-seen h = ap natAbs (read h)
+
+pub ruleset sizes = (arith, test-fact, within-seen, held-seen, fits-seen, seen-goal)
 
 -- ---- what `held` gives is held, and what is held stays
 pub held-held : (z : ℤ) → Held (held z)
@@ -64,24 +87,24 @@ module _ (o : Arithmetic) {a b : ℤ} (p : SFits w64 a) (q : SFits w64 b) (r : S
   given = rw (read p, read q) (read r)
 
 -- where the size of the result is at most the sum of the sizes, as of a sum and a difference
-module _ (o : Arithmetic) (size : (a b : ℤ) → natAbs (exactly o a b) ≤ natAbs a + natAbs b) (a b : ℤ) (h : (natAbs a ≤ 1_000_000_000_000_000) × (natAbs b ≤ 1_000_000_000_000_000)) where
+module _ (o : Arithmetic) (size : (a b : ℤ) → natAbs (exactly o a b) ≤ natAbs a + natAbs b) (a b : ℤ) (h : Within far a × Within far b) where
   fits : SFits w64 (exactly o a b)
-  fits = small (omega (arith, size a b))
+  fits = small (omega (sizes, size a b))
 
   pub exact-asked : SFits w64 (exactly o (seen a) (seen b))
-  exact-asked = asked o (small (omega arith)) (small (omega arith)) fits
+  exact-asked = asked o (small (omega sizes)) (small (omega sizes)) fits
 
-  pub exact-answer : (seen (exactly o (seen a) (seen b)) ≡ exactly o a b) × (natAbs (seen (exactly o (seen a) (seen b))) ≤ natAbs a + natAbs b)
-  exact-answer = let e = given o (small (omega arith)) (small (omega arith)) fits in (e, rw e (size a b))
+  pub exact-answer : (seen (exactly o (seen a) (seen b)) ≡ exactly o a b) × Within (natAbs a + natAbs b) (seen (exactly o (seen a) (seen b)))
+  exact-answer = let e = given o (small (omega sizes)) (small (omega sizes)) fits in (e, rw e (within-goal (natAbs a + natAbs b) (exactly o a b) (size a b)))
 
 quot-size : (a b : ℤ) → natAbs (quotZ a b) ≤ natAbs a
 quot-size a b = omega (arith, abs-quot a b, div-le-self (natAbs a) (natAbs b))
 
-sizes : (o : Arithmetic) {a b : ℤ} → Held a × Held b → natAbs (exactly o a b) ≤ 1_000_000_000_000_000_000
-sizes plus {a} {b} h = omega (arith, abs-add a b)
-sizes minus {a} {b} h = omega (arith, abs-minus a b)
-sizes times {a} {b} h = rw abs-mul (mul-le-mul (h .0 .within) (h .1 .within))
-sizes quot {a} {b} h = omega (arith, quot-size a b)
+bound : (o : Arithmetic) {a b : ℤ} → Held a × Held b → natAbs (exactly o a b) ≤ 1_000_000_000_000_000_000
+bound plus {a} {b} h = omega (arith, abs-add a b)
+bound minus {a} {b} h = omega (arith, abs-minus a b)
+bound times {a} {b} h = rw abs-mul (mul-le-mul (h .0 .within) (h .1 .within))
+bound quot {a} {b} h = omega (arith, quot-size a b)
 
 quotient-is : (a b : ℤ) → quotZ a b ≡ quotient a b
 unfolding quotient
@@ -112,10 +135,10 @@ Answer o a b r = (r ≡ calculate o a b) × Held r
 
 module _ (o : Arithmetic) {a b : ℤ} (h : Held a × Held b) where
   pub held-asked : SFits w64 (exactly o (seen a) (seen b))
-  held-asked = asked o (held-fits (h .0)) (held-fits (h .1)) (small (sizes o h))
+  held-asked = asked o (held-fits (h .0)) (held-fits (h .1)) (small (bound o h))
 
   pub held-given : seen (exactly o (seen a) (seen b)) ≡ exactly o a b
-  held-given = given o (held-fits (h .0)) (held-fits (h .1)) (small (sizes o h))
+  held-given = given o (held-fits (h .0)) (held-fits (h .1)) (small (bound o h))
 
   pub answer : {r : ℤ} → r ≡ calculate o a b → Answer o a b r
   answer e = (e, rw e (calculate-held o (h .0) (h .1)))

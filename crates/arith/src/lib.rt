@@ -1,11 +1,12 @@
 // Arithmetic on the language's numbers, and integers read out of bytes.
 ghost use mathlib.Core.Path.{_≡_};
-ghost use Prim.Native.Nat.{ℕ, _+_, _≤_, _<_};
+ghost use Prim.Native.Nat.{ℕ, _+_, _≤_, _<_, min, max};
 ghost use lib.IntN.{pos, natAbs, _+ℤ_, _-ℤ_};
 ghost use lib.Signed.{ltZ};
 ghost use lib.ListN.{length};
 ghost use Rattle.csl.specs.Numbers as numbers;
 ghost use Rattle.csl.specs.Numbers.{Held, calculate, plus, minus, times, quot, eqZ, laterOf};
+ghost use Rattle.arith.specs.Within.{Within, far};
 ghost use Rattle.csl.specs.Bytes as bytes;
 ghost use Rattle.csl.specs.Bytes.{le16, le32, isRecord, kindNumber, recordEnd};
 
@@ -53,16 +54,16 @@ pub fn quotient(a: i64, b: i64) -> i64
 
 // A sum that is not held: a time and a number of the language.
 pub fn exact_sum(a: i64, b: i64) -> i64
-    requires { ⌜ (natAbs a ≤ 1_000_000_000_000_000) × (natAbs b ≤ 1_000_000_000_000_000) ⌝ }
-    ensures { λ r. ⌜ (r ≡ a +ℤ b) × (natAbs r ≤ natAbs a + natAbs b) ⌝ }
+    requires { ⌜ Within far a × Within far b ⌝ }
+    ensures { λ r. ⌜ (r ≡ a +ℤ b) × Within (natAbs a + natAbs b) r ⌝ }
 {
     a + b
 }
 
 // A difference that is not held.
 pub fn exact_difference(a: i64, b: i64) -> i64
-    requires { ⌜ (natAbs a ≤ 1_000_000_000_000_000) × (natAbs b ≤ 1_000_000_000_000_000) ⌝ }
-    ensures { λ r. ⌜ (r ≡ a -ℤ b) × (natAbs r ≤ natAbs a + natAbs b) ⌝ }
+    requires { ⌜ Within far a × Within far b ⌝ }
+    ensures { λ r. ⌜ (r ≡ a -ℤ b) × Within (natAbs a + natAbs b) r ⌝ }
 {
     a - b
 }
@@ -81,7 +82,7 @@ pub fn equal(a: i64, b: i64) -> bool
 
 // The later of a time, which is not below 0, and the end of a window, which may be.
 pub fn later(time: i64, last: i64) -> i64
-    ensures { λ r. ⌜ ((n : ℕ) → time ≡ pos n → r ≡ pos (laterOf n last)) ⌝ }
+    ensures { λ r. ⌜ ((n : ℕ) → time ≡ pos n → r ≡ pos (laterOf n last)) × Within (max (natAbs time) (natAbs last)) r ⌝ }
 {
     if time < last { last } else { time }
 }
@@ -134,7 +135,7 @@ pub fn signed32(s: &[u8], i: usize) -> i64
 
 // Where the record at a ends: as its length says, and not beyond s.
 pub fn record_end(s: &[u8], a: usize) -> usize
-    ensures { λ r. ⌜ (r ≡ recordEnd (now (s .entry)) a) × (r ≤ length (now (s .entry))) × (a ≤ length (now (s .entry)) → a ≤ r) ⌝ }
+    ensures { λ r. ⌜ (r ≡ recordEnd (now (s .entry)) a) × (r ≤ length (now (s .entry))) × (min a (length (now (s .entry))) ≤ r) ⌝ }
 {
     if a >= s.len() {
         return s.len();

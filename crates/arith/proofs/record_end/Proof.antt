@@ -6,15 +6,15 @@ use Rattle.arith.proofs.record_end.Tie as tie
 
 returns : tie.Need-returns
 unfolding recordEnd
-returns c = (omega arith, omega arith, λ h. omega arith)
+returns c = (omega arith, omega arith, omega arith)
 
 returns-2 : tie.Need-returns-2
 unfolding recordEnd
-returns-2 c = (omega arith, omega arith, λ h. omega arith)
+returns-2 c = (omega arith, omega arith, omega arith)
 
 returns-3 : tie.Need-returns-3
 unfolding recordEnd
-returns-3 c = (omega arith, omega arith, λ h. omega arith)
+returns-3 c = (omega arith, omega arith, omega arith)
 
 pub record-end-spec : {M : Type 1} → statement M
 record-end-spec =
