@@ -1,0 +1,7 @@
+-- What the proofs of several crates use.
+pub mod Ints
+pub mod Linear
+pub mod Numbers
+pub mod Lists
+pub mod Bytes
+pub mod Conds

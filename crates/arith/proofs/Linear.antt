@@ -1,0 +1,147 @@
+-- Linear arithmetic on integers, by omega. An integer z is up z - dn z, of which one is 0; what is said of integers is said of those.
+use mathlib.Core.Path.{_≡_, refl, sym, ap, subst}
+use mathlib.Core.Bool.{Bool, true, false, cond}
+use Prim.Native.Nat.{ℕ, zero, suc, _+_, _-_, _≤_, _<_, min}
+use native.Mathlib.Omega.{arith}
+use lib.IntN.{ℤ, pos, negsuc, negℤ, natAbs, subℕ, _+ℤ_, _-ℤ_}
+use lib.Dec.{T, ltb, ltb→lt, lt→ltb, leb→le, le→leb}
+use lib.Signed.{mag, ltZ, leZ, _<ℤ_, _≤ℤ_}
+use borrow.Author.Tests.{ltb-true, ltb-false}
+use mir.Syntax.{w64}
+use mir.Val.{SFits}
+use Rattle.arith.proofs.Ints.{by, seen, read}
+
+-- z where it is above 0, and -z where it is below
+unfoldable pub up : ℤ → ℕ
+up (pos n) = n
+up (negsuc n) = 0
+
+unfoldable pub dn : ℤ → ℕ
+dn (pos n) = 0
+dn (negsuc n) = suc n
+
+pub record Parts (z : ℤ) : Type 0 where
+  pub one : min (up z) (dn z) ≡ 0
+  pub abs : natAbs z ≡ up z + dn z
+  pub size : mag z ≤ up z + dn z
+
+-- what is known of any integer
+pub parts : (z : ℤ) → Parts z
+unfolding up dn
+parts (pos n) = record { one = omega arith; abs = omega arith; size = omega arith }
+parts (negsuc n) = record { one = omega arith; abs = omega arith; size = omega arith }
+
+pub up-pos : (n : ℕ) → up (pos n) ≡ n
+unfolding up
+up-pos n = refl
+
+pub dn-pos : (n : ℕ) → dn (pos n) ≡ 0
+unfolding dn
+dn-pos n = refl
+
+diff : (a b : ℕ) → up (subℕ a b) + b ≡ dn (subℕ a b) + a
+unfolding up dn
+diff a b = by (λ t. up (cond t (negsuc (b - suc a)) (pos (a - b))) + b ≡ dn (cond t (negsuc (b - suc a)) (pos (a - b))) + a) (ltb a b)
+    (λ e. omega (arith, ltb-true a b e)) (λ e. omega (arith, ltb-false a b e))
+
+pub sum : (a b : ℤ) → up (a +ℤ b) + dn a + dn b ≡ dn (a +ℤ b) + up a + up b
+unfolding up dn
+sum (pos a) (pos b) = omega arith
+sum (pos a) (negsuc b) = omega (arith, diff a (suc b))
+sum (negsuc a) (pos b) = omega (arith, diff b (suc a))
+sum (negsuc a) (negsuc b) = omega arith
+
+pub up-neg : (z : ℤ) → up (negℤ z) ≡ dn z
+unfolding up dn
+up-neg (pos zero) = refl
+up-neg (pos (suc n)) = refl
+up-neg (negsuc n) = refl
+
+pub dn-neg : (z : ℤ) → dn (negℤ z) ≡ up z
+unfolding up dn
+dn-neg (pos zero) = refl
+dn-neg (pos (suc n)) = refl
+dn-neg (negsuc n) = refl
+
+pub difference : (a b : ℤ) → up (a -ℤ b) + dn a + up b ≡ dn (a -ℤ b) + up a + dn b
+difference a b = omega (arith, sum a (negℤ b), up-neg b, dn-neg b)
+
+-- ---- the tests and the orders, as facts of ℕ: rules for omega
+lt-yes : (a b : ℤ) → T (ltZ a b) → up a + dn b < up b + dn a
+unfolding up dn
+lt-yes (pos a) (pos b) e = omega (arith, ltb→lt a b e)
+lt-yes (pos a) (negsuc b) e = absurd e
+lt-yes (negsuc a) (pos b) e = omega arith
+lt-yes (negsuc a) (negsuc b) e = omega (arith, ltb→lt b a e)
+
+le-yes : (a b : ℤ) → T (leZ a b) → up a + dn b ≤ up b + dn a
+unfolding up dn
+le-yes (pos a) (pos b) e = omega (arith, leb→le a b e)
+le-yes (pos a) (negsuc b) e = absurd e
+le-yes (negsuc a) (pos b) e = omega arith
+le-yes (negsuc a) (negsuc b) e = omega (arith, leb→le b a e)
+
+yes-lt : (a b : ℤ) → up a + dn b < up b + dn a → T (ltZ a b)
+unfolding up dn
+yes-lt (pos a) (pos b) h = lt→ltb a b (omega arith)
+yes-lt (pos a) (negsuc b) h = absurd (omega arith)
+yes-lt (negsuc a) (pos b) h = tt
+yes-lt (negsuc a) (negsuc b) h = lt→ltb b a (omega arith)
+
+yes-le : (a b : ℤ) → up a + dn b ≤ up b + dn a → T (leZ a b)
+unfolding up dn
+yes-le (pos a) (pos b) h = le→leb a b (omega arith)
+yes-le (pos a) (negsuc b) h = absurd (omega arith)
+yes-le (negsuc a) (pos b) h = tt
+yes-le (negsuc a) (negsuc b) h = le→leb b a (omega arith)
+
+is-true : (t : Bool) → T t → t ≡ true
+is-true true h = refl
+is-true false h = absurd h
+
+is-false : (t : Bool) → (T t → ⊥) → t ≡ false
+is-false true h = absurd (h tt)
+is-false false h = refl
+
+pub lt-fact : (a b : ℤ) → a <ℤ b → up a + dn b < up b + dn a
+lt-fact a b h = lt-yes a b (h .lt)
+
+pub le-fact : (a b : ℤ) → a ≤ℤ b → up a + dn b ≤ up b + dn a
+le-fact a b h = le-yes a b (h .le)
+
+pub lt-goal : (a b : ℤ) → up a + dn b < up b + dn a → a <ℤ b
+lt-goal a b h = record { lt = yes-lt a b h }
+
+pub le-goal : (a b : ℤ) → up a + dn b ≤ up b + dn a → a ≤ℤ b
+le-goal a b h = record { le = yes-le a b h }
+
+pub lt-true : (a b : ℤ) → ltZ a b ≡ true → up a + dn b < up b + dn a
+lt-true a b e = lt-yes a b (subst T (sym e) tt)
+
+not-lt : {m n : ℕ} → (m < n → ⊥) → n ≤ m
+not-lt {m} {n} f = by (λ t. n ≤ m) (ltb m n) (λ e. absurd (f (ltb-true m n e))) (λ e. ltb-false m n e)
+
+pub lt-false : (a b : ℤ) → ltZ a b ≡ false → up b + dn a ≤ up a + dn b
+lt-false a b e = not-lt (λ h. subst T e (yes-lt a b h))
+
+pub true-lt : (a b : ℤ) → up a + dn b < up b + dn a → ltZ a b ≡ true
+true-lt a b h = is-true (ltZ a b) (yes-lt a b h)
+
+pub false-lt : (a b : ℤ) → up b + dn a ≤ up a + dn b → ltZ a b ≡ false
+false-lt a b h = is-false (ltZ a b) (λ t. let k = lt-yes a b t in omega arith)
+
+pub eq-parts : (a b : ℤ) → a ≡ b → up a + dn b ≡ up b + dn a
+eq-parts a b e = rw e
+
+pub to-eq : (a b : ℤ) → up a + dn b ≡ up b + dn a → a ≡ b
+unfolding up dn
+to-eq (pos a) (pos b) e = ap pos (omega arith)
+to-eq (pos a) (negsuc b) e = absurd (omega arith)
+to-eq (negsuc a) (pos b) e = absurd (omega arith)
+to-eq (negsuc a) (negsuc b) e = ap negsuc (omega arith)
+
+-- what the machine reads back from the bits of a number that fits
+pub seen-parts : {z : ℤ} → SFits w64 z → up (seen z) + dn z ≡ up z + dn (seen z)
+seen-parts {z} h = eq-parts (seen z) z (read h)
+
+pub ruleset ints = (arith, lt-fact, le-fact, lt-goal, le-goal, lt-true, lt-false, true-lt, false-lt, eq-parts, to-eq, seen-parts)

@@ -1,0 +1,188 @@
+-- The laws of the language's numbers. What holds of all four operations is one law with the operation as a parameter.
+use mathlib.Core.Path.{_≡_, refl, sym, ap, _∙_, subst}
+use mathlib.Core.Bool.{true, false, cond}
+use Prim.Native.Nat.{ℕ, _+_, _≤_, _<_, max}
+use native.Mathlib.Nat.{le-refl, mul-le-mul, div-le-self, div-zero}
+use native.Mathlib.Omega.{arith}
+use lib.IntN.{ℤ, pos, negsuc, natAbs, _+ℤ_, _-ℤ_, _*ℤ_}
+use lib.Dec.{T, leb, lit≤, leb→le, le→leb}
+use lib.Signed.{ltZ, quotZ, _≤ℤ_}
+use borrow.Author.Tests.{leb-true, leb-false, le-leb, ltb-true, ltb-false}
+use mir.Syntax.{w64}
+use mir.Val.{SFits, ofZ}
+use Rattle.csl.specs.Numbers.{Held, Arithmetic, plus, minus, times, quot, top, bottom, limit, held, inRange, quotient, calculate, laterOf}
+use Rattle.arith.specs.Within.{Within, far}
+use Rattle.arith.proofs.Ints.{by, abs-add, abs-minus, abs-mul, abs-quot, small, seen, abs-seen, read, nought, some-bits}
+use Rattle.arith.proofs.Linear.{ints, parts, up, dn, lt-false}
+
+-- ---- in range, as a test and as a fact
+pub held-from : (z : ℤ) → inRange z ≡ true → Held z
+unfolding inRange
+held-from z e = record { within = leb-true (natAbs z) limit e }
+
+pub in-range : {z : ℤ} → Held z → inRange z ≡ true
+unfolding inRange
+in-range {z} h = le-leb (natAbs z) limit (h .within)
+
+pub held-not : (z : ℤ) → inRange z ≡ false → Held z → ⊥
+unfolding inRange
+held-not z e h = omega (arith, leb-false (natAbs z) limit e)
+
+pub held-fits : {z : ℤ} → Held z → SFits w64 z
+held-fits h = small (omega arith)
+
+-- ---- `omega sizes` shows `Within n (seen z)`, from what is known of the sizes of numbers and of what the machine reads back
+pub within-goal : (n : ℕ) (z : ℤ) → natAbs z ≤ n → Within n z
+within-goal n z h = record { within = le→leb (natAbs z) n h }
+
+pub seen-goal : (n : ℕ) (z : ℤ) → natAbs z ≤ n → Within n (seen z)
+seen-goal n z h = within-goal n (seen z) (omega (arith, abs-seen z))
+
+-- omega applies one rule to a hypothesis: this one is for the field of `Within`, the next for the whole
+pub test-fact : (a n : ℕ) → T (leb a n) → a ≤ n
+test-fact a n t = leb→le a n t
+
+pub within-seen : {n : ℕ} {z : ℤ} → Within n z → natAbs (seen z) ≤ n
+within-seen {n} {z} h = omega (arith, leb→le (natAbs z) n (h .within), abs-seen z)
+
+pub held-seen : {z : ℤ} → Held z → natAbs (seen z) ≤ limit
+held-seen {z} h = omega (arith, abs-seen z)
+
+pub fits-seen : {z : ℤ} → SFits w64 z → natAbs (seen z) ≡ natAbs z
+fits-seen h = ap natAbs (read h)
+
+pub ruleset sizes = (arith, test-fact, within-seen, held-seen, fits-seen, seen-goal)
+
+-- ---- what `held` gives is held, and what is held stays
+pub held-held : (z : ℤ) → Held (held z)
+unfolding held up dn
+held-held z =
+    by (λ t. Held (cond t top (cond (ltZ z bottom) bottom z))) (ltZ top z) (λ e. record { within = lit≤ tt })
+    (λ e. by (λ t. Held (cond t bottom z)) (ltZ z bottom) (λ f. record { within = lit≤ tt })
+    (λ f. record { within = omega (ints, parts z, lt-false top z e, lt-false z bottom f) }))
+
+pub held-is : (z : ℤ) {r : ℤ} → r ≡ held z → (r ≡ held z) × Held r
+held-is z e = (e, rw e (held-held z))
+
+pub held-same : {z : ℤ} → Held z → z ≡ held z
+unfolding held up dn
+held-same {z} h =
+    let e : ltZ top z ≡ false = omega (ints, parts z) in
+    let f : ltZ z bottom ≡ false = omega (ints, parts z) in
+    rw (e, f)
+
+-- ---- the four operations, before the result is held
+abbrev pub exactly : Arithmetic → ℤ → ℤ → ℤ
+exactly plus a b = a +ℤ b
+exactly minus a b = a -ℤ b
+exactly times a b = a *ℤ b
+exactly quot a b = quotZ a b
+
+-- as the machine does them: the result is asked to fit, and is read back as it is
+module _ (o : Arithmetic) {a b : ℤ} (p : SFits w64 a) (q : SFits w64 b) (r : SFits w64 (exactly o a b)) where
+  pub asked : SFits w64 (exactly o (seen a) (seen b))
+  asked = rw (read p, read q) r
+
+  pub given : seen (exactly o (seen a) (seen b)) ≡ exactly o a b
+  given = rw (read p, read q) (read r)
+
+-- where the size of the result is at most the sum of the sizes, as of a sum and a difference
+module _ (o : Arithmetic) (size : (a b : ℤ) → natAbs (exactly o a b) ≤ natAbs a + natAbs b) (a b : ℤ) (h : Within far a × Within far b) where
+  fits : SFits w64 (exactly o a b)
+  fits = small (omega (sizes, size a b))
+
+  pub exact-asked : SFits w64 (exactly o (seen a) (seen b))
+  exact-asked = asked o (small (omega sizes)) (small (omega sizes)) fits
+
+  pub exact-answer : (seen (exactly o (seen a) (seen b)) ≡ exactly o a b) × Within (natAbs a + natAbs b) (seen (exactly o (seen a) (seen b)))
+  exact-answer = let e = given o (small (omega sizes)) (small (omega sizes)) fits in (e, rw e (within-goal (natAbs a + natAbs b) (exactly o a b) (size a b)))
+
+quot-size : (a b : ℤ) → natAbs (quotZ a b) ≤ natAbs a
+quot-size a b = omega (arith, abs-quot a b, div-le-self (natAbs a) (natAbs b))
+
+bound : (o : Arithmetic) {a b : ℤ} → Held a × Held b → natAbs (exactly o a b) ≤ 1_000_000_000_000_000_000
+bound plus {a} {b} h = omega (arith, abs-add a b)
+bound minus {a} {b} h = omega (arith, abs-minus a b)
+bound times {a} {b} h = rw abs-mul (mul-le-mul (h .0 .within) (h .1 .within))
+bound quot {a} {b} h = omega (arith, quot-size a b)
+
+quotient-is : (a b : ℤ) → quotZ a b ≡ quotient a b
+unfolding quotient
+quotient-is (pos a) (pos b) = refl
+quotient-is (pos a) (negsuc b) = refl
+quotient-is (negsuc a) (pos b) = refl
+quotient-is (negsuc a) (negsuc b) = refl
+
+quotient-none : (a : ℤ) → pos 0 ≡ quotient a (pos 0)
+unfolding quotient
+quotient-none (pos a) = rw div-zero
+quotient-none (negsuc a) = rw div-zero
+
+-- of held numbers each operation is the exact one, held
+pub calculate-is : (o : Arithmetic) {a b : ℤ} → Held a × Held b → calculate o a b ≡ held (exactly o a b)
+unfolding calculate
+calculate-is plus h = refl
+calculate-is minus h = refl
+calculate-is times h = refl
+calculate-is quot {a} {b} h = sym (quotient-is a b) ∙ held-same (record { within = omega (arith, quot-size a b) })
+
+pub calculate-held : (o : Arithmetic) {a b : ℤ} → Held a → Held b → Held (calculate o a b)
+calculate-held o {a} {b} h k = rw (calculate-is o (h, k)) (held-held (exactly o a b))
+
+-- what each of the four functions ensures
+abbrev pub Answer : Arithmetic → ℤ → ℤ → ℤ → Type 0
+Answer o a b r = (r ≡ calculate o a b) × Held r
+
+module _ (o : Arithmetic) {a b : ℤ} (h : Held a × Held b) where
+  pub held-asked : SFits w64 (exactly o (seen a) (seen b))
+  held-asked = asked o (held-fits (h .0)) (held-fits (h .1)) (small (bound o h))
+
+  pub held-given : seen (exactly o (seen a) (seen b)) ≡ exactly o a b
+  held-given = given o (held-fits (h .0)) (held-fits (h .1)) (small (bound o h))
+
+  pub answer : {r : ℤ} → r ≡ calculate o a b → Answer o a b r
+  answer e = (e, rw e (calculate-held o (h .0) (h .1)))
+
+  -- what the machine computes, held by a call whose result is r
+  pub held-answer : {r : ℤ} → r ≡ held (seen (exactly o (seen a) (seen b))) → Answer o a b r
+  held-answer e = answer (e ∙ ap held held-given ∙ sym (calculate-is o h))
+
+-- ---- the quotient: the machine asks that b is not 0, and nothing need be held
+module _ {a b : ℤ} (h : Held a × Held b) where
+  pub quotient-asked : (ofZ w64 b ≡ 0 → ⊥) → (0 < ofZ w64 b) × SFits w64 (quotZ (seen a) (seen b))
+  quotient-asked f = (some-bits f, held-asked quot h)
+
+  pub quotient-answer : Answer quot a b (seen (quotZ (seen a) (seen b)))
+  unfolding calculate
+  quotient-answer = answer quot h (held-given quot h ∙ quotient-is a b)
+
+  pub quotient-nought : ofZ w64 b ≡ 0 → Answer quot a b (pos 0)
+  unfolding calculate
+  quotient-nought e = answer quot h (rw (nought (held-fits (h .1)) e) (quotient-none a))
+
+-- ---- the later of a time and the end of a window
+module _ (n : ℕ) where
+  pub later-last : (z : ℤ) → ltZ (pos n) z ≡ true → z ≡ pos (laterOf n z)
+  unfolding laterOf
+  later-last (pos m) e = ap pos (omega (arith, ltb-true n m e))
+  later-last (negsuc m) e = absurd (subst T (sym e) tt)
+
+  pub later-time : (z : ℤ) → ltZ (pos n) z ≡ false → pos n ≡ pos (laterOf n z)
+  unfolding laterOf
+  later-time (pos m) e = ap pos (omega (arith, ltb-false n m e))
+  later-time (negsuc m) e = refl
+
+  pub later-from : (z : ℤ) → n ≤ laterOf n z
+  unfolding laterOf
+  later-from (pos m) = omega arith
+  later-from (negsuc m) = le-refl n
+
+  pub later-size : (z : ℤ) → laterOf n z ≤ max n (natAbs z)
+  unfolding laterOf
+  later-size (pos m) = le-refl (max n m)
+  later-size (negsuc m) = omega arith
+
+  pub later-covers : (z : ℤ) → z ≤ℤ pos (laterOf n z)
+  unfolding laterOf up dn
+  later-covers (pos m) = omega ints
+  later-covers (negsuc m) = record { le = tt }

@@ -1,0 +1,11 @@
+use borrow.Author.Needs.{needs}
+use native.Mathlib.Omega.{arith}
+use Rattle.arith.proofs.Bytes.{byte-past}
+use Rattle.arith.proofs.byte.Statement.{statement}
+use Rattle.arith.proofs.byte.Tie as tie
+
+returns-2 : tie.Need-returns-2
+returns-2 c = omega (arith, byte-past (c .before .before .args .s .now) (c .before .before .args .i) (c .if1 .left))
+
+pub byte-spec : {M : Type 1} → statement M
+byte-spec = tie.close (tie.spec (λ c. search needs) (λ c κs. search needs) (λ c. search needs) returns-2)
