@@ -162,14 +162,14 @@ unfoldable pub readingType : List ℕ → List Ty
 readingType s = tysOf (part s 5 (length s))
 
 -- ---- "3 template: value count 0 to 8 and their types, party parameter count 0 to 4, declared parties, one clause"
+unfoldable pub bodyPlace : List ℕ → ℕ
+bodyPlace s = 8 + byte s 4
+
 unfoldable pub templateOk : List ℕ → Bool
-templateOk s = isRecord s && eqb (kindNumber s) 3 && leb (byte s 4) 8 && all isType (part s 5 (5 + byte s 4)) && leb (byte s (5 + byte s 4)) 4
+templateOk s = isRecord s && eqb (kindNumber s) 3 && leb (byte s 4) 8 && leb (bodyPlace s) (length s) && all isType (part s 5 (5 + byte s 4)) && leb (byte s (5 + byte s 4)) 4
 
 unfoldable pub templateHead : List ℕ → Head
 templateHead s = record { values = tysOf (part s 5 (5 + byte s 4)); params = byte s (5 + byte s 4); declared = members (le16 s (6 + byte s 4)) }
-
-unfoldable pub bodyPlace : List ℕ → ℕ
-bodyPlace s = 8 + byte s 4
 
 -- ---- "1 agreement: start time (4 bytes), party count 1 to 16, reading count 1 to 16, template count 0 to 32; that many records of kind 2, of kind 3, then one clause"
 -- a record within the agreement, with its byte place

@@ -127,7 +127,7 @@ tranged-le lo hi (t ∷ ts) h = omega (arith, ranged-le lo (h .0) (t .body) (h .
 
 head-params : (s : List ℕ) → T (templateOk s) → (templateHead s) .params ≤ 4
 unfolding templateOk templateHead
-head-params s t = leb→le (byte s (5 + byte s 4)) 4 (T-right (isRecord s && eqb (kindNumber s) 3 && leb (byte s 4) 8 && all isType (part s 5 (5 + byte s 4))) _ t)
+head-params s t = leb→le (byte s (5 + byte s 4)) 4 (T-right (isRecord s && eqb (kindNumber s) 3 && leb (byte s 4) 8 && leb (bodyPlace s) (length s) && all isType (part s 5 (5 + byte s 4))) _ t)
 
 templates-ranged : (hs : List Head) (s : List ℕ) (n i : ℕ) → T (all (λ q. templateOk (q .bytes)) (pieces n s i)) → i ≤ length s → TRanged i (piecesEnd n s i) (map (templateOf hs) (pieces n s i))
 unfolding pieces piecesEnd all templateOf TRanged
