@@ -13,7 +13,7 @@ use lib.Seq.{take-nil}
 use Rattle.csl.specs.Lists.{all, at}
 use Rattle.csl.specs.Bytes.{byte, isRecord, kindNumber, le16, le32, part, recordEnd}
 use Rattle.csl.specs.Syntax.{Agreement, Clause, Expr, Head, Template, badClause, fulfilled}
-use Rattle.csl.specs.Decode.{ClauseKind, Piece, agreementOf, argumentsEnd, between, bodyOf, bodyPlace, choiceKind, clause, clauseBody, clauseHead, clauseKind, countsOk, decode, expr, fulfilledKind, headsOf, ifKind, instanceKind, instanceOf, isType, joinKind, mainOf, mainPlace, noClause, obligationKind, pieces, piecesEnd, readingPieces, readingTypeOk, templateHead, templateOf, templateOk, templatePieces, templatesPlace, waitAt, waitEnd, wellFormed, whole}
+use Rattle.csl.specs.Decode.{ClauseKind, Piece, agreementOf, argumentsEnd, between, bodyOf, bodyPlace, choiceKind, clause, clauseBody, clauseHead, clauseKind, countsOk, decode, expr, fulfilledKind, headsOf, ifKind, instanceKind, instanceOf, isType, joinKind, listed, mainOf, mainPlace, noClause, obligationKind, pieces, piecesEnd, readingPieces, readingTypeOk, templateHead, templateOf, templateOk, templatePieces, templatesPlace, waitAt, waitEnd, wellFormed, whole}
 use Rattle.soundness.proofs.Inversion.{T-left, T-right, both-true, some-inj}
 use Rattle.soundness.proofs.Places.{Ranged, ranged-le, ranged-wider}
 
@@ -179,7 +179,7 @@ pub record WellFormed (s : List ℕ) : Type 0 where
   pub bodies : T (all (λ q. whole (bodyOf (headsOf s) q)) (templatePieces s))
 
 pub well-formed : (s : List ℕ) → T (wellFormed s) → WellFormed s
-unfolding wellFormed countsOk
+unfolding wellFormed listed countsOk
 well-formed s t =
     let a = eqb (kindNumber s) 1 in
     let p = between 1 16 (byte s 8) in
