@@ -2,19 +2,19 @@
 use mathlib.Core.Path.{_≡_, refl, sym, ap, subst, _∙_}
 use mathlib.Core.Bool.{Bool, true, false, cond, _&&_}
 use mathlib.Core.List.{List, [], _∷_, map}
-use mathlib.Core.Option.{Option, none, some}
+use mathlib.Core.Option.{none, some}
 use Prim.Native.Nat.{ℕ, zero, suc, _+_, _-_, _≤_, _<_, min}
 use native.Mathlib.Nat.{le-of-suc-le-suc, not-suc-le-zero}
 use native.Mathlib.Numerals.{add-one}
 use native.Mathlib.Omega.{arith}
 use lib.Dec.{T, leb, eqb, leb→le, eqb→eq}
-use lib.ListN.{length, getD, length-map}
+use lib.ListN.{length, length-map}
 use Rattle.arith.proofs.Lists.{length-part}
 use Rattle.arith.proofs.Bytes.{record-end-within, record-end-after}
 use Rattle.csl.specs.Lists.{all, at}
 use Rattle.csl.specs.Bytes.{byte, le16, part, isRecord, kindNumber, recordEnd}
-use Rattle.csl.specs.Syntax.{Ty, Head, Template, Clause}
-use Rattle.csl.specs.Decode.{Piece, piecesEnd, pieces, templatesPlace, mainPlace, readingPieces, templatePieces, headsOf, bodyPlace, bodyOf, templateOf, agreementOf, isType, tyOf, tysOf, readingTypeOk, readingType, templateOk, templateHead, waitEnd}
+use Rattle.csl.specs.Syntax.{Head}
+use Rattle.csl.specs.Decode.{Piece, piecesEnd, pieces, templatesPlace, mainPlace, readingPieces, templatePieces, headsOf, bodyPlace, templateOf, agreementOf, isType, tyOf, tysOf, readingTypeOk, readingType, templateOk, templateHead, waitEnd}
 use Rattle.csl.specs.Typing.{headsIn}
 use Rattle.records.specs.Index.{Indexed, readingPlace, templatePlace, pieceAt, headAt, firstClause}
 
@@ -154,6 +154,7 @@ heads-in s = heads-map (headsOf s) (templatePieces s)
 -- ---- a reading type that is as listed
 pub record ReadingHolds (q : List ℕ) : Type 0 where
   pub isOne : isRecord q ≡ true
+  pub kind : kindNumber q ≡ 2
   pub few : byte q 4 ≤ 4
   pub long : length q ≡ 5 + byte q 4
   pub types : T (all isType (part q 5 (length q)))
@@ -170,7 +171,7 @@ reading-holds q t =
     T-both (a && b && c) d t₁ λ t₂ h₄.
     T-both (a && b) c t₂ λ t₃ h₃.
     T-both a b t₃ λ h₁ h₂.
-    record { isOne = T-true a h₁; few = leb→le (byte q 4) 4 h₃; long = eqb→eq (length q) (5 + byte q 4) h₄; types = h₅ }
+    record { isOne = T-true a h₁; kind = eqb→eq (kindNumber q) 2 h₂; few = leb→le (byte q 4) 4 h₃; long = eqb→eq (length q) (5 + byte q 4) h₄; types = h₅ }
 
 pub reading-length : (q : List ℕ) → T (readingTypeOk q) → length (readingType q) ≡ byte q 4
 unfolding readingType tysOf
@@ -181,6 +182,7 @@ reading-length q t =
 -- ---- a template whose head is as listed
 pub record TemplateHolds (q : List ℕ) : Type 0 where
   pub isOne : isRecord q ≡ true
+  pub kind : kindNumber q ≡ 3
   pub few : byte q 4 ≤ 8
   pub long : 8 + byte q 4 ≤ length q
   pub types : T (all isType (part q 5 (5 + byte q 4)))
@@ -200,7 +202,7 @@ template-holds q t =
     T-both (a && b && c) d t₂ λ t₃ h₄.
     T-both (a && b) c t₃ λ t₄ h₃.
     T-both a b t₄ λ h₁ h₂.
-    record { isOne = T-true a h₁; few = leb→le (byte q 4) 8 h₃; long = leb→le (8 + byte q 4) (length q) h₄; types = h₅; fewParams = leb→le (byte q (5 + byte q 4)) 4 h₆ }
+    record { isOne = T-true a h₁; kind = eqb→eq (kindNumber q) 3 h₂; few = leb→le (byte q 4) 8 h₃; long = leb→le (8 + byte q 4) (length q) h₄; types = h₅; fewParams = leb→le (byte q (5 + byte q 4)) 4 h₆ }
 
 pub values-length : (q : List ℕ) → T (templateOk q) → length (templateHead q .values) ≡ byte q 4
 unfolding templateHead tysOf

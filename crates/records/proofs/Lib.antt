@@ -1,2 +1,3 @@
 pub mod Index
+mod Listed
 pub mod Trees

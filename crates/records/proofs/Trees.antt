@@ -1,17 +1,17 @@
 -- Laws for a walk over a record's tree: what the code knows at a place, and what the tree is there.
-use mathlib.Core.Path.{_≡_, refl, sym, ap, subst, _∙_}
+use mathlib.Core.Path.{_≡_, refl, sym, ap, _∙_}
 use mathlib.Core.Bool.{Bool, true, false, cond}
 use mathlib.Core.List.{List}
 use Prim.Native.Nat.{ℕ, zero, suc, _+_, _-_, _<_, _≤_}
 use native.Mathlib.Numerals.{sub-one}
 use native.Mathlib.Decide.{decLe}
 use native.Mathlib.Omega.{arith}
-use borrow.Author.Tests.{lt-ltb, le-ltb, ne-eqb, eq-eqb}
-use lib.Dec.{ltb, eqb}
+use borrow.Author.Tests.{lt-ltb, le-ltb, ne-eqb}
+use lib.Dec.{eqb}
 use lib.ListN.{length}
 use Rattle.csl.specs.Bytes.{byte, part, isRecord, kindNumber, recordEnd}
-use Rattle.csl.specs.Syntax.{Expr, badExpr, Op, Clause, fulfilled, obligation, choice, if, join, badClause, Head}
-use Rattle.csl.specs.Decode.{ExprKind, numberKind, truthKind, partyKind, variableKind, notKind, binaryKind, noExpr, leafKind, opOf, exprKind, exprBody, exprHead, expr, ClauseKind, fulfilledKind, obligationKind, choiceKind, ifKind, joinKind, instanceKind, noClause, joinOf, waitKind, clauseKind, waitEnd, waitAt, clauseBody, clauseHead, clause}
+use Rattle.csl.specs.Syntax.{Expr, badExpr, Clause, obligation, choice, if, join, badClause, Head}
+use Rattle.csl.specs.Decode.{ExprKind, numberKind, notKind, binaryKind, noExpr, leafKind, opOf, exprKind, exprBody, exprHead, expr, ClauseKind, fulfilledKind, obligationKind, choiceKind, ifKind, joinKind, instanceKind, noClause, joinOf, waitKind, clauseKind, waitAt, clauseBody, clauseHead, clause}
 use Rattle.records.specs.Index.{firstClause}
 
 -- ---- one step of the tree

@@ -1,6 +1,6 @@
 -- Where the records of an agreement stand, as the walkers are told: an index of 49 places.
 use mathlib.Core.Path.{_≡_}
-use mathlib.Core.Bool.{Bool, true, false, cond}
+use mathlib.Core.Bool.{Bool, cond}
 use mathlib.Core.List.{List}
 use Prim.Native.Nat.{ℕ, _+_, _≤_, _<_}
 use lib.Dec.{T, eqb}
@@ -8,7 +8,7 @@ use lib.ListN.{length, getD}
 use Rattle.csl.specs.Lists.{all}
 use Rattle.csl.specs.Bytes.{byte, part, recordEnd}
 use Rattle.csl.specs.Syntax.{Head}
-use Rattle.csl.specs.Decode.{Piece, piecesEnd, templatesPlace, mainPlace, readingTypeOk, templateOk, templateHead, readingPieces, templatePieces, waitEnd}
+use Rattle.csl.specs.Decode.{piecesEnd, templatesPlace, mainPlace, readingTypeOk, templateOk, templateHead, readingPieces, templatePieces, waitEnd}
 
 -- ---- the places of reading type k + 1 and of template k, and their bytes
 abbrev pub readingPlace : List ℕ → ℕ → ℕ
@@ -39,3 +39,7 @@ pub record Indexed (places : List ℕ) (s : List ℕ) : Type 0 where
 -- ---- where the first clause part of a clause of kind 17 to 21 begins
 unfoldable pub firstClause : ℕ → List ℕ → ℕ
 firstClause k s = cond (eqb k 17) (waitEnd s 5) (cond (eqb k 18) (waitEnd s 4) (cond (eqb k 19) (recordEnd s 4) 4))
+
+-- ---- the record is a reading type, or a template, whose head is as listed
+unfoldable pub recordOk : ℕ → List ℕ → Bool
+recordOk k q = cond (eqb k 2) (readingTypeOk q) (templateOk q)
