@@ -1,0 +1,3 @@
+pub mod Index
+mod Listed
+pub mod Trees
