@@ -1,0 +1,3 @@
+-- What the proofs of several crates use.
+pub mod Members
+pub mod Masks
