@@ -34,9 +34,6 @@ valid-head {p} {ps} v = v .each p (member-self p ps)
 pub valid-tail : {p : ℕ} {ps : List ℕ} → ValidMembers (p ∷ ps) → ValidMembers ps
 valid-tail {p} {ps} v = record { each = λ q e. v .each q (member-tail q p ps e) }
 
-pub valid-each : (ps : List ℕ) → ((p : ℕ) → member p ps ≡ true → (p < 16) ⊎ ((128 ≤ p) × (p < 132))) → ValidMembers ps
-valid-each ps h = record { each = h }
-
 -- what may be blamed is valid
 may-valid : (parties params b : ℕ) → parties ≤ 16 → params ≤ 4 → mayBlame parties params b ≡ true → (b < 16) ⊎ ((128 ≤ b) × (b < 132))
 may-valid parties params b l m e = go (ltb b parties) refl (leb 128 b) refl e
@@ -155,6 +152,10 @@ constants-declared n qs h v =
         go : (p < 16) ⊎ ((128 ≤ p) × (p < 132)) → (elim (ltb p 128) [ true ↦ member p (members n) | false ↦ true ]) ≡ true
         go (inl u) = absurd (omega arith)
         go (inr u) = rw (le-ltb p 128 (omega arith))
+
+-- the same, of the masks that the code has: m of the body's parties, a of the constant ones
+pub body-within : {m a n : ℕ} {r : Bool} (qs : List ℕ) → n < 65_536 → ValidMembers qs → m ≡ maskOf qs → a ≡ m % 65_536 → r ≡ eqb (bitOr a n) n → r ≡ all (λ q. elim (isConstant q) [ true ↦ member q (members n) | false ↦ true ]) qs
+body-within {n = n} qs h v e f g = g ∙ rw (f, e) (constants-declared n qs h v)
 
 -- ---- the bit of a blame byte
 one-party : (b : ℕ) → b < 16 → maskOf (b ∷ []) ≡ 2 ^ b
