@@ -1,20 +1,20 @@
 -- Laws of party sets by bit.
-use mathlib.Core.Bool.{Bool, true, false, cond, _&&_, _||_, not, true≢false}
+use mathlib.Core.Bool.{Bool, true, false, _&&_, _||_, true≢false}
 use mathlib.Core.List.{List, [], _∷_, _++_}
-use mathlib.Core.Logic.{_⊎_, inl, inr}
+use mathlib.Core.Logic.{inl, inr}
 use mathlib.Core.Path.{_≡_, refl, sym, ap, _∙_}
-use Prim.Native.Nat.{ℕ, suc, _+_, _-_, _*_, _/_, _%_, _^_, _≤_, _<_}
+use Prim.Native.Nat.{ℕ, suc, _+_, _-_, _*_, _%_, _^_, _≤_, _<_}
 use native.Mathlib.Omega.{arith}
-use lib.Bits.{bitOr, or-block, or-lt}
-use lib.Count.{ones, ones-cat, ones-le}
+use lib.Bits.{bitOr, or-block}
+use lib.Count.{ones, ones-cat}
 use lib.Dec.{eqb, leb, ltb}
 use lib.Pow.{pow-pos, pow-lt, pow-add, shl-exact}
 use borrow.Author.Tests.{eq-eqb, ne-eqb, lt-ltb, le-ltb, le-leb, lt-leb, leb-true, eqb-true, ltb-true, ltb-false, not-true, not-false}
 use Rattle.csl.specs.Lists.{all}
 use Rattle.csl.specs.Parties.{member, subset, memberCount, bitsFrom, bitsOf, membersFrom, members}
 use Rattle.csl.specs.Typing.{Names, blameOk, isConstant}
-use Rattle.parties.specs.Masks.{maskOf, maskEnd, ValidMembers, mayBlame, BlameMask}
-use Rattle.parties.proofs.Members.{both, member-self, member-tail, member-other, member-append, all-each, each-all, bits-lt, bits-same, bits-apart, bits-nil, bits-append, bits-skip, bits-again, bits-new, count-new, members-in, members-bits, members-below}
+use Rattle.parties.specs.Masks.{maskOf, maskEnd, HasBit, ValidMembers, mayBlame, BlameMask}
+use Rattle.parties.proofs.Members.{both, member-self, member-tail, member-append, all-each, each-all, bits-lt, bits-same, bits-apart, bits-nil, bits-append, bits-skip, bits-again, bits-new, count-new, members-in, members-bits, members-below}
 
 -- ---- valid members
 pub valid-nil : ValidMembers []
@@ -24,21 +24,21 @@ valid-nil = record { each = λ p e. absurd (true≢false (sym e)) }
 pub valid-append : {ps qs : List ℕ} → ValidMembers ps → ValidMembers qs → ValidMembers (ps ++ qs)
 valid-append {ps} {qs} v w = record { each = λ p e. go p (member p ps) refl (sym (member-append p ps qs) ∙ e) }
   where
-    go : (p : ℕ) (b : Bool) → member p ps ≡ b → (b || member p qs) ≡ true → (p < 16) ⊎ ((128 ≤ p) × (p < 132))
+    go : (p : ℕ) (b : Bool) → member p ps ≡ b → (b || member p qs) ≡ true → HasBit p
     go p true h e = v .each p h
     go p false h e = w .each p e
 
-pub valid-head : {p : ℕ} {ps : List ℕ} → ValidMembers (p ∷ ps) → (p < 16) ⊎ ((128 ≤ p) × (p < 132))
+pub valid-head : {p : ℕ} {ps : List ℕ} → ValidMembers (p ∷ ps) → HasBit p
 valid-head {p} {ps} v = v .each p (member-self p ps)
 
 pub valid-tail : {p : ℕ} {ps : List ℕ} → ValidMembers (p ∷ ps) → ValidMembers ps
 valid-tail {p} {ps} v = record { each = λ q e. v .each q (member-tail q p ps e) }
 
 -- what may be blamed is valid
-may-valid : (parties params b : ℕ) → parties ≤ 16 → params ≤ 4 → mayBlame parties params b ≡ true → (b < 16) ⊎ ((128 ≤ b) × (b < 132))
+may-valid : (parties params b : ℕ) → parties ≤ 16 → params ≤ 4 → mayBlame parties params b ≡ true → HasBit b
 may-valid parties params b l m e = go (ltb b parties) refl (leb 128 b) refl e
   where
-    go : (s : Bool) → ltb b parties ≡ s → (t : Bool) → leb 128 b ≡ t → (s || (t && ltb b (128 + params))) ≡ true → (b < 16) ⊎ ((128 ≤ b) × (b < 132))
+    go : (s : Bool) → ltb b parties ≡ s → (t : Bool) → leb 128 b ≡ t → (s || (t && ltb b (128 + params))) ≡ true → HasBit b
     go true h t k f = let r = ltb-true b parties h in inl (omega arith)
     go false h true k f = let r = leb-true 128 b k in let u = ltb-true b (128 + params) f in inr (omega arith, omega arith)
     go false h false k f = absurd (true≢false (sym f))
@@ -51,7 +51,7 @@ pub valid-cons : (n : Names) (b : ℕ) {ps : List ℕ} → n .parties ≤ 16 →
 unfolding blameOk member
 valid-cons n b {ps} l m e v = record { each = λ p h. go p (eqb p b) refl h }
   where
-    go : (p : ℕ) (s : Bool) → eqb p b ≡ s → (s || member p ps) ≡ true → (p < 16) ⊎ ((128 ≤ p) × (p < 132))
+    go : (p : ℕ) (s : Bool) → eqb p b ≡ s → (s || member p ps) ≡ true → HasBit p
     go p true h f = may-valid (n .parties) (n .params) p l m (ap (blameOk n) (eqb-true p b h) ∙ e)
     go p false h f = v .each p f
 
@@ -101,7 +101,7 @@ mask-count (p ∷ ps) v = both (member p ps)
     (λ e. let m : maskOf (p ∷ ps) ≡ maskOf ps = mask-again p ps e in rw (e, m) (mask-count ps (valid-tail v)))
     (λ e. rw (e, mask-ones (p ∷ ps), ← mask-count ps (valid-tail v), mask-ones ps) (new e (valid-head v)))
   where
-    new : member p ps ≡ false → (p < 16) ⊎ ((128 ≤ p) × (p < 132)) → ones (bitsFrom 4 128 (p ∷ ps)) + ones (bitsFrom 16 0 (p ∷ ps)) ≡ suc (ones (bitsFrom 4 128 ps) + ones (bitsFrom 16 0 ps))
+    new : member p ps ≡ false → HasBit p → ones (bitsFrom 4 128 (p ∷ ps)) + ones (bitsFrom 16 0 (p ∷ ps)) ≡ suc (ones (bitsFrom 4 128 ps) + ones (bitsFrom 16 0 ps))
     new e (inl l) = rw (bits-skip 4 128 p ps (λ a b. omega arith), count-new 16 0 p ps (omega arith) (omega arith) e) (omega arith)
     new e (inr l) = rw (bits-skip 16 0 p ps (λ a b. omega arith), count-new 4 128 p ps (omega arith) (omega arith) e) (omega arith)
 
@@ -132,6 +132,9 @@ mask-members n h = rw (members-bits 16 0 n h, bits-same 4 128 (membersFrom 16 0 
     none : (j : ℕ) → 128 ≤ j → member j (membersFrom 16 0 n) ≡ member j []
     none j l = both (member j (membersFrom 16 0 n)) (λ e. let r = members-in 16 0 n j e in absurd (omega arith)) (λ e. e)
 
+pub bits-members : (n : ℕ) → n < 65_536 → bitsOf (members n) ≡ n
+bits-members n h = sym (mask-constants (members n)) ∙ rw (mask-members n h) (omega arith)
+
 pub declared-below : (n k : ℕ) → n < 65_536 → all (λ p. ltb p k) (members n) ≡ ltb n (2 ^ k)
 unfolding members
 declared-below n k h = members-below 16 0 k n h ∙ (let z : k - 0 ≡ k = omega arith in rw z)
@@ -140,8 +143,7 @@ declared-below n k h = members-below 16 0 k n h ∙ (let z : k - 0 ≡ k = omega
 pub constants-declared : (n : ℕ) (qs : List ℕ) → n < 65_536 → ValidMembers qs → eqb (bitOr (maskOf qs % 65_536) n) n ≡ all (λ q. elim (isConstant q) [ true ↦ member q (members n) | false ↦ true ]) qs
 unfolding isConstant
 constants-declared n qs h v =
-    let d : bitsOf (members n) ≡ n = sym (mask-constants (members n)) ∙ rw (mask-members n h) (omega arith) in
-    rw (mask-constants qs) (rw d at (bits-within (λ q. elim (isConstant q) [ true ↦ member q (members n) | false ↦ true ]) qs (members n) party param))
+    rw (mask-constants qs) (rw (bits-members n h) at (bits-within (λ q. elim (isConstant q) [ true ↦ member q (members n) | false ↦ true ]) qs (members n) party param))
   where
     party : (p : ℕ) → member p qs ≡ true → p < 16 → (elim (ltb p 128) [ true ↦ member p (members n) | false ↦ true ]) ≡ member p (members n)
     party p m l = rw (lt-ltb p 128 (omega arith))
@@ -149,7 +151,7 @@ constants-declared n qs h v =
     param : (p : ℕ) → member p qs ≡ true → 16 ≤ p → (elim (ltb p 128) [ true ↦ member p (members n) | false ↦ true ]) ≡ true
     param p m l = go (v .each p m)
       where
-        go : (p < 16) ⊎ ((128 ≤ p) × (p < 132)) → (elim (ltb p 128) [ true ↦ member p (members n) | false ↦ true ]) ≡ true
+        go : HasBit p → (elim (ltb p 128) [ true ↦ member p (members n) | false ↦ true ]) ≡ true
         go (inl u) = absurd (omega arith)
         go (inr u) = rw (le-ltb p 128 (omega arith))
 

@@ -1,17 +1,19 @@
 -- The parties of a typed clause are valid members.
 use mathlib.Core.Bool.{Bool, true, false, _&&_, true≢false}
-use mathlib.Core.List.{List, [], _∷_, _++_}
+use mathlib.Core.List.{List, [], _∷_, _++_, map}
 use mathlib.Core.Option.{Option, none, some}
 use mathlib.Core.Path.{_≡_, refl, sym}
-use Prim.Native.Nat.{ℕ, _≤_}
+use Prim.Native.Nat.{ℕ, zero, suc, _+_, _≤_}
 use native.Mathlib.Omega.{arith}
 use lib.Dec.{eqb}
 use lib.ListN.{length}
 use Rattle.csl.specs.Lists.{_>>=_, need, all, at}
+use Rattle.csl.specs.Bytes.{byte, le16}
+use Rattle.csl.specs.Decode.{Piece, templateHead, templatePieces, headsOf}
 use Rattle.csl.specs.Syntax.{Ty, truth, Clause, fulfilled, obligation, choice, if, join, instance, badClause, Head}
 use Rattle.csl.specs.Typing.{Names, blameOk, hasType, haveTypes, joinOk, thenSight, typeWait, typeClause}
 use Rattle.parties.specs.Masks.{ValidMembers}
-use Rattle.parties.proofs.Masks.{valid-nil, valid-cons, valid-append, valid-blamed}
+use Rattle.parties.proofs.Masks.{valid-nil, valid-cons, valid-append, valid-blamed, valid-members}
 
 from-bind : {A B C : Type 0} (m : Option A) (f : A → Option B) (y : B) → m >>= f ≡ some y → ((x : A) → m ≡ some x → f x ≡ some y → C) → C
 unfolding _>>=_
@@ -60,3 +62,14 @@ module _ (n : Names) (fewParties : n .parties ≤ 16) (fewParams : n .params ≤
       from-need (eqb (length bs) (h .params) && all (blameOk n) bs) _ ps e₂ λ ok e₃.
       rw (← is-some (h .declared ++ bs) ps e₃) (valid-append (heads k h a) (valid-blamed n bs fewParties fewParams (right-true (eqb (length bs) (h .params)) (all (blameOk n) bs) ok)))
   valid-typed badClause env ps e = let z : _≡_ {A = ℕ} 0 1 = cc in absurd (omega arith)
+
+-- so are the declared parties of decoded heads
+heads-valid : (qs : List Piece) (k : ℕ) (h : Head) → at (map (λ q. templateHead (q .bytes)) qs) k ≡ some h → ValidMembers (h .declared)
+unfolding at templateHead
+heads-valid [] k h e = let z : _≡_ {A = ℕ} 0 1 = cc in absurd (omega arith)
+heads-valid (q ∷ qs) zero h e = let s : templateHead (q .bytes) ≡ h = cc in rw (← s) (valid-members (le16 (q .bytes) (6 + byte (q .bytes) 4)))
+heads-valid (q ∷ qs) (suc k) h e = heads-valid qs k h e
+
+pub declared-valid : (s : List ℕ) (k : ℕ) (h : Head) → at (headsOf s) k ≡ some h → ValidMembers (h .declared)
+unfolding headsOf
+declared-valid s = heads-valid (templatePieces s)

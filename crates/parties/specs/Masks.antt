@@ -1,5 +1,5 @@
 -- Sets of parties by bit: bit n for party n, below 16, and bit 16 + n for the party parameter n, the member 128 + n.
-use mathlib.Core.Bool.{Bool, true, false, cond, _&&_, _||_, not}
+use mathlib.Core.Bool.{Bool, true, cond, _&&_, _||_, not}
 use mathlib.Core.List.{List, [], _∷_}
 use mathlib.Core.Logic.{_⊎_}
 use mathlib.Core.Path.{_≡_}
@@ -14,9 +14,13 @@ maskOf ps = bitsOf ps + 65_536 * bitsFrom 4 128 ps
 abbrev pub maskEnd : ℕ
 maskEnd = 1_048_576
 
+-- p is a party or a party parameter
+abbrev pub HasBit : ℕ → Type 0
+HasBit p = (p < 16) ⊎ ((128 ≤ p) × (p < 132))
+
 -- every member has a bit
 pub record ValidMembers (ps : List ℕ) : Type 0 where
-  pub each : (p : ℕ) → member p ps ≡ true → (p < 16) ⊎ ((128 ≤ p) × (p < 132))
+  pub each : (p : ℕ) → member p ps ≡ true → HasBit p
 
 -- blameOk of any names with so many parties and party parameters
 abbrev pub mayBlame : ℕ → ℕ → ℕ → Bool

@@ -1,7 +1,6 @@
 // Sets of parties by bit: bit n for party n, bit 16 + n for the party parameter n.
 ghost use mathlib.Core.Path.{_≡_};
-ghost use mathlib.Core.Bool.{true};
-ghost use mathlib.Core.List.{List, [], _∷_, _++_};
+ghost use mathlib.Core.List.{List, _++_};
 ghost use Prim.Native.Nat.{ℕ, _^_, _%_, _≤_, _<_};
 ghost use lib.Bits.{bitOr};
 ghost use lib.Count.{ones};
