@@ -1,1 +1,2 @@
 pub mod Evaluate
+pub mod Shows
