@@ -5,14 +5,14 @@ use mathlib.Core.Option.{none, some}
 use mathlib.Core.Path.{ap, ap₂, refl, subst, sym, _∙_, _≡_}
 use Prim.Native.Nat.{_-_, suc, zero, ℕ, _≤_}
 use native.Mathlib.Omega.{arith}
-use lib.Dec.{T, eqb, leb, leb→le, le→leb, ltb, ltb→lt}
+use lib.Dec.{T, eqb, leb→le, le→leb, ltb, ltb→lt}
 use lib.IntN.{negsuc, pos, ℤ}
 use lib.ListN.{getD}
 use lib.Signed.{ltZ}
-use Rattle.csl.specs.Lists.{_>>=_, at}
+use Rattle.csl.specs.Lists.{at}
 use Rattle.csl.specs.Numbers.{bottom, calculate, eqZ, held, inRange, limit, top}
 use Rattle.csl.specs.Syntax.{Expr, Op, Ty, arithmetic, badExpr, binary, conj, equal, less, negation, number, numberLit, party, partyLit, truth, truthLit, variable}
-use Rattle.csl.specs.Typing.{hasType, haveTypes, operand, result, sameTy, typeExpr}
+use Rattle.csl.specs.Typing.{hasType, haveTypes, typeExpr}
 use Rattle.csl.specs.Values.{Val, apply, asBool, asNum, asTruth, bool, eval, evalBool, evalNum, evals, num, onBools, onNums, sameBool, sameVal, who}
 use Rattle.csl.specs.Table.{cellOf, cellsOf}
 use Rattle.soundness.proofs.Inversion.{from-bind, from-need, some-inj}

@@ -7,15 +7,15 @@ use Prim.Native.Nat.{_%_, _*_, _+_, _-_, _/_, max, suc, zero, ℕ}
 use native.Mathlib.Omega.{arith}
 use lib.Bits.{bitOr, or-step}
 use lib.Dec.{eqb, ltb}
-use lib.IntN.{pos, ℤ}
+use lib.IntN.{pos}
 use lib.ListN.{getD}
 use Rattle.csl.specs.Lists.{_>>=_, at}
 use Rattle.csl.specs.Parties.{bit, bitsFrom, bitsOf, member, sameSet}
 use Rattle.csl.specs.Syntax.{Agreement, Join, and, or}
 use Rattle.csl.specs.Values.{Val}
-use Rattle.csl.specs.Outcomes.{Outcome, Residue, Sight, Sort, breach, done, earlier, joinBoth, joinEither, joined, later, orStuck, running, stuck}
+use Rattle.csl.specs.Outcomes.{Outcome, Sight, Sort, breach, done, earlier, joinBoth, joinEither, joined, later, orStuck, running, stuck}
 use Rattle.csl.specs.Rules.{blamed, blamedAll}
-use Rattle.csl.specs.Table.{cellOf, cellsOf, joinCells, natCells, residueCells, sortNumber, unitCells}
+use Rattle.csl.specs.Table.{cellOf, cellsOf, natCells, residueCells, sortNumber, unitCells}
 use Rattle.csl.specs.Demand3.{NotStuck}
 use Rattle.soundness.proofs.Inversion.{from-bind, some-bind, some-inj}
 use Rattle.soundness.proofs.Good.{Good}
