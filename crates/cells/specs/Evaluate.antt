@@ -2,7 +2,6 @@
 -- On typed expressions it is csl's evaluation (proofs/Evaluate).
 use mathlib.Core.Bool.{Bool, true, false, cond}
 use mathlib.Core.List.{List, [], _∷_}
-use Prim.Native.Nat.{ℕ}
 use lib.IntN.{ℤ, pos}
 use lib.ListN.{getD}
 use lib.Signed.{ltZ}

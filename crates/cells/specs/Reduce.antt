@@ -2,7 +2,7 @@
 -- Total, with no stuck outcome; on a typed clause it is csl's rules (proofs/Reduce).
 use mathlib.Core.Bool.{Bool, true, false, cond, not, _&&_}
 use mathlib.Core.List.{List, [], _∷_, _++_}
-use mathlib.Core.Option.{Option, none, some}
+use mathlib.Core.Option.{none, some}
 use Prim.Native.Nat.{ℕ, zero, suc, _-_}
 use lib.Bits.{bitOr}
 use lib.Dec.{ltb, eqb}
