@@ -7,7 +7,7 @@ use Prim.Native.Nat.{ℕ, zero, suc, _-_}
 use lib.Bits.{bitOr}
 use lib.Dec.{ltb, eqb}
 use lib.IntN.{ℤ, pos, negsuc, _+ℤ_, _-ℤ_}
-use lib.ListN.{length, getD}
+use lib.ListN.{length, getD, take}
 use lib.Signed.{ltZ}
 use Rattle.csl.specs.Lists.{at}
 use Rattle.csl.specs.Numbers.{laterOf}
@@ -86,8 +86,9 @@ lastOf vs a w = firstOf vs a w +ℤ evalCells vs (w .within)
 unfoldable pub takes : List ℤ → ℕ → Wait → ℕ → ℕ → List ℤ → Bool
 takes vs a w t k rs = eqb (w .wanted) k && not (ltZ (pos t) (firstOf vs a w)) && isTrue (evalCells (vs ++ rs) (w .condition))
 
+-- "At most 16 are in sight."
 unfoldable pub thenValues : List ℤ → List ℤ → ℤ → List ℤ
-thenValues vs rs z = (vs ++ rs) ++ (z ∷ [])
+thenValues vs rs z = take 16 ((vs ++ rs) ++ (z ∷ []))
 
 -- what becomes of a wait: late, taken, or waiting on
 pub data Fate : Type 0 where

@@ -1,0 +1,4 @@
+-- What the proofs of several crates use.
+pub mod Members
+pub mod Masks
+pub mod Typed

@@ -1,0 +1,69 @@
+// Sets of parties by bit: bit n for party n, bit 16 + n for the party parameter n.
+ghost use mathlib.Core.Path.{_≡_};
+ghost use mathlib.Core.List.{List, _++_};
+ghost use Prim.Native.Nat.{ℕ, _^_, _%_, _≤_, _<_};
+ghost use lib.Bits.{bitOr};
+ghost use lib.Count.{ones};
+ghost use lib.Dec.{eqb, ltb};
+ghost use Rattle.csl.specs.Lists.{all};
+ghost use Rattle.csl.specs.Parties.{memberCount, members, bitsOf};
+ghost use Rattle.parties.specs.Masks.{maskOf, maskEnd, ValidMembers, BlameMask};
+
+// The bit of a blame byte, or 0 where the byte is not allowed.
+pub fn blame_mask(b: usize, parties: usize, params: usize) -> usize
+    requires { ⌜ (parties ≤ 16) × (params ≤ 4) ⌝ }
+    ensures { λ r. ⌜ BlameMask parties params b r ⌝ }
+{
+    if b < parties {
+        1 << b
+    } else if b < 128 {
+        0
+    } else if b < 128 + params {
+        1 << (b - 112)
+    } else {
+        0
+    }
+}
+
+pub fn union(a: usize, b: usize) -> usize
+    requires { ⌜ (a < maskEnd) × (b < maskEnd) ⌝ }
+    ensures { λ r. ⌜ (r ≡ bitOr a b) × (r < maskEnd) × ((ps qs : List ℕ) → a ≡ maskOf ps → b ≡ maskOf qs → r ≡ maskOf (ps ++ qs)) ⌝ }
+{
+    a | b
+}
+
+// How many members there are, each counted once.
+pub fn member_count(a: usize) -> usize
+    requires { ⌜ a < maskEnd ⌝ }
+    ensures { λ r. ⌜ (r ≡ ones a) × ((ps : List ℕ) → ValidMembers ps → a ≡ maskOf ps → r ≡ memberCount ps) ⌝ }
+{
+    let mut left = a;
+    let mut count = 0;
+    while left > 0 {
+        count += left % 2;
+        left /= 2;
+    }
+    count
+}
+
+// Every member of a is one of b.
+pub fn within(a: usize, b: usize) -> bool
+    ensures { λ r. ⌜ r ≡ eqb (bitOr a b) b ⌝ }
+{
+    a | b == b
+}
+
+// The parties alone, without the party parameters.
+pub fn constants(a: usize) -> usize
+    ensures { λ r. ⌜ (r ≡ a % 65_536) × (r < 65_536) × ((ps : List ℕ) → a ≡ maskOf ps → r ≡ bitsOf ps) ⌝ }
+{
+    a % 65_536
+}
+
+// Every party of a declared set is below k.
+pub fn below(n: usize, k: usize) -> bool
+    requires { ⌜ (n < 65_536) × (k ≤ 16) ⌝ }
+    ensures { λ r. ⌜ (r ≡ ltb n (2 ^ k)) × (r ≡ all (λ (p : ℕ). ltb p k) (members n)) ⌝ }
+{
+    n < 1 << k
+}

@@ -1,0 +1,306 @@
+-- Laws for the parts of an agreement: where its records end, which records its lists have, and what the heads of an indexed agreement hold to.
+use mathlib.Core.Path.{_≡_, refl, sym, ap, subst, _∙_}
+use mathlib.Core.Bool.{Bool, true, false, cond, _&&_}
+use mathlib.Core.List.{List, [], _∷_, map}
+use mathlib.Core.Option.{Option, none, some}
+use Prim.Native.Nat.{ℕ, zero, suc, _+_, _-_, _≤_, _<_, min}
+use native.Mathlib.Nat.{le-of-suc-le-suc, not-suc-le-zero}
+use native.Mathlib.Numerals.{add-one}
+use native.Mathlib.Omega.{arith}
+use lib.Dec.{T, leb, eqb, leb→le, eqb→eq}
+use lib.ListN.{length, getD, length-map}
+use Rattle.arith.proofs.Lists.{length-part}
+use Rattle.arith.proofs.Bytes.{record-end-within, record-end-after}
+use Rattle.csl.specs.Lists.{all, at}
+use Rattle.csl.specs.Bytes.{byte, le16, part, isRecord, kindNumber, recordEnd}
+use Rattle.csl.specs.Syntax.{Ty, Head, Template, Clause}
+use Rattle.csl.specs.Decode.{Piece, piecesEnd, pieces, templatesPlace, mainPlace, readingPieces, templatePieces, headsOf, bodyPlace, bodyOf, templateOf, agreementOf, isType, tyOf, tysOf, readingTypeOk, readingType, templateOk, templateHead, waitEnd}
+use Rattle.csl.specs.Typing.{headsIn}
+use Rattle.records.specs.Index.{Indexed, readingPlace, templatePlace, pieceAt, headAt, firstClause}
+
+-- ---- tests that hold
+pub T-both : {C : Type 0} (a b : Bool) → T (a && b) → (T a → T b → C) → C
+T-both true b t k = k tt t
+T-both false b t k = absurd t
+
+pub T-true : (b : Bool) → T b → b ≡ true
+T-true true t = refl
+T-true false t = absurd t
+
+pub true-T : {b : Bool} → b ≡ true → T b
+true-T e = subst T (sym e) tt
+
+-- ---- where records end
+pub end-from : (s : List ℕ) (a : ℕ) → min a (length s) ≤ recordEnd s a
+unfolding recordEnd
+end-from s a = omega arith
+
+pub wait-within : (s : List ℕ) (i : ℕ) → waitEnd s i ≤ length s
+unfolding waitEnd
+wait-within s i = record-end-within s (recordEnd s (recordEnd s (i + 1)))
+
+pub wait-from : (s : List ℕ) (i : ℕ) → min (i + 1) (length s) ≤ waitEnd s i
+unfolding waitEnd
+wait-from s i =
+    let a = recordEnd s (i + 1) in
+    let b = recordEnd s a in
+    omega (arith, end-from s (i + 1), end-from s a, end-from s b, record-end-within s (i + 1), record-end-within s a)
+
+pub pieces-within : (n : ℕ) (s : List ℕ) (i : ℕ) → i ≤ length s → piecesEnd n s i ≤ length s
+unfolding piecesEnd
+pieces-within zero s i l = l
+pieces-within (suc n) s i l = pieces-within n s (recordEnd s i) (record-end-within s i)
+
+pub some-within : (n : ℕ) (s : List ℕ) (i : ℕ) → 1 ≤ n → piecesEnd n s i ≤ length s
+unfolding piecesEnd
+some-within zero s i l = absurd (not-suc-le-zero l)
+some-within (suc n) s i l = pieces-within n s (recordEnd s i) (record-end-within s i)
+
+pub pieces-from : (n : ℕ) (s : List ℕ) (i : ℕ) → i ≤ length s → i ≤ piecesEnd n s i
+unfolding piecesEnd
+pieces-from zero s i l = omega arith
+pieces-from (suc n) s i l = omega (arith, record-end-after s i l, pieces-from n s (recordEnd s i) (record-end-within s i))
+
+pieces-suc : (n : ℕ) (s : List ℕ) (i : ℕ) → piecesEnd (suc n) s i ≡ recordEnd s (piecesEnd n s i)
+unfolding piecesEnd
+pieces-suc zero s i = refl
+pieces-suc (suc n) s i = pieces-suc n s (recordEnd s i)
+
+-- one record more
+pub pieces-more : (n : ℕ) (s : List ℕ) (i : ℕ) → piecesEnd (n + 1) s i ≡ recordEnd s (piecesEnd n s i)
+pieces-more n s i = rw (add-one n) (pieces-suc n s i)
+
+pub pieces-none : (s : List ℕ) (i : ℕ) → piecesEnd 0 s i ≡ i
+unfolding piecesEnd
+pieces-none s i = refl
+
+-- ---- record k of n records one after another
+-- the record at a, with its place
+abbrev pub piece : List ℕ → ℕ → Piece
+piece s a = record { place = a; bytes = pieceAt s a }
+
+module _ {A : Type 0} (g : Piece → A) where
+  pub at-pieces : (n : ℕ) (s : List ℕ) (i k : ℕ) → k < n → at (map g (pieces n s i)) k ≡ some (g (piece s (piecesEnd k s i)))
+  unfolding at pieces piecesEnd
+  at-pieces zero s i k l = absurd (not-suc-le-zero l)
+  at-pieces (suc n) s i zero l = refl
+  at-pieces (suc n) s i (suc k) l = at-pieces n s (recordEnd s i) k (le-of-suc-le-suc l)
+
+  pub at-pieces-past : (n : ℕ) (s : List ℕ) (i k : ℕ) → n ≤ k → at (map g (pieces n s i)) k ≡ none
+  unfolding at pieces
+  at-pieces-past zero s i k l = refl
+  at-pieces-past (suc n) s i zero l = absurd (not-suc-le-zero l)
+  at-pieces-past (suc n) s i (suc k) l = at-pieces-past n s (recordEnd s i) k (le-of-suc-le-suc l)
+
+  pub length-pieces : (n : ℕ) (s : List ℕ) (i : ℕ) → length (map g (pieces n s i)) ≡ n
+  unfolding pieces
+  length-pieces zero s i = refl
+  length-pieces (suc n) s i = ap suc (length-pieces n s (recordEnd s i))
+
+module _ (p : Piece → Bool) where
+  pub all-pieces : (n : ℕ) (s : List ℕ) (i k : ℕ) → T (all p (pieces n s i)) → k < n → T (p (piece s (piecesEnd k s i)))
+  unfolding all pieces piecesEnd
+  all-pieces zero s i k t l = absurd (not-suc-le-zero l)
+  all-pieces (suc n) s i zero t l = T-both (p (piece s i)) _ t λ h u. h
+  all-pieces (suc n) s i (suc k) t l = T-both (p (piece s i)) _ t λ h u. all-pieces n s (recordEnd s i) k u (le-of-suc-le-suc l)
+
+-- ---- the lists of an agreement, by the count of each
+module _ (s : List ℕ) (k : ℕ) where
+  pub heads-at : k < byte s 10 → at (headsOf s) k ≡ some (headAt s k)
+  unfolding headsOf templatePieces
+  heads-at l = at-pieces (λ q. templateHead (q .bytes)) (byte s 10) s (templatesPlace s) k l
+
+  pub heads-past : byte s 10 ≤ k → at (headsOf s) k ≡ none
+  unfolding headsOf templatePieces
+  heads-past l = at-pieces-past (λ q. templateHead (q .bytes)) (byte s 10) s (templatesPlace s) k l
+
+  pub readings-at : k < byte s 9 → at (agreementOf s .readings) k ≡ some (readingType (pieceAt s (readingPlace s k)))
+  unfolding agreementOf readingPieces
+  readings-at l = at-pieces (λ q. readingType (q .bytes)) (byte s 9) s 11 k l
+
+  pub readings-past : byte s 9 ≤ k → at (agreementOf s .readings) k ≡ none
+  unfolding agreementOf readingPieces
+  readings-past l = at-pieces-past (λ q. readingType (q .bytes)) (byte s 9) s 11 k l
+
+  pub templates-at : k < byte s 10 → at (agreementOf s .templates) k ≡ some (templateOf (headsOf s) (piece s (templatePlace s k)))
+  unfolding agreementOf templatePieces
+  templates-at l = at-pieces (templateOf (headsOf s)) (byte s 10) s (templatesPlace s) k l
+
+  pub templates-past : byte s 10 ≤ k → at (agreementOf s .templates) k ≡ none
+  unfolding agreementOf templatePieces
+  templates-past l = at-pieces-past (templateOf (headsOf s)) (byte s 10) s (templatesPlace s) k l
+
+pub heads-length : (s : List ℕ) → length (headsOf s) ≡ byte s 10
+unfolding headsOf templatePieces
+heads-length s = length-pieces (λ q. templateHead (q .bytes)) (byte s 10) s (templatesPlace s)
+
+pub readings-length : (s : List ℕ) → length (agreementOf s .readings) ≡ byte s 9
+unfolding agreementOf readingPieces
+readings-length s = length-pieces (λ q. readingType (q .bytes)) (byte s 9) s 11
+
+pub templates-length : (s : List ℕ) → length (agreementOf s .templates) ≡ byte s 10
+unfolding agreementOf templatePieces
+templates-length s = length-pieces (templateOf (headsOf s)) (byte s 10) s (templatesPlace s)
+
+heads-map : (hs : List Head) (qs : List Piece) → headsIn (map (templateOf hs) qs) ≡ map (λ q. templateHead (q .bytes)) qs
+unfolding headsIn templateOf
+heads-map hs [] = refl
+heads-map hs (q ∷ qs) = ap (λ (r : List Head). templateHead (q .bytes) ∷ r) (heads-map hs qs)
+
+pub heads-in : (s : List ℕ) → headsIn (agreementOf s .templates) ≡ headsOf s
+unfolding agreementOf headsOf
+heads-in s = heads-map (headsOf s) (templatePieces s)
+
+-- ---- a reading type that is as listed
+pub record ReadingHolds (q : List ℕ) : Type 0 where
+  pub isOne : isRecord q ≡ true
+  pub few : byte q 4 ≤ 4
+  pub long : length q ≡ 5 + byte q 4
+  pub types : T (all isType (part q 5 (length q)))
+
+pub reading-holds : (q : List ℕ) → T (readingTypeOk q) → ReadingHolds q
+unfolding readingTypeOk
+reading-holds q t =
+    let a = isRecord q in
+    let b = eqb (kindNumber q) 2 in
+    let c = leb (byte q 4) 4 in
+    let d = eqb (length q) (5 + byte q 4) in
+    let e = all isType (part q 5 (length q)) in
+    T-both (a && b && c && d) e t λ t₁ h₅.
+    T-both (a && b && c) d t₁ λ t₂ h₄.
+    T-both (a && b) c t₂ λ t₃ h₃.
+    T-both a b t₃ λ h₁ h₂.
+    record { isOne = T-true a h₁; few = leb→le (byte q 4) 4 h₃; long = eqb→eq (length q) (5 + byte q 4) h₄; types = h₅ }
+
+pub reading-length : (q : List ℕ) → T (readingTypeOk q) → length (readingType q) ≡ byte q 4
+unfolding readingType tysOf
+reading-length q t =
+    let h = reading-holds q t in
+    length-map (part q 5 (length q)) tyOf ∙ omega (arith, length-part q 5 (length q) (omega arith), h .long)
+
+-- ---- a template whose head is as listed
+pub record TemplateHolds (q : List ℕ) : Type 0 where
+  pub isOne : isRecord q ≡ true
+  pub few : byte q 4 ≤ 8
+  pub long : 8 + byte q 4 ≤ length q
+  pub types : T (all isType (part q 5 (5 + byte q 4)))
+  pub fewParams : byte q (5 + byte q 4) ≤ 4
+
+pub template-holds : (q : List ℕ) → T (templateOk q) → TemplateHolds q
+unfolding templateOk bodyPlace
+template-holds q t =
+    let a = isRecord q in
+    let b = eqb (kindNumber q) 3 in
+    let c = leb (byte q 4) 8 in
+    let d = leb (8 + byte q 4) (length q) in
+    let e = all isType (part q 5 (5 + byte q 4)) in
+    let f = leb (byte q (5 + byte q 4)) 4 in
+    T-both (a && b && c && d && e) f t λ t₁ h₆.
+    T-both (a && b && c && d) e t₁ λ t₂ h₅.
+    T-both (a && b && c) d t₂ λ t₃ h₄.
+    T-both (a && b) c t₃ λ t₄ h₃.
+    T-both a b t₄ λ h₁ h₂.
+    record { isOne = T-true a h₁; few = leb→le (byte q 4) 8 h₃; long = leb→le (8 + byte q 4) (length q) h₄; types = h₅; fewParams = leb→le (byte q (5 + byte q 4)) 4 h₆ }
+
+pub values-length : (q : List ℕ) → T (templateOk q) → length (templateHead q .values) ≡ byte q 4
+unfolding templateHead tysOf
+values-length q t =
+    let h = template-holds q t in
+    length-map (part q 5 (5 + byte q 4)) tyOf ∙ omega (arith, length-part q 5 (5 + byte q 4) (omega (arith, h .long)))
+
+pub params-few : (q : List ℕ) → T (templateOk q) → templateHead q .params ≤ 4
+unfolding templateHead
+params-few q t = template-holds q t .fewParams
+
+pub params-is : (q : List ℕ) → templateHead q .params ≡ byte q (5 + byte q 4)
+unfolding templateHead
+params-is q = refl
+
+-- ---- of an indexed agreement
+module _ {places s : List ℕ} (x : Indexed places s) where
+  pub templates-within : templatesPlace s ≤ length s
+  unfolding templatesPlace
+  templates-within = pieces-within (byte s 9) s 11 (x .long)
+
+  pub main-within : mainPlace s ≤ length s
+  unfolding mainPlace
+  main-within = pieces-within (byte s 10) s (templatesPlace s) templates-within
+
+  pub reading-within : (k : ℕ) → readingPlace s k ≤ length s
+  reading-within k = pieces-within k s 11 (x .long)
+
+  pub template-within : (k : ℕ) → templatePlace s k ≤ length s
+  template-within k = pieces-within k s (templatesPlace s) templates-within
+
+  -- reading type k + 1 and template k are as listed
+  pub reading-ok : (k : ℕ) → k < byte s 9 → T (readingTypeOk (pieceAt s (readingPlace s k)))
+  unfolding readingPieces
+  reading-ok k l = all-pieces (λ q. readingTypeOk (q .bytes)) (byte s 9) s 11 k (x .readingsOk) l
+
+  pub template-ok : (k : ℕ) → k < byte s 10 → T (templateOk (pieceAt s (templatePlace s k)))
+  unfolding templatePieces
+  template-ok k l = all-pieces (λ q. templateOk (q .bytes)) (byte s 10) s (templatesPlace s) k (x .templatesOk) l
+
+  pub reading-facts : (k : ℕ) → k < byte s 9 → ReadingHolds (pieceAt s (readingPlace s k))
+  reading-facts k l = reading-holds (pieceAt s (readingPlace s k)) (reading-ok k l)
+
+  pub template-facts : (k : ℕ) → k < byte s 10 → TemplateHolds (pieceAt s (templatePlace s k))
+  template-facts k l = template-holds (pieceAt s (templatePlace s k)) (template-ok k l)
+
+  pub reading-count : (k : ℕ) → k < byte s 9 → length (readingType (pieceAt s (readingPlace s k))) ≡ byte (pieceAt s (readingPlace s k)) 4
+  reading-count k l = reading-length (pieceAt s (readingPlace s k)) (reading-ok k l)
+
+  pub value-count : (k : ℕ) → k < byte s 10 → length (headAt s k .values) ≡ byte (pieceAt s (templatePlace s k)) 4
+  value-count k l = values-length (pieceAt s (templatePlace s k)) (template-ok k l)
+
+  pub few-values : (k : ℕ) → k < byte s 10 → length (headAt s k .values) ≤ 8
+  few-values k l = omega (arith, value-count k l, template-facts k l .few)
+
+  pub few-params : (k : ℕ) → k < byte s 10 → headAt s k .params ≤ 4
+  few-params k l = params-few (pieceAt s (templatePlace s k)) (template-ok k l)
+
+  -- the body of template k begins within its record, and that within the agreement
+  pub body-within : (k : ℕ) → k < byte s 10 → templatePlace s k + bodyPlace (pieceAt s (templatePlace s k)) ≤ recordEnd s (templatePlace s k)
+  unfolding bodyPlace
+  body-within k l =
+      let a = templatePlace s k in
+      omega (arith, template-facts k l .long, length-part s a (recordEnd s a) (record-end-within s a))
+
+-- ---- the record that code has cut out, and what it read there
+-- a and e are what calls gave
+pub part-piece : (s : List ℕ) {a e t : ℕ} → a ≡ t → e ≡ recordEnd s a → part s a e ≡ pieceAt s t
+part-piece s p q = rw (q, p)
+
+module _ {places s : List ℕ} {k a e r : ℕ} (x : Indexed places s × (k < byte s 10)) (p : a ≡ templatePlace s k) (q : e ≡ recordEnd s a) where
+  pub count-read : r ≡ byte (part s a e) 4 → (r ≡ byte (pieceAt s (templatePlace s k)) 4) × (r ≡ length (headAt s k .values)) × (r ≤ 8)
+  count-read h =
+      let g = h ∙ ap (λ u. byte u 4) (part-piece s p q) in
+      (g, g ∙ sym (value-count (x .0) k (x .1)), omega (arith, template-facts (x .0) k (x .1) .few))
+
+  pub params-read : {n : ℕ} → n ≡ byte (pieceAt s (templatePlace s k)) 4 → r ≡ byte (part s a e) (5 + n) → (r ≡ headAt s k .params) × (r ≤ 4)
+  params-read {n} m h =
+      let t = pieceAt s (templatePlace s k) in
+      let g = h ∙ ap (λ u. byte u (5 + n)) (part-piece s p q) ∙ ap (λ i. byte t (5 + i)) m ∙ sym (params-is t) in
+      (g, omega (arith, few-params (x .0) k (x .1)))
+
+  pub declared-read : {n : ℕ} → n ≡ byte (pieceAt s (templatePlace s k)) 4 → r ≡ le16 (part s a e) (6 + n) → r ≡ le16 (pieceAt s (templatePlace s k)) (6 + byte (pieceAt s (templatePlace s k)) 4)
+  declared-read {n} m h = h ∙ ap (λ u. le16 u (6 + n)) (part-piece s p q) ∙ ap (λ i. le16 (pieceAt s (templatePlace s k)) (6 + i)) m
+
+-- ---- where the first clause part begins
+pub first-within : (k : ℕ) (s : List ℕ) → 4 ≤ length s → firstClause k s ≤ length s
+unfolding firstClause
+first-within k s l =
+    either (eqb k 17) (wait-within s 5) (either (eqb k 18) (wait-within s 4) (either (eqb k 19) (record-end-within s 4) l))
+  where
+    either : (b : Bool) {x y : ℕ} → x ≤ length s → y ≤ length s → cond b x y ≤ length s
+    either true h g = h
+    either false h g = g
+
+pub first-from : (k : ℕ) (s : List ℕ) → 4 ≤ length s → 4 ≤ firstClause k s
+unfolding firstClause
+first-from k s l =
+    either (eqb k 17) (omega (arith, wait-from s 5)) (either (eqb k 18) (omega (arith, wait-from s 4)) (either (eqb k 19) (omega (arith, end-from s 4)) (omega arith)))
+  where
+    either : (b : Bool) {x y : ℕ} → 4 ≤ x → 4 ≤ y → 4 ≤ cond b x y
+    either true h g = h
+    either false h g = g

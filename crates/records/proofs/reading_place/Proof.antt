@@ -1,0 +1,15 @@
+use borrow.Author.Needs.{needs}
+use native.Mathlib.Omega.{arith}
+use Rattle.records.proofs.Index.{reading-within}
+use Rattle.records.proofs.reading_place.Statement.{statement}
+use Rattle.records.proofs.reading_place.Tie as tie
+
+returns : tie.Need-returns
+returns c =
+    let k = c .before .args .k in
+    let x = c .before .pre .0 in
+    let e = x .readings k (c .before .pre .1) in
+    (e, omega (arith, e, reading-within x k))
+
+pub reading-place-spec : {M : Type 1} → statement M
+reading-place-spec = tie.close (tie.spec (λ c. search needs) (λ c. search needs) returns)

@@ -1,0 +1,12 @@
+use borrow.Author.Needs.{needs}
+use Rattle.records.proofs.Index.{count-read}
+use Rattle.records.proofs.value_count.Statement.{statement}
+use Rattle.records.proofs.value_count.Tie as tie
+
+returns : tie.Need-returns
+returns c =
+    let b = c .before .before in
+    count-read (b .before .before .before .before .pre) (b .before .template-place .ensures .0) (b .record-end .ensures .0) (c .byte .ensures .0)
+
+pub value-count-spec : {M : Type 1} → statement M
+value-count-spec = tie.close (tie.spec (λ c κs. search needs) (λ c κs. search needs) (λ c. search needs) (λ c. search needs) (λ c. search needs) (λ c κs. search needs) returns)
