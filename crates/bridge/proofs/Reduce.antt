@@ -6,9 +6,10 @@ use mathlib.Core.Option.{Option, none, some}
 use mathlib.Core.Path.{ap, ap₂, refl, subst, sym, _∙_, _≡_}
 use Prim.Native.Nat.{_<_, suc, zero, ℕ, _≤_}
 use native.Mathlib.Omega.{arith}
-use lib.Dec.{T, eqb, eqb-refl, eqb→eq, ltb, ltb→lt}
+use lib.Dec.{T, eqb, eqb-refl, eqb→eq, leb, leb→le, ltb, ltb→lt}
 use lib.IntN.{_+ℤ_, _-ℤ_, pos, ℤ}
 use lib.ListN.{length}
+use lib.Seq.{take-all}
 use lib.Signed.{ltZ}
 use Rattle.csl.specs.Lists.{_>>=_, all, at, orNil}
 use Rattle.csl.specs.Numbers.{inRange, laterOf}
@@ -19,19 +20,20 @@ use Rattle.csl.specs.Values.{Val, evalBool, evals, num}
 use Rattle.csl.specs.Outcomes.{Outcome, Sight, aChoice, anObligation, joined, orStuck}
 use Rattle.csl.specs.Rules.{Reading, Step, Window, activate, activating, blamed, blamedAll, during, following, forecasting, late, taken, walk, walkIn, wants, window, withValues}
 use Rattle.csl.specs.Table.{cellOf, cellsOf, natCells, residueCells, sortNumber, standFor}
-use Rattle.soundness.proofs.Inversion.{T-left, T-right, both-true, from-bind, from-need}
+use Rattle.soundness.proofs.Inversion.{T-left, T-right, both-true, from-bind, from-need, some-inj}
 use Rattle.soundness.proofs.Evaluation.{HasTy, HaveTy, HaveTy-++}
 use Rattle.soundness.proofs.Times.{later-from, later-to, remaining-range}
 use Rattle.soundness.proofs.Good.{Placed, SightOk}
 use Rattle.soundness.proofs.Walks.{Fair, StepGood, UnfoldGood, at-heads, blamed-ok, blamedAll-ok, bool-typed, evals-typed, num-typed, walk-good}
 use Rattle.soundness.proofs.Activation.{activating-good, heads-declared, typed-guarded, unfold-good, walkIn-good}
 use Rattle.soundness.proofs.Following.{ReadingOk, following-good, from-wait, orNil-is, window-is}
+use Rattle.soundness.proofs.RoundTrip.{len-cells, len-typed}
 use Rattle.soundness.proofs.Forecasts.{forecasting-good}
 use Rattle.cells.specs.Evaluate.{evalCells, isTrue}
 use Rattle.cells.specs.Reduce as cells
 use Rattle.cells.specs.Reduce.{Mode, Reduced}
-use Rattle.cells.proofs.Evaluate.{bool-cells, evals-cells, nothing, num-cells}
-use Rattle.cells.proofs.Shows.{Shows, blame-bits, blamed-cells, cells-++, good-moves, joined-shows, shows-bind, unit-cells}
+use Rattle.bridge.proofs.Evaluate.{bool-cells, evals-cells, nothing, num-cells}
+use Rattle.bridge.proofs.Shows.{Shows, blame-bits, blamed-cells, cells-++, good-moves, joined-shows, shows-bind, unit-cells}
 
 -- ---- a template's instance, on cells
 module _ (md : Mode) (th : Clause → List ℤ → List ℤ → ℕ → Reduced) (ts : List Template) where
@@ -209,6 +211,16 @@ module _ (ag : Agreement) (mains : List ℕ) (fair : Fair ag mains) where
   forecast-shows = during-shows ag mains fair From forecasting (forecasting-good ag mains fair) cells.forecasting (cells.activate (ag .templates)) (forecasting-shows (cells.activate (ag .templates)))
 
   -- ---- following a reading
+  sight-few : (ag : Agreement) (n : ℕ) (env : List Ty) (w : Wait) (vs : List Ty) → typeWait (namesOf ag n) env w ≡ some vs → length (thenSight env vs) ≤ 16
+  unfolding typeWait namesOf
+  sight-few ag n env w vs e =
+      from-bind (readingOfType (ag .readings) (w .wanted)) _ vs e λ us p q.
+      from-need (leb (length (thenSight env us)) 16) _ vs q λ t q₁.
+      from-bind (hasType (ag .parties) (env ++ us) (w .condition) truth) _ vs q₁ λ u₁ h₁ q₂.
+      from-bind (hasType (ag .parties) env (w .after) number) _ vs q₂ λ u₂ h₂ q₃.
+      from-bind (hasType (ag .parties) env (w .within) number) _ vs q₃ λ u₃ h₃ q₄.
+      subst (λ z. length (thenSight env z) ≤ 16) (some-inj q₄) (leb→le (length (thenSight env us)) 16 t)
+
   module _ (r : Reading) (rok : ReadingOk ag r) where
     abbrev W : ℕ → Type 0
     W t = (ag .start ≤ t) × (t ≤ r .time)
@@ -217,9 +229,11 @@ module _ (ag : Agreement) (mains : List ℕ) (fair : Fair ag mains) where
     mode = cells.following (r .time) (r .type) (cellsOf (r .values))
 
     -- `then` sees the reading's values and the remaining time
-    then-cells : (e : Sight) (z : ℤ) → cellsOf ((e .values ++ r .values) ++ (num z ∷ [])) ≡ cells.thenValues (cellsOf (e .values)) (cellsOf (r .values)) z
+    then-cells : (e : Sight) (z : ℤ) → length ((e .values ++ r .values) ++ (num z ∷ [])) ≤ 16 → cellsOf ((e .values ++ r .values) ++ (num z ∷ [])) ≡ cells.thenValues (cellsOf (e .values)) (cellsOf (r .values)) z
     unfolding cells.thenValues cellsOf cellOf
-    then-cells e z = cells-++ (e .values ++ r .values) (num z ∷ []) ∙ ap (λ l. l ++ (z ∷ [])) (cells-++ (e .values) (r .values))
+    then-cells e z l =
+        let same = cells-++ (e .values ++ r .values) (num z ∷ []) ∙ ap (λ l. l ++ (z ∷ [])) (cells-++ (e .values) (r .values)) in
+        same ∙ sym (take-all 16 _ (subst (λ m. m ≤ 16) (sym (len-cells ((e .values ++ r .values) ++ (num z ∷ []))) ∙ ap length same) l))
 
     -- `then` activated at the reading's time, z being the window's end
     abbrev acted : Clause → Sight → ℤ → Outcome
@@ -242,8 +256,11 @@ module _ (ag : Agreement) (mains : List ℕ) (fair : Fair ag mains) where
         vals : readingOfType (ag .readings) (w .wanted) ≡ some vs → T (eqb (w .wanted) (r .type)) → HaveTy (ag .parties) (env ++ vs) (e .values ++ r .values)
         vals rt h = HaveTy-++ (ag .parties) env vs (e .values) (r .values) (ok .values) (rok vs (subst (λ z. readingOfType (ag .readings) z ≡ some vs) (eqb→eq (w .wanted) (r .type) h) rt))
 
+        few : HaveTy (ag .parties) (env ++ vs) (e .values ++ r .values) → T (not (ltZ (pos (r .time)) x)) → length ((e .values ++ r .values) ++ (num ((x +ℤ y) -ℤ pos (r .time)) ∷ [])) ≤ 16
+        few h k = subst (λ m. m ≤ 16) (sym (len-typed (ag .parties) (thenSight env vs) _ (HaveTy-++ (ag .parties) (env ++ vs) (number ∷ []) (e .values ++ r .values) _ h (remaining-range x y (r .time) k nl ry, tt)))) (sight-few ag n env w vs tw)
+
         acts : HaveTy (ag .parties) (env ++ vs) (e .values ++ r .values) → T (not (ltZ (pos (r .time)) x)) → Shows (acted t e (x +ℤ y)) (actedCells t e (x +ℤ y))
-        acts h k = rw (← then-cells e ((x +ℤ y) -ℤ pos (r .time))) (then-shows t n (thenSight env vs) (withValues e (r .values) ((x +ℤ y) -ℤ pos (r .time))) (r .time) ps
+        acts h k = rw (← then-cells e ((x +ℤ y) -ℤ pos (r .time)) (few h k)) (then-shows t n (thenSight env vs) (withValues e (r .values) ((x +ℤ y) -ℤ pos (r .time))) (r .time) ps
             (record { count = ok .count; fewParams = ok .fewParams; range = ok .range; values = HaveTy-++ (ag .parties) (env ++ vs) (number ∷ []) (e .values ++ r .values) _ h (remaining-range x y (r .time) k nl ry, tt) }) ty pl)
 
         choose : (b b′ : Bool) → b′ ≡ b → Shows (acted t e (x +ℤ y)) (actedCells t e (x +ℤ y)) → Shows (orStuck (elim b [ false ↦ some o | true ↦ some (acted t e (x +ℤ y)) ])) (byFate (cond b′ cells.taken cells.waits) on out (actedCells t e (x +ℤ y)))

@@ -19,8 +19,8 @@ use Rattle.csl.specs.Table.{cellOf, cellsOf, natCells, residueCells, sortNumber
 use Rattle.csl.specs.Demand3.{NotStuck}
 use Rattle.soundness.proofs.Inversion.{from-bind, some-bind, some-inj}
 use Rattle.soundness.proofs.Good.{Good}
 use Rattle.cells.specs.Reduce as cells
-use Rattle.cells.proofs.Evaluate.{nothing}
+use Rattle.bridge.proofs.Evaluate.{nothing}
 
 -- fulfilled as fulfilled, a breach with its parties by bit, a residue as the table holds it; nothing shows a stuck outcome
 unfoldable pub Shows : Outcome → cells.Reduced → Type 0
