@@ -120,7 +120,7 @@ module _ (ag : Agreement) (mains : List ℕ) (fair : Fair ag mains) where
     unfoldable pub WalksGood : ℕ → Type 0
     WalksGood m = (c : Clause) (n : ℕ) (env : List Ty) (e : Sight) (a : ℕ) (bs : List ℕ) → T (guardedIn m c) → SightOk ag n env e → W a → typeClause (namesOf ag n) env c ≡ some bs → Placed ag n env c → Good ag W (standFor (e .params) bs) (walkIn s (ag .templates) m c e a)
 
-    unfold-good : (m : ℕ) → WalksGood m → UnfoldGood ag (fair .few) heads-declared W (suc m) (λ k vs ps u. orStuck (at (ag .templates) k >>= λ t. some (walkIn s (ag .templates) m (t .body) (record { params = ps; values = vs }) u)))
+    pub unfold-good : (m : ℕ) → WalksGood m → UnfoldGood ag (fair .few) heads-declared W (suc m) (λ k vs ps u. orStuck (at (ag .templates) k >>= λ t. some (walkIn s (ag .templates) m (t .body) (record { params = ps; values = vs }) u)))
     unfolding UnfoldGood WalksGood orStuck
     unfold-good m ih k h vs ps u lt ph hv cnt rng wu =
         at-heads (ag .templates) k h ph λ t pt eq.

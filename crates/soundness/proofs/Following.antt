@@ -102,7 +102,7 @@ module _ (ag : Agreement) (mains : List ℕ) (fair : Fair ag mains) (r : Reading
           bool-typed (ag .parties) (env ++ vs) (e .values ++ r .values) (vals h) (w .condition) u₁ tc λ b eb.
           good-bind ag (fair .few) (heads-declared ag mains fair) W P (evalBool (e .values ++ r .values) (w .condition)) _ b eb (choose b h k)
 
-  orNil-is : (w : Wait) (vs env : List Ty) → readingOfType (ag .readings) (w .wanted) ≡ some vs → thenSight env (orNil (readingOfType (ag .readings) (w .wanted))) ≡ thenSight env vs
+  pub orNil-is : (w : Wait) (vs env : List Ty) → readingOfType (ag .readings) (w .wanted) ≡ some vs → thenSight env (orNil (readingOfType (ag .readings) (w .wanted))) ≡ thenSight env vs
   unfolding orNil
   orNil-is w vs env e = rw e refl
 

@@ -51,7 +51,7 @@ unfolding natCells
 len-nats [] = refl
 len-nats (n ∷ ns) = ap suc (len-nats ns)
 
-len-cells : (vs : List Val) → length (cellsOf vs) ≡ length vs
+pub len-cells : (vs : List Val) → length (cellsOf vs) ≡ length vs
 unfolding cellsOf
 len-cells [] = refl
 len-cells (n ∷ ns) = ap suc (len-cells ns)
@@ -82,7 +82,7 @@ values-cells ps [] (v ∷ vs) rest h = absurd h
 values-cells ps (t ∷ ts) [] rest h = absurd h
 values-cells ps (t ∷ ts) (v ∷ vs) rest h = some-bind (valueOf ps t (cellOf v)) _ v (value-cell ps t v (h .0)) ∙ some-bind (valuesOf ps ts (cellsOf vs ++ rest)) _ (vs, rest) (values-cells ps ts vs rest (h .1))
 
-len-typed : (ps : ℕ) (ts : List Ty) (vs : List Val) → HaveTy ps ts vs → length vs ≡ length ts
+pub len-typed : (ps : ℕ) (ts : List Ty) (vs : List Val) → HaveTy ps ts vs → length vs ≡ length ts
 unfolding HaveTy
 len-typed ps [] [] h = refl
 len-typed ps [] (v ∷ vs) h = absurd h

@@ -1,0 +1,3 @@
+pub mod Evaluate
+pub mod Shows
+pub mod Reduce

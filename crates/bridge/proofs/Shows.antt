@@ -1,0 +1,172 @@
+-- A csl outcome and the same on cells; joins, blames and units keep the two the same.
+use mathlib.Core.Bool.{Bool, cond, false, true, _||_}
+use mathlib.Core.List.{List, [], _∷_, _++_}
+use mathlib.Core.Option.{Option, some}
+use mathlib.Core.Path.{ap, ap₂, refl, subst, sym, _∙_, _≡_}
+use Prim.Native.Nat.{_%_, _*_, _+_, _-_, _/_, max, suc, zero, ℕ}
+use native.Mathlib.Omega.{arith}
+use lib.Bits.{bitOr, or-step}
+use lib.Dec.{eqb, ltb}
+use lib.IntN.{pos}
+use lib.ListN.{getD}
+use Rattle.csl.specs.Lists.{_>>=_, at}
+use Rattle.csl.specs.Parties.{bit, bitsFrom, bitsOf, member, sameSet}
+use Rattle.csl.specs.Syntax.{Agreement, Join, and, or}
+use Rattle.csl.specs.Values.{Val}
+use Rattle.csl.specs.Outcomes.{Outcome, Sight, Sort, breach, done, earlier, joinBoth, joinEither, joined, later, orStuck, running, stuck}
+use Rattle.csl.specs.Rules.{blamed, blamedAll}
+use Rattle.csl.specs.Table.{cellOf, cellsOf, natCells, residueCells, sortNumber, unitCells}
+use Rattle.csl.specs.Demand3.{NotStuck}
+use Rattle.soundness.proofs.Inversion.{from-bind, some-bind, some-inj}
+use Rattle.soundness.proofs.Good.{Good}
+use Rattle.cells.specs.Reduce as cells
+use Rattle.bridge.proofs.Evaluate.{nothing}
+
+-- fulfilled as fulfilled, a breach with its parties by bit, a residue as the table holds it; nothing shows a stuck outcome
+unfoldable pub Shows : Outcome → cells.Reduced → Type 0
+Shows done r = r ≡ cells.done
+Shows (breach t ps) r = r ≡ cells.breach t (bitsOf ps)
+Shows (running res) r = r ≡ cells.running (residueCells res)
+Shows stuck r = ⊥
+
+pub shows-bind : {A : Type 0} (m : Option A) (f : A → Option Outcome) (x : A) (r : cells.Reduced) → m ≡ some x → Shows (orStuck (f x)) r → Shows (orStuck (m >>= f)) r
+shows-bind m f x r e s = subst (λ o. Shows (orStuck o) r) (sym (some-bind m f x e)) s
+
+pub good-moves : (ag : Agreement) (W : ℕ → Type 0) (P : List ℕ) (o : Outcome) → Good ag W P o → NotStuck o
+unfolding Good NotStuck
+good-moves ag W P done g = tt
+good-moves ag W P (breach t ps) g = tt
+good-moves ag W P (running r) g = tt
+good-moves ag W P stuck g = g
+
+-- ---- the bits of two sets together
+half-digit : (b : Bool) (m : ℕ) → (bit b + 2 * m) / 2 ≡ m
+unfolding bit
+half-digit true m = omega arith
+half-digit false m = omega arith
+
+low-digit : (b : Bool) (m : ℕ) → (bit b + 2 * m) % 2 ≡ bit b
+unfolding bit
+low-digit true m = omega arith
+low-digit false m = omega arith
+
+digit : (x y : Bool) (r : ℕ) → r * 2 + max (bit x) (bit y) ≡ bit (x || y) + 2 * r
+unfolding bit
+digit true true r = omega arith
+digit true false r = omega arith
+digit false true r = omega arith
+digit false false r = omega arith
+
+or-digits : (x y : Bool) (m n : ℕ) → bitOr (bit x + 2 * m) (bit y + 2 * n) ≡ bit (x || y) + 2 * bitOr m n
+or-digits x y m n =
+    or-step (bit x + 2 * m) (bit y + 2 * n)
+    ∙ ap₂ (λ (r c : ℕ). r * 2 + c) (ap₂ bitOr (half-digit x m) (half-digit y n)) (ap₂ max (low-digit x m) (low-digit y n))
+    ∙ digit x y (bitOr m n)
+
+member-++ : (i : ℕ) (ps qs : List ℕ) → member i (ps ++ qs) ≡ (member i ps || member i qs)
+unfolding member
+member-++ i [] qs = refl
+member-++ i (p ∷ ps) qs = go (eqb i p) (member-++ i ps qs)
+  where
+    go : (b : Bool) → member i (ps ++ qs) ≡ (member i ps || member i qs) → (b || member i (ps ++ qs)) ≡ ((b || member i ps) || member i qs)
+    go true e = refl
+    go false e = e
+
+bits-++ : (k i : ℕ) (ps qs : List ℕ) → bitsFrom k i (ps ++ qs) ≡ bitOr (bitsFrom k i ps) (bitsFrom k i qs)
+unfolding bitsFrom
+bits-++ zero i ps qs = refl
+bits-++ (suc k) i ps qs =
+    ap₂ (λ b r. bit b + 2 * r) (member-++ i ps qs) (bits-++ k (suc i) ps qs)
+    ∙ sym (or-digits (member i ps) (member i qs) (bitsFrom k (suc i) ps) (bitsFrom k (suc i) qs))
+
+-- the bits of two sets together are the bits of each, joined
+pub bits-or : (ps qs : List ℕ) → bitsOf (ps ++ qs) ≡ bitOr (bitsOf ps) (bitsOf qs)
+unfolding bitsOf
+bits-or ps qs = bits-++ 16 0 ps qs
+
+-- ---- joins
+earlier-shows : (t u : ℕ) (ps qs : List ℕ) → Shows (earlier t ps u qs) (cells.earlier t (bitsOf ps) u (bitsOf qs))
+unfolding earlier cells.earlier Shows
+earlier-shows t u ps qs = go (ltb t u) (ltb u t)
+  where
+    go : (x y : Bool) → Shows (elim x [ true ↦ breach t ps | false ↦ elim y [ true ↦ breach u qs | false ↦ breach t (ps ++ qs) ] ]) (cond x (cells.breach t (bitsOf ps)) (cond y (cells.breach u (bitsOf qs)) (cells.breach t (bitOr (bitsOf ps) (bitsOf qs)))))
+    go true y = refl
+    go false true = refl
+    go false false = ap (cells.breach t) (sym (bits-or ps qs))
+
+later-shows : (t u : ℕ) (ps qs : List ℕ) → NotStuck (later t ps u qs) → Shows (later t ps u qs) (cells.later t (bitsOf ps) u (bitsOf qs))
+unfolding later cells.later Shows NotStuck
+later-shows t u ps qs = go (ltb t u) (ltb u t) (sameSet ps qs)
+  where
+    go : (x y z : Bool) → NotStuck (elim x [ true ↦ breach u qs | false ↦ elim y [ true ↦ breach t ps | false ↦ elim z [ true ↦ breach t ps | false ↦ stuck ] ] ])
+        → Shows (elim x [ true ↦ breach u qs | false ↦ elim y [ true ↦ breach t ps | false ↦ elim z [ true ↦ breach t ps | false ↦ stuck ] ] ]) (cond x (cells.breach u (bitsOf qs)) (cells.breach t (bitsOf ps)))
+    go true y z n = refl
+    go false true z n = refl
+    go false false true n = refl
+    go false false false n = absurd n
+
+-- what shows two sides, joined on cells, shows the two joined
+pub joined-shows : (j : Join) (l r : Outcome) (l′ r′ : cells.Reduced) → NotStuck (joined j l r) → Shows l l′ → Shows r r′ → Shows (joined j l r) (cells.joined j l′ r′)
+unfolding joined joinBoth joinEither NotStuck Shows cells.joined cells.joinBoth cells.joinEither residueCells
+joined-shows and done r l′ r′ n p q = rw p q
+joined-shows and (breach t ps) done l′ r′ n p q = rw (p, q) refl
+joined-shows and (breach t ps) (breach u qs) l′ r′ n p q = rw (p, q) (earlier-shows t u ps qs)
+joined-shows and (breach t ps) (running r) l′ r′ n p q = rw (p, q) refl
+joined-shows and (breach t ps) stuck l′ r′ n p q = q
+joined-shows and (running l) done l′ r′ n p q = rw (p, q) refl
+joined-shows and (running l) (breach u qs) l′ r′ n p q = rw (p, q) refl
+joined-shows and (running l) (running r) l′ r′ n p q = rw (p, q) refl
+joined-shows and (running l) stuck l′ r′ n p q = q
+joined-shows and stuck r l′ r′ n p q = p
+joined-shows or done done l′ r′ n p q = rw p refl
+joined-shows or done (breach u qs) l′ r′ n p q = rw p refl
+joined-shows or done (running r) l′ r′ n p q = rw p refl
+joined-shows or done stuck l′ r′ n p q = q
+joined-shows or (breach t ps) done l′ r′ n p q = rw (p, q) refl
+joined-shows or (breach t ps) (breach u qs) l′ r′ n p q = rw (p, q) (later-shows t u ps qs n)
+joined-shows or (breach t ps) (running r) l′ r′ n p q = rw (p, q) refl
+joined-shows or (breach t ps) stuck l′ r′ n p q = q
+joined-shows or (running l) done l′ r′ n p q = rw (p, q) refl
+joined-shows or (running l) (breach u qs) l′ r′ n p q = rw (p, q) refl
+joined-shows or (running l) (running r) l′ r′ n p q = rw (p, q) refl
+joined-shows or (running l) stuck l′ r′ n p q = q
+joined-shows or stuck r l′ r′ n p q = p
+
+-- ---- blames
+at-natCell : (ps : List ℕ) (i p : ℕ) → at ps i ≡ some p → getD (natCells ps) i (pos 0) ≡ pos p
+unfolding at natCells
+at-natCell [] i p e = nothing e
+at-natCell (q ∷ ps) zero p e = ap pos (some-inj e)
+at-natCell (q ∷ ps) (suc i) p e = at-natCell ps i p e
+
+-- a blame byte's cell holds the party that it stands for
+pub blamed-cell : (params : List ℕ) (b p : ℕ) → blamed params b ≡ some p → cells.blamedCell (natCells params) b ≡ pos p
+unfolding blamed cells.blamedCell
+blamed-cell params b p = go (ltb b 128)
+  where
+    go : (x : Bool) → (elim x [ true ↦ some b | false ↦ at params (b - 128) ]) ≡ some p → cond x (pos b) (getD (natCells params) (b - 128) (pos 0)) ≡ pos p
+    go true e = ap pos (some-inj e)
+    go false e = at-natCell params (b - 128) p e
+
+pub blame-bits : (params : List ℕ) (b p : ℕ) → blamed params b ≡ some p → cells.blameBits (natCells params) b ≡ bitsOf (p ∷ [])
+unfolding cells.blameBits cells.partyCell
+blame-bits params b p e = ap (λ z. bitsOf (cells.partyCell z ∷ [])) (blamed-cell params b p e)
+
+pub blamed-cells : (params bs qs : List ℕ) → blamedAll params bs ≡ some qs → cells.blamedCells (natCells params) bs ≡ natCells qs
+unfolding blamedAll cells.blamedCells natCells
+blamed-cells params [] qs e = ap natCells (some-inj e)
+blamed-cells params (b ∷ bs) qs e =
+    from-bind (blamed params b) _ qs e λ p ep q.
+    from-bind (blamedAll params bs) _ qs q λ ps eps r.
+    ap₂ _∷_ (blamed-cell params b p ep) (blamed-cells params bs ps eps) ∙ ap natCells (some-inj r)
+
+-- ---- units
+-- a waiting unit on cells is the table's unit
+pub unit-cells : (s : Sort) (p a : ℕ) (e : Sight) → cells.unitOf (sortNumber s) p a (natCells (e .params)) (cellsOf (e .values)) ≡ unitCells s p a e
+unfolding cells.unitOf unitCells
+unit-cells s p a e = refl
+
+pub cells-++ : (vs ws : List Val) → cellsOf (vs ++ ws) ≡ cellsOf vs ++ cellsOf ws
+unfolding cellsOf
+cells-++ [] ws = refl
+cells-++ (v ∷ vs) ws = ap (λ l. cellOf v ∷ l) (cells-++ vs ws)

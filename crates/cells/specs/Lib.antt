@@ -1,0 +1,3 @@
+pub mod Evaluate
+pub mod Reduce
+pub mod Across
