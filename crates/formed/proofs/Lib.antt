@@ -1,0 +1,3 @@
+pub mod Exprs
+pub mod Clauses
+pub mod Bodies
