@@ -1,0 +1,120 @@
+-- Laws for the clauses of a well-formed agreement: its main clause, and its templates' bodies one after another.
+use mathlib.Core.Path.{_≡_, refl, sym, _∙_}
+use mathlib.Core.Bool.{Bool, true, false, not, _&&_}
+use mathlib.Core.List.{List, [], _∷_, _++_, map}
+use Prim.Native.Nat.{ℕ, suc, _+_, _-_, _<_, _≤_}
+use native.Mathlib.Numerals.{add-one}
+use native.Mathlib.Omega.{arith}
+use lib.ListN.{length}
+use Rattle.csl.specs.Lists.{all}
+use Rattle.csl.specs.Bytes.{byte, part, recordEnd}
+use Rattle.csl.specs.Syntax.{Clause, Template}
+use Rattle.csl.specs.Decode.{whole, pieces, piecesEnd, templatesPlace, mainPlace, templatePieces, headsOf, mainOf, bodyPlace, bodyOf, templateOf, agreementOf, listed, wellFormed}
+use Rattle.csl.specs.Guards.{guardedIn, guardedFrom}
+use Rattle.csl.specs.Widths.{width, widthsFrom}
+use Rattle.arith.proofs.Lists.{length-part, part-part}
+use Rattle.arith.proofs.Bytes.{record-end-within, record-end-after}
+use Rattle.records.specs.Index.{Indexed, templatePlace, pieceAt}
+use Rattle.records.proofs.Index.{T-both, T-true, true-T, piece, all-pieces, pieces-more, template-within, template-facts}
+use Rattle.guards.specs.Walk.{Formed, Answers, Spans, bodyBytes, bodyAt}
+
+-- ---- the main clause and each body are whole
+module _ (s : List ℕ) (x : wellFormed s ≡ true) where
+  main-whole : whole (mainOf s) ≡ true
+  unfolding wellFormed
+  main-whole =
+      let a = listed s in
+      let b = whole (mainOf s) in
+      T-both (a && b) _ (true-T x) λ t u. T-both a b t λ v w. T-true b w
+
+  body-whole : (k : ℕ) → k < byte s 10 → whole (bodyAt s k) ≡ true
+  unfolding wellFormed templatePieces bodyAt
+  body-whole k l = T-both (listed s && whole (mainOf s)) _ (true-T x) λ t u. T-true _ (all-pieces (λ q. whole (bodyOf (headsOf s) q)) (byte s 10) s (templatesPlace s) k u l)
+
+  pub main-formed : {a : ℕ} → a ≡ mainPlace s → Formed 23 (part s a (length s))
+  unfolding mainOf
+  main-formed e = record { heads = headsOf s; place = mainPlace s; formed = rw e main-whole }
+
+  pub main-answers : {A : Type 0} (f : Clause → A) {a : ℕ} {r : A} → a ≡ mainPlace s → Answers f 23 (part s a (length s)) r → r ≡ f (mainOf s)
+  unfolding mainOf
+  main-answers f e a = (rw e at a) .is (headsOf s) (mainPlace s) main-whole
+
+  module _ {k from to : ℕ} (l : k < byte s 10) (b : Spans s k from to) where
+    pub body-formed : Formed 22 (part s from to)
+    unfolding bodyAt bodyOf bodyBytes
+    body-formed = let q = pieceAt s (templatePlace s k) in record { heads = headsOf s; place = templatePlace s k + bodyPlace q; formed = rw (b .body) (body-whole k l) }
+
+    pub body-answers : {A : Type 0} (f : Clause → A) {r : A} → Answers f 22 (part s from to) r → r ≡ f (bodyAt s k)
+    unfolding bodyAt bodyOf bodyBytes
+    body-answers f a = let q = pieceAt s (templatePlace s k) in (rw (b .body) at a) .is (headsOf s) (templatePlace s k + bodyPlace q) (body-whole k l)
+
+-- ---- where a body stands: a, n and e are what calls gave
+pub body-spans : {places s : List ℕ} {k a n e : ℕ} → Indexed places s × (k < byte s 10) → a ≡ templatePlace s k → n ≡ byte (pieceAt s (templatePlace s k)) 4 → e ≡ recordEnd s a → Spans s k (a + (8 + n)) e
+unfolding bodyBytes bodyPlace
+body-spans {s = s} {k} x p q o =
+    let b = templatePlace s k in
+    let z = recordEnd s b in
+    let u = pieceAt s b in
+    let m = 8 + byte u 4 in
+    let w = record-end-within s b in
+    let h = template-facts (x .0) k (x .1) in
+    let g = length-part s b z w in
+    let v = record-end-after s b (template-within (x .0) k) in
+    let j : b + (z - b) ≡ z = omega arith in
+    rw (o, q, p) record { ordered = omega (arith, h .long); within = w; body = sym (rw g (part-part s b z m (z - b) (omega arith) ∙ rw j)) }
+
+-- ---- the templates from number k on
+unfoldable pub templatesFrom : List ℕ → ℕ → List Template
+templatesFrom s k = map (templateOf (headsOf s)) (pieces (byte s 10 - k) s (templatePlace s k))
+
+pub from-first : (s : List ℕ) → agreementOf s .templates ≡ templatesFrom s 0
+unfolding agreementOf templatePieces templatesFrom piecesEnd
+from-first s = let z : byte s 10 - 0 ≡ byte s 10 = omega arith in rw z
+
+pub from-last : (s : List ℕ) (k : ℕ) → byte s 10 ≤ k → templatesFrom s k ≡ []
+unfolding templatesFrom pieces
+from-last s k l = let z : byte s 10 - k ≡ 0 = omega arith in rw z
+
+from-next : (s : List ℕ) (k : ℕ) → k < byte s 10 → templatesFrom s k ≡ templateOf (headsOf s) (piece s (templatePlace s k)) ∷ templatesFrom s (k + 1)
+unfolding templatesFrom pieces
+from-next s k l =
+    let z : byte s 10 - k ≡ suc (byte s 10 - (k + 1)) = omega arith in
+    rw (z, pieces-more k s (templatesPlace s))
+
+module _ (s : List ℕ) (k : ℕ) (l : k < byte s 10) where
+  pub guarded-next : guardedFrom k (templatesFrom s k) ≡ (guardedIn k (bodyAt s k) && guardedFrom (k + 1) (templatesFrom s (k + 1)))
+  unfolding guardedFrom bodyAt templateOf
+  guarded-next = rw (from-next s k l, add-one k)
+
+  pub widths-next : (ws : List ℕ) → widthsFrom ws (templatesFrom s k) ≡ widthsFrom (ws ++ (width ws (bodyAt s k) ∷ [])) (templatesFrom s (k + 1))
+  unfolding widthsFrom bodyAt templateOf
+  widths-next ws = rw (from-next s k l)
+
+  pub all-next : (p : Clause → Bool) → all (λ t. p (t .body)) (templatesFrom s k) ≡ (p (bodyAt s k) && all (λ t. p (t .body)) (templatesFrom s (k + 1)))
+  unfolding all bodyAt templateOf
+  all-next p = rw (from-next s k l)
+
+module _ (s : List ℕ) (k : ℕ) (l : byte s 10 ≤ k) where
+  pub guarded-last : guardedFrom k (templatesFrom s k) ≡ true
+  unfolding guardedFrom
+  guarded-last = rw (from-last s k l)
+
+  pub all-last : (p : Clause → Bool) → all (λ t. p (t .body)) (templatesFrom s k) ≡ true
+  unfolding all
+  all-last p = rw (from-last s k l)
+
+-- ---- a loop over the templates: t is what all of them say, a what one says, and x what the code found of it
+not-true : (x : Bool) → not x ≡ true → x ≡ false
+not-true true e = sym e
+not-true false e = refl
+
+not-false : (x : Bool) → not x ≡ false → x ≡ true
+not-false true e = refl
+not-false false e = sym e
+
+module _ (a b : Bool) {t x : Bool} (e : t ≡ (a && b)) (f : x ≡ a) where
+  pub loop-stops : not x ≡ true → false ≡ t
+  loop-stops q = sym (e ∙ rw (sym f ∙ not-true x q))
+
+  pub loop-goes : not x ≡ false → t ≡ b
+  loop-goes q = e ∙ rw (sym f ∙ not-false x q)

@@ -1,0 +1,5 @@
+mod Walks
+mod Guarding
+mod Wide
+mod Bodies
+mod Filling
