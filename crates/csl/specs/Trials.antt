@@ -1,4 +1,4 @@
--- Paper 01, "Pond trials": P1 to P15, by computation, as one claim over a list.
+-- Paper 01, "Pond trials": P1 to P15 and some further ones, by computation, as one claim over a list.
 -- At the start and after every reading the entry's answer, the table's head and the forecast are as expected, and number and table, cell for cell, are the run's.
 use mathlib.Core.Bool.{Bool, true, false, _&&_}
 use mathlib.Core.List.{List, [], _∷_, _++_}
@@ -31,7 +31,7 @@ use Rattle.csl.specs.Check.{Checked, refused, accepted, checked}
 use Rattle.csl.specs.Run.{Run, Stepped, started, step}
 use Rattle.csl.specs.Table.{tableOf, asNats}
 use Rattle.csl.specs.Entries.{Answer, Forecast, refusedForecast, noBreach, breachAt, noForecast, startOf, readingOf, forecastOf}
-use Rattle.csl.specs.Build.{lit, yes′, op, nothing, owes, simply, may, all′, any′, inst, templateOf, agreement, reading, mark, sample}
+use Rattle.csl.specs.Build.{lit, truthOf, yes′, partyOf, var, opposite, op, nothing, owesTyped, owes, simply, may, ifs, all′, any′, inst, templateOf, agreement, reading, mark, sample}
 
 -- everything that the trials compute with
 unfoldable pub computes : Unit {0}
@@ -179,9 +179,101 @@ twice = trial (agreement [] (owes 0 yes′ (pos 0) (pos 60) (simply 1 (pos 30)))
     line (reading 120 (pos 1)) (live 120 1 150 2)
     ∷ line (reading 150 (pos 1)) (fulfils 150) ∷ [])
 
+-- numbers at both ends, quotients by either sign and by 0; truths, and what is equal
+unfoldable pub is : List ℕ → ℤ → List ℕ
+is e z = op 43 e (lit z)
+
+unfoldable pub every : List (List ℕ) → List ℕ
+every [] = yes′
+every (e ∷ es) = op 41 e (every es)
+
+unfoldable pub most : List ℕ
+most = lit (pos 1_000_000_000)
+
+unfoldable pub least : List ℕ
+least = lit (negsuc 999_999_999)
+
+unfoldable pub facts : List (List ℕ)
+facts =
+    is (op 37 least (lit (negsuc 0))) (negsuc 999_999_999)
+    ∷ is (op 38 most (lit (negsuc 0))) (pos 1_000_000_000)
+    ∷ is (op 38 least (lit (pos 1))) (negsuc 999_999_999)
+    ∷ is (op 38 (lit (pos 5)) (lit (pos 7))) (negsuc 1)
+    ∷ is (op 39 most most) (pos 1_000_000_000)
+    ∷ is (op 39 most least) (negsuc 999_999_999)
+    ∷ is (op 40 (lit (pos 7)) (lit (negsuc 1))) (negsuc 2)
+    ∷ is (op 40 (lit (negsuc 6)) (lit (negsuc 1))) (pos 3)
+    ∷ is (op 40 (lit (negsuc 6)) (lit (pos 0))) (pos 0)
+    ∷ op 42 (lit (negsuc 0)) (lit (pos 0))
+    ∷ opposite (op 42 (lit (pos 1)) (lit (pos 1)))
+    ∷ opposite (op 41 yes′ (truthOf 0))
+    ∷ opposite (op 41 (truthOf 0) yes′)
+    ∷ op 43 (truthOf 0) (truthOf 0)
+    ∷ opposite (op 43 yes′ (truthOf 0))
+    ∷ op 43 (partyOf 1) (partyOf 1)
+    ∷ opposite (op 43 (partyOf 0) (partyOf 1)) ∷ []
+
+unfoldable pub reckoning : Trial
+reckoning = trial (agreement [] (owes 0 (every facts) (pos 0) (pos 60) nothing)) (live 100 1 160 1) (line (reading 110 (pos 1)) (fulfils 110) ∷ [])
+
+-- a reading before `first` is not taken, at `first` it is
+unfoldable pub early : Trial
+early = trial (agreement [] (owes 0 yes′ (pos 30) (pos 20) nothing)) (live 100 1 150 1) (line (reading 129 (pos 1)) (live 129 1 150 1) ∷ line (reading 130 (pos 1)) (fulfils 130) ∷ [])
+
+-- a window is not held at a number's limit
+unfoldable pub far : Trial
+far = trial (agreement [] (owes 0 yes′ (pos 1_000_000_000) (pos 1_000_000_000) nothing)) (live 100 1 2_000_000_100 1) []
+
+-- P9 and P11 with the sides the other way round, and a breach beside what still waits
+unfoldable pub mirrored : Trial
+mirrored = trial (agreement [] (all′ (simply 0 (pos 50)) (simply 1 (pos 60)))) (live 100 3 150 1) (line (mark 161) (breaches 161 150 1) ∷ [])
+
+unfoldable pub besideLeft : Trial
+besideLeft = trial (agreement [] (all′ (simply 0 (pos 50)) (simply 1 (pos 60)))) (live 100 3 150 1) (line (mark 155) (breaches 155 150 1) ∷ [])
+
+unfoldable pub besideRight : Trial
+besideRight = trial (agreement [] (all′ (simply 0 (pos 60)) (simply 1 (pos 50)))) (live 100 3 150 2) (line (mark 155) (breaches 155 150 2) ∷ [])
+
+unfoldable pub either : Trial
+either = trial (agreement [] (any′ (simply 0 (pos 60)) (simply 0 (pos 50)))) (live 100 3 160 1) (line (mark 155) (live 155 1 160 1) ∷ line (mark 161) (breaches 161 160 1) ∷ [])
+
+unfoldable pub eitherLate : Trial
+eitherLate = trial (agreement [] (any′ (simply 0 (pos 60)) (simply 0 (pos 50)))) (live 100 3 160 1) (line (mark 161) (breaches 161 160 1) ∷ [])
+
+-- `then` sees the reading's value and after it the remaining time
+unfoldable pub remaining : Trial
+remaining = trial (agreement [] (owes 0 yes′ (pos 0) (pos 60) (owesTyped 1 1 (op 42 (var 0) (var 2)) (lit (pos 0)) (var 1) nothing))) (live 100 1 160 1) (
+    line (reading 120 (pos 5)) (live 120 1 160 2)
+    ∷ line (reading 130 (pos 5)) (live 130 1 160 2)
+    ∷ line (reading 160 (pos 6)) (fulfils 160) ∷ [])
+
+-- a template's value and parameter
+unfoldable pub lends : Trial
+lends = trial (agreement (templateOf (1 ∷ []) 1 0 (owesTyped 128 1 yes′ (lit (pos 0)) (var 0) nothing) ∷ []) (inst 0 (lit (pos 30) ∷ []) (1 ∷ []))) (live 100 1 130 2) (line (mark 131) (breaches 131 130 2) ∷ [])
+
+-- an else is activated at the later of A and last, and may be chosen by an if
+unfoldable pub belated : Trial
+belated = trial (agreement [] (may yes′ (pos 0) (negsuc 4) nothing (ifs (truthOf 0) nothing (simply 1 (pos 20))))) (live 100 1 120 2) (line (mark 100) (live 100 1 120 2) ∷ line (mark 121) (breaches 121 120 2) ∷ [])
+
+-- forecast none: alone, beside `and`, beside `or`; a fulfilled run goes on
+unfoldable pub idle : ℕ → ℕ → List ℕ
+idle time used = 0 ∷ 1 ∷ time ∷ 0 ∷ 0 ∷ used ∷ []
+
+unfoldable pub harmless : List ℕ
+harmless = may yes′ (pos 0) (pos 50) nothing nothing
+
+unfoldable pub noneAlone : Trial
+noneAlone = trial (agreement [] harmless) (idle 100 1) (line (mark 151) (fulfils 151) ∷ line (mark 160) (fulfils 160) ∷ [])
+
+unfoldable pub noneBoth : Trial
+noneBoth = trial (agreement [] (all′ harmless (simply 0 (pos 60)))) (live 100 3 160 1) (line (mark 151) (live 151 1 160 1) ∷ [])
+
+unfoldable pub noneEither : Trial
+noneEither = trial (agreement [] (any′ (simply 0 (pos 60)) harmless)) (idle 100 3) (line (mark 151) (fulfils 151) ∷ [])
+
 unfoldable pub trials : List Trial
-trials = p1to4 ∷ p5and6 ∷ p7 ∷ p8 ∷ p9 ∷ p10 ∷ p11 ∷ p12a ∷ p12b ∷ p13 ∷ p14 ∷ p15 ∷ twice ∷ []
+trials = p1to4 ∷ p5and6 ∷ p7 ∷ p8 ∷ p9 ∷ p10 ∷ p11 ∷ p12a ∷ p12b ∷ p13 ∷ p14 ∷ p15 ∷ twice ∷ reckoning ∷ early ∷ far ∷ mirrored ∷ besideLeft ∷ besideRight ∷ either ∷ eitherLate ∷ remaining ∷ lends ∷ belated ∷ noneAlone ∷ noneBoth ∷ noneEither ∷ []
 
 pub trials-pass : T (all passes trials)
-unfolding computes forecastSeen headSeen seen live fulfils breaches sameCells sameNats fits line trial zeros follows passes p1to4 p5and6 p7 p8 p9 p10 p11 choosing p12a p12b asks p13 p14 self doubling p15 twice trials
+unfolding computes forecastSeen headSeen seen live fulfils breaches sameCells sameNats fits line trial zeros follows passes p1to4 p5and6 p7 p8 p9 p10 p11 choosing p12a p12b asks p13 p14 self doubling p15 twice is every most least facts reckoning early far mirrored besideLeft besideRight either eitherLate remaining lends belated idle harmless noneAlone noneBoth noneEither trials
 trials-pass = tt
