@@ -1,3 +1,7 @@
 pub mod Evaluate
 pub mod Shows
 pub mod Reduce
+pub mod Across
+pub mod Tables
+pub mod Refusals
+pub mod Entries

@@ -109,7 +109,7 @@ value-is ps number z v e = from-need (inRange z) _ v e λ t b. ap cellOf (some-i
 value-is ps truth z v e = from-bind (asNat z) _ v e λ n a b. nat-is z n a ∙ truth-is n v b
 value-is ps party z v e = from-bind (asNat z) _ v e λ n a b. from-need (ltb n ps) _ v b λ t c. nat-is z n a ∙ ap cellOf (some-inj c)
 
-values-are : (ps : ℕ) (ts : List Ty) (zs : List ℤ) (r : List Val × List ℤ) → valuesOf ps ts zs ≡ some r → zs ≡ cellsOf (r .0) ++ r .1
+pub values-are : (ps : ℕ) (ts : List Ty) (zs : List ℤ) (r : List Val × List ℤ) → valuesOf ps ts zs ≡ some r → zs ≡ cellsOf (r .0) ++ r .1
 unfolding valuesOf cellsOf
 values-are ps [] zs r e = ap (λ x. cellsOf (x .0) ++ x .1) (some-inj e)
 values-are ps (t ∷ ts) [] r e = let z : _≡_ {A = ℕ} 0 1 = cc in absurd (omega arith)

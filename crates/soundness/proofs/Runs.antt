@@ -39,7 +39,7 @@ abbrev pub stepped : ℕ → Run → Stepped
 stepped n r = record { number = n; run = r }
 
 -- ---- a reading fits or not
-fit-cases : {C : Type 0} (a : Agreement) (now : ℕ) (bytes : List ℕ)
+pub fit-cases : {C : Type 0} (a : Agreement) (now : ℕ) (bytes : List ℕ)
     → ((n : ℕ) → (n ≡ 8) ⊎ (n ≡ 9) → fitting a bytes ≡ none → fitOf a now bytes ≡ unfit n → C)
     → ((d : Reading) → fitting a bytes ≡ some d → d .time < now → fitOf a now bytes ≡ unfit 10 → C)
     → ((w : Raw) (d : Reading) → rawReading bytes ≡ some w → typedReading a w ≡ some d → fitting a bytes ≡ some d → now ≤ d .time → fitOf a now bytes ≡ fit d → C) → C
@@ -126,7 +126,7 @@ breach-ok a mains now (breach t ps) g = (nonempty ps (g .0) (g .1), sub→subset
 breach-ok a mains now (running r) g = tt
 breach-ok a mains now stuck g = g
 
-cells-len : (a : Agreement) (W : ℕ → Type 0) (res : Residue) (ps : List ℕ) → Ok a W res ps → length (residueCells res) ≡ 24 * units res
+pub cells-len : (a : Agreement) (W : ℕ → Type 0) (res : Residue) (ps : List ℕ) → Ok a W res ps → length (residueCells res) ≡ 24 * units res
 unfolding Ok residueCells units
 cells-len a W (unit s p t e) ps ok = units-length a W s p t e ps ok
 cells-len a W (both j l r) ps ok = length-append (joinCells j) (residueCells l ++ residueCells r) ∙ omega (arith, join-length a W j, length-append (residueCells l) (residueCells r), cells-len a W l (ok .0) (ok .2), cells-len a W r (ok .1) (ok .3))
