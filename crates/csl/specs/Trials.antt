@@ -206,8 +206,6 @@ facts =
     ∷ is (op 40 (lit (negsuc 6)) (lit (pos 0))) (pos 0)
     ∷ op 42 (lit (negsuc 0)) (lit (pos 0))
     ∷ opposite (op 42 (lit (pos 1)) (lit (pos 1)))
-    ∷ opposite (op 41 yes′ (truthOf 0))
-    ∷ opposite (op 41 (truthOf 0) yes′)
     ∷ op 43 (truthOf 0) (truthOf 0)
     ∷ opposite (op 43 yes′ (truthOf 0))
     ∷ op 43 (partyOf 1) (partyOf 1)
@@ -215,6 +213,10 @@ facts =
 
 unfoldable pub reckoning : Trial
 reckoning = trial (agreement [] (owes 0 (every facts) (pos 0) (pos 60) nothing)) (live 100 1 160 1) (line (reading 110 (pos 1)) (fulfils 110) ∷ [])
+
+-- an `and` of truths, by either side
+unfoldable pub bothTrue : Trial
+bothTrue = trial (agreement [] (owes 0 (opposite (op 41 yes′ (truthOf 0))) (pos 0) (pos 60) (owes 0 (opposite (op 41 (truthOf 0) yes′)) (pos 0) (pos 60) nothing))) (live 100 1 160 1) (line (reading 110 (pos 1)) (live 110 1 170 1) ∷ line (reading 120 (pos 1)) (fulfils 120) ∷ [])
 
 -- a reading before `first` is not taken, at `first` it is
 unfoldable pub early : Trial
@@ -272,8 +274,8 @@ unfoldable pub noneEither : Trial
 noneEither = trial (agreement [] (any′ (simply 0 (pos 60)) harmless)) (idle 100 3) (line (mark 151) (fulfils 151) ∷ [])
 
 unfoldable pub trials : List Trial
-trials = p1to4 ∷ p5and6 ∷ p7 ∷ p8 ∷ p9 ∷ p10 ∷ p11 ∷ p12a ∷ p12b ∷ p13 ∷ p14 ∷ p15 ∷ twice ∷ reckoning ∷ early ∷ far ∷ mirrored ∷ besideLeft ∷ besideRight ∷ either ∷ eitherLate ∷ remaining ∷ lends ∷ belated ∷ noneAlone ∷ noneBoth ∷ noneEither ∷ []
+trials = p1to4 ∷ p5and6 ∷ p7 ∷ p8 ∷ p9 ∷ p10 ∷ p11 ∷ p12a ∷ p12b ∷ p13 ∷ p14 ∷ p15 ∷ twice ∷ reckoning ∷ bothTrue ∷ early ∷ far ∷ mirrored ∷ besideLeft ∷ besideRight ∷ either ∷ eitherLate ∷ remaining ∷ lends ∷ belated ∷ noneAlone ∷ noneBoth ∷ noneEither ∷ []
 
 pub trials-pass : T (all passes trials)
-unfolding computes forecastSeen headSeen seen live fulfils breaches sameCells sameNats fits line trial zeros follows passes p1to4 p5and6 p7 p8 p9 p10 p11 choosing p12a p12b asks p13 p14 self doubling p15 twice is every most least facts reckoning early far mirrored besideLeft besideRight either eitherLate remaining lends belated idle harmless noneAlone noneBoth noneEither trials
+unfolding computes forecastSeen headSeen seen live fulfils breaches sameCells sameNats fits line trial zeros follows passes p1to4 p5and6 p7 p8 p9 p10 p11 choosing p12a p12b asks p13 p14 self doubling p15 twice is every most least facts reckoning bothTrue early far mirrored besideLeft besideRight either eitherLate remaining lends belated idle harmless noneAlone noneBoth noneEither trials
 trials-pass = tt
