@@ -273,9 +273,19 @@ noneBoth = trial (agreement [] (all′ harmless (simply 0 (pos 60)))) (live 100 
 unfoldable pub noneEither : Trial
 noneEither = trial (agreement [] (any′ (simply 0 (pos 60)) harmless)) (idle 100 3) (line (mark 151) (fulfils 151) ∷ [])
 
+-- at the very forecast minute fewer parties may be blamed: the second window is still open (docs/DECISIONS.md)
+unfoldable pub closing : List ℕ
+closing = agreement [] (all′ (simply 0 (negsuc 4)) (simply 1 (pos 0)))
+
+unfoldable pub atTheMinute : Trial
+atTheMinute = trial closing (live 100 3 100 3) (line (mark 100) (breaches 100 100 1) ∷ [])
+
+unfoldable pub afterTheMinute : Trial
+afterTheMinute = trial closing (live 100 3 100 3) (line (mark 101) (breaches 101 100 3) ∷ [])
+
 unfoldable pub trials : List Trial
-trials = p1to4 ∷ p5and6 ∷ p7 ∷ p8 ∷ p9 ∷ p10 ∷ p11 ∷ p12a ∷ p12b ∷ p13 ∷ p14 ∷ p15 ∷ twice ∷ reckoning ∷ bothTrue ∷ early ∷ far ∷ mirrored ∷ besideLeft ∷ besideRight ∷ either ∷ eitherLate ∷ remaining ∷ lends ∷ belated ∷ noneAlone ∷ noneBoth ∷ noneEither ∷ []
+trials = p1to4 ∷ p5and6 ∷ p7 ∷ p8 ∷ p9 ∷ p10 ∷ p11 ∷ p12a ∷ p12b ∷ p13 ∷ p14 ∷ p15 ∷ twice ∷ reckoning ∷ bothTrue ∷ early ∷ far ∷ mirrored ∷ besideLeft ∷ besideRight ∷ either ∷ eitherLate ∷ remaining ∷ lends ∷ belated ∷ atTheMinute ∷ afterTheMinute ∷ noneAlone ∷ noneBoth ∷ noneEither ∷ []
 
 pub trials-pass : T (all passes trials)
-unfolding computes forecastSeen headSeen seen live fulfils breaches sameCells sameNats fits line trial zeros follows passes p1to4 p5and6 p7 p8 p9 p10 p11 choosing p12a p12b asks p13 p14 self doubling p15 twice is every most least facts reckoning bothTrue early far mirrored besideLeft besideRight either eitherLate remaining lends belated idle harmless noneAlone noneBoth noneEither trials
+unfolding computes forecastSeen headSeen seen live fulfils breaches sameCells sameNats fits line trial zeros follows passes p1to4 p5and6 p7 p8 p9 p10 p11 choosing p12a p12b asks p13 p14 self doubling p15 twice is every most least facts reckoning bothTrue early far mirrored besideLeft besideRight either eitherLate remaining lends belated idle harmless closing atTheMinute afterTheMinute noneAlone noneBoth noneEither trials
 trials-pass = tt
