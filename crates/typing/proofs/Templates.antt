@@ -1,0 +1,181 @@
+-- Templates and the main clause of an agreement.
+use mathlib.Core.Path.{_≡_, refl, sym, ap, _∙_}
+use mathlib.Core.Bool.{Bool, true, false, cond, _&&_, true≢false}
+use mathlib.Core.List.{List, [], _∷_, _++_, map}
+use mathlib.Core.Option.{Option, none, some}
+use Prim.Native.Nat.{ℕ, zero, suc, _+_, _-_, _%_, _<_, _≤_}
+use native.Mathlib.Omega.{arith}
+use lib.Bits.{bitOr}
+use lib.Dec.{eqb, ltb}
+use lib.ListN.{length, take, drop}
+use Rattle.csl.specs.Lists.{_>>=_, need, all}
+use Rattle.csl.specs.Bytes.{byte, le16, part, recordEnd}
+use Rattle.csl.specs.Parties.{member, members}
+use Rattle.csl.specs.Syntax.{Ty, Clause, Head, Template}
+use Rattle.csl.specs.Decode.{tysOf, templatesPlace, clause, pieces, piecesEnd, headsOf, bodyPlace, bodyOf, templateOf, templateHead, mainPlace, mainOf, templatePieces, agreementOf}
+use Rattle.csl.specs.Typing.{Names, namesOf, isConstant, typeClause, typeTemplate, typeTemplates, headsIn}
+use Rattle.csl.specs.Typing as typing
+use Rattle.arith.proofs.Lists.{length-part, part-part}
+use Rattle.arith.proofs.Bytes.{record-end-within}
+use Rattle.records.specs.Index.{Indexed, headAt, pieceAt, templatePlace}
+use Rattle.records.proofs.Index.{heads-in, template-facts, few-params, pieces-more}
+use Rattle.parties.specs.Masks.{maskOf, ValidMembers}
+use Rattle.parties.proofs.Masks as masks
+use Rattle.typing.specs.Clauses.{typedAs, holds, pieceOf, bodyTyped, templateTyped, templatesTyped}
+use Rattle.typing.specs.declared.Typed.{Typed}
+use Rattle.typing.specs.declared.Typed.the-variants.{Parties, Untyped}
+use Rattle.typing.proofs.Sights.{parties-is}
+use Rattle.typing.proofs.Instances.{values-part, untyped}
+use Rattle.typing.proofs.Typings.{typed-place, valid}
+
+-- ---- the body of template k, as code cuts its bytes out of the agreement
+module _ {places g : List ℕ} (x : Indexed places g) {k a n e : ℕ} (l : k < byte g 10) (p : a ≡ templatePlace g k) (q : n ≡ byte (pieceAt g (templatePlace g k)) 4) (r : e ≡ recordEnd g a) where
+  body-long : templatePlace g k + 8 + byte (pieceAt g (templatePlace g k)) 4 ≤ recordEnd g (templatePlace g k)
+  body-long =
+      let t = templatePlace g k in
+      omega (arith, template-facts x k l .long, length-part g t (recordEnd g t) (record-end-within g t))
+
+  pub body-start : a + 8 + n ≤ e
+  body-start = rw (r, q, p) body-long
+
+  body-part : part (pieceAt g (templatePlace g k)) (8 + byte (pieceAt g (templatePlace g k)) 4) (length (pieceAt g (templatePlace g k))) ≡ part g (a + 8 + n) e
+  body-part =
+      let t = templatePlace g k in
+      let z = recordEnd g t in
+      let b = byte (pieceAt g t) 4 in
+      let u : t + (z - t) ≡ z = omega (arith, body-long) in
+      let v : t + (8 + b) ≡ t + 8 + b = omega arith in
+      rw (r, q, p) (ap (λ (m : ℕ). part (pieceAt g t) (8 + b) m) (length-part g t z (record-end-within g t)) ∙ part-part g t z (8 + b) (z - t) (omega arith) ∙ rw (u, v))
+
+  pub body-typed : {m : ℕ} {t : Typed} → m ≡ headAt g k .params → t ≡ typedAs (typeClause (namesOf (agreementOf g) m) (tysOf (part g (a + 5) (a + 5 + n))) (clause (headsOf g) 22 0 (part g (a + 8 + n) e))) → t ≡ typedAs (bodyTyped g k)
+  unfolding bodyOf bodyPlace
+  body-typed {m} h f =
+      let t = templatePlace g k in
+      let b = 8 + byte (pieceAt g t) 4 in
+      f ∙ rw (h, ← values-part x l p q, ← body-part) (ap typedAs (typed-place (namesOf (agreementOf g) (headAt g k .params)) (headsOf g) 22 (headAt g k .values) 0 (t + b) (part (pieceAt g t) b (length (pieceAt g t)))))
+
+pub ruleset bodies = (body-start, body-typed)
+
+-- ---- template k
+abbrev within : ℕ → List ℕ → Bool
+within d qs = all (λ q. elim (isConstant q) [ true ↦ member q (members d) | false ↦ true ]) qs
+
+abbrev declaredAt : List ℕ → ℕ → ℕ
+declaredAt g k = le16 (pieceAt g (templatePlace g k)) (6 + byte (pieceAt g (templatePlace g k)) 4)
+
+template-is : (g : List ℕ) (k : ℕ) → templateTyped g k ≡ (need (all (λ p. ltb p (byte g 8)) (members (declaredAt g k))) >>= λ _. bodyTyped g k >>= λ qs. need (within (declaredAt g k) qs))
+unfolding typeTemplate templateOf templateHead namesOf
+template-is g k = rw (heads-in g, parties-is g)
+
+holds-need : (b : Bool) (o : Option (Unit {0})) → holds (need b >>= λ _. o) ≡ (b && holds o)
+unfolding holds need _>>=_
+holds-need true o = refl
+holds-need false o = refl
+
+holds-is : (b : Bool) → holds (need b) ≡ b
+unfolding holds need
+holds-is true = refl
+holds-is false = refl
+
+from-typed : {C : Type 0} (o : Option (List ℕ)) {t : Typed} {m : ℕ} → t ≡ typedAs o → t ≡ Parties m → ((ps : List ℕ) → o ≡ some ps → m ≡ maskOf ps → C) → C
+unfolding typedAs
+from-typed none e f c = let z : _≡_ {A = ℕ} 0 1 = cc in absurd (omega arith)
+from-typed (some ps) e f c = c ps refl (cc)
+
+from-untyped : (o : Option (List ℕ)) {t : Typed} → t ≡ typedAs o → t ≡ Untyped → o ≡ none
+unfolding typedAs
+from-untyped none e f = refl
+from-untyped (some ps) e f = let z : _≡_ {A = ℕ} 0 1 = cc in absurd (omega arith)
+
+module _ {places g : List ℕ} (x : Indexed places g) (k : ℕ) {d : ℕ} (l : k < byte g 10) (p : d ≡ declaredAt g k) where
+  module _ {ps : ℕ} {b : Bool} (h : ps ≡ byte g 8) (q : b ≡ all (λ p. ltb p ps) (members d)) where
+    told : all (λ p. ltb p (byte g 8)) (members (declaredAt g k)) ≡ b
+    told = rw (← h, ← p) (sym q)
+
+    pub template-beyond : b ≡ false → false ≡ holds (templateTyped g k)
+    template-beyond e = sym (ap holds (template-is g k) ∙ holds-need _ _ ∙ rw (told, e))
+
+    module _ {t : Typed} (e : b ≡ true) (f : t ≡ typedAs (bodyTyped g k)) where
+      unfolded : holds (templateTyped g k) ≡ holds (bodyTyped g k >>= λ qs. need (within (declaredAt g k) qs))
+      unfolded = ap holds (template-is g k) ∙ holds-need _ _ ∙ rw (told, e)
+
+      pub template-untyped : t ≡ Untyped → false ≡ holds (templateTyped g k)
+      unfolding holds _>>=_
+      template-untyped u = sym (unfolded ∙ rw (from-untyped (bodyTyped g k) f u))
+
+      pub template-within : {m a : ℕ} {r : Bool} → d < 65_536 → t ≡ Parties m → a ≡ m % 65_536 → r ≡ eqb (bitOr a d) d → r ≡ holds (templateTyped g k)
+      unfolding _>>=_
+      template-within {r = r} s u v w = from-typed (bodyTyped g k) f u (λ qs y z.
+          masks.body-within qs s (valid x (headAt g k .params) (few-params x k l) (headAt g k .values) (bodyOf (headsOf g) (pieceOf g k)) qs y) z v w ∙ sym (unfolded ∙ rw y (holds-is (within (declaredAt g k) qs)) ∙ ap (λ (m : ℕ). within m qs) (sym p)))
+
+pub ruleset templates = (template-beyond, template-untyped, template-within)
+
+-- ---- the templates from k on
+holds-then : (o p : Option (Unit {0})) → holds o ≡ true → holds (o >>= λ _. p) ≡ holds p
+unfolding holds _>>=_
+holds-then none p e = absurd (true≢false (sym e))
+holds-then (some u) p e = refl
+
+holds-not : (o p : Option (Unit {0})) → holds o ≡ false → holds (o >>= λ _. p) ≡ false
+unfolding holds _>>=_
+holds-not none p e = refl
+holds-not (some u) p e = absurd (true≢false e)
+
+module _ (g : List ℕ) (k : ℕ) {n : ℕ} (h : n ≡ byte g 10) where
+  pub templates-none : n ≤ k → true ≡ holds (templatesTyped g k)
+  unfolding holds typeTemplates pieces
+  templates-none l = let z : byte g 10 - k ≡ 0 = omega arith in rw z
+
+  module _ (l : k < n) where
+    one-more : templatesTyped g k ≡ (templateTyped g k >>= λ _. templatesTyped g (k + 1))
+    unfolding typeTemplates pieces
+    one-more = let z : byte g 10 - k ≡ suc (byte g 10 - (k + 1)) = omega arith in rw (z, pieces-more k g (templatesPlace g))
+
+    pub templates-more : {b c : Bool} → b ≡ holds (templateTyped g k) → b ≡ true → c ≡ holds (templatesTyped g (k + 1)) → c ≡ holds (templatesTyped g k)
+    templates-more p e q = q ∙ sym (ap holds one-more ∙ holds-then (templateTyped g k) (templatesTyped g (k + 1)) (sym p ∙ e))
+
+    pub templates-stop : {b : Bool} → b ≡ holds (templateTyped g k) → b ≡ false → false ≡ holds (templatesTyped g k)
+    templates-stop p e = sym (ap holds one-more ∙ holds-not (templateTyped g k) (templatesTyped g (k + 1)) (sym p ∙ e))
+
+    pub templates-less : {t : ℕ} → byte g 10 - k ≡ t → byte g 10 - (k + 1) < t
+    templates-less e = omega arith
+
+pub ruleset rows = (templates-none, templates-more, templates-stop, templates-less)
+
+-- ---- the agreement
+then-none : (o : Option (Unit {0})) (p : Option (List ℕ)) → holds o ≡ false → (o >>= λ _. p) ≡ none
+unfolding holds _>>=_
+then-none none p e = refl
+then-none (some u) p e = absurd (true≢false e)
+
+then-some : (o : Option (Unit {0})) (p : Option (List ℕ)) → holds o ≡ true → (o >>= λ _. p) ≡ p
+unfolding holds _>>=_
+then-some none p e = absurd (true≢false (sym e))
+then-some (some u) p e = refl
+
+templates-are : (g : List ℕ) → agreementOf g .templates ≡ map (templateOf (headsOf g)) (pieces (byte g 10 - 0) g (templatePlace g 0))
+unfolding agreementOf templatePieces piecesEnd
+templates-are g = let z : byte g 10 - 0 ≡ byte g 10 = omega arith in rw z
+
+all-templates : (g : List ℕ) → typeTemplates (agreementOf g .parties) (agreementOf g .readings) (headsIn (agreementOf g .templates)) (agreementOf g .templates) ≡ templatesTyped g 0
+all-templates g = rw (parties-is g, heads-in g, templates-are g)
+
+main-is : (n : Names) (env : List Ty) (g : List ℕ) → typeClause n env (agreementOf g .main) ≡ typeClause n env (clause (headsOf g) 23 0 (part g (mainPlace g) (length g)))
+unfolding agreementOf mainOf
+main-is n env g = typed-place n (headsOf g) 23 env (mainPlace g) 0 (part g (mainPlace g) (length g))
+
+typed-is : (g : List ℕ) → typing.typed (agreementOf g) ≡ (templatesTyped g 0 >>= λ _. typeClause (namesOf (agreementOf g) 0) [] (clause (headsOf g) 23 0 (part g (mainPlace g) (length g))))
+unfolding typing.typed
+typed-is g =
+    ap (λ (o : Option (Unit {0})). o >>= λ _. typeClause (namesOf (agreementOf g) 0) [] (agreementOf g .main)) (all-templates g)
+    ∙ ap (λ (o : Option (List ℕ)). templatesTyped g 0 >>= λ _. o) (main-is (namesOf (agreementOf g) 0) [] g)
+
+module _ (g : List ℕ) {b : Bool} (p : b ≡ holds (templatesTyped g 0)) where
+  pub agreement-stop : b ≡ false → Untyped ≡ typedAs (typing.typed (agreementOf g))
+  agreement-stop e = untyped (typed-is g ∙ then-none (templatesTyped g 0) _ (sym p ∙ e))
+
+  pub agreement-main : {a : ℕ} {r : Typed} → b ≡ true → a ≡ mainPlace g → r ≡ typedAs (typeClause (namesOf (agreementOf g) 0) (tysOf (part g 0 0)) (clause (headsOf g) 23 0 (part g a (length g)))) → r ≡ typedAs (typing.typed (agreementOf g))
+  unfolding tysOf
+  agreement-main e f q = q ∙ rw f (ap typedAs (sym (typed-is g ∙ then-some (templatesTyped g 0) _ (sym p ∙ e))))
+
+pub ruleset agreements = (agreement-stop, agreement-main)
