@@ -1,0 +1,105 @@
+#!/usr/bin/env python3
+"""Counts the instructions that `check` takes on agreements of about 2,048 and 16,384 bytes, and the least stack that
+the program `trials` runs in on a valid and on a hostile agreement. Needs target/bin/trials (rt check trials) and valgrind."""
+import os
+import re
+import resource
+import struct
+import subprocess
+import sys
+
+sys.path.insert(0, os.path.join(os.path.dirname(os.path.abspath(__file__)), "..", "crates", "trials"))
+ROOT = os.path.join(os.path.dirname(os.path.abspath(__file__)), "..")
+TRIALS = os.path.join(ROOT, "target", "bin", "trials")
+
+
+def u2(n): return struct.pack("<H", n)
+def rec(kind, body=b""): return u2(4 + len(body)) + u2(kind) + body
+def lit(z): return rec(32, struct.pack("<i", z))
+
+
+YES, NIL = rec(33, b"\x01"), rec(16)
+
+
+def owes(where=YES): return rec(17, bytes([0, 1]) + where + lit(0) + lit(60) + NIL)
+
+
+def tree(n, leaf):
+    """n leaves joined by `and`, in balance."""
+    if n == 1:
+        return leaf
+    return rec(20, tree(n // 2, leaf) + tree(n - n // 2, leaf))
+
+
+def agreement(main, templates=()):
+    return rec(1, struct.pack("<I", 100) + bytes([2, 1, len(templates)]) + rec(2, bytes([1, 1])) + b"".join(templates) + main)
+
+
+def template(body): return rec(3, bytes([0, 0]) + u2(1) + body)
+
+
+def bodies(size, make):
+    """Four templates for each 2,048 bytes, with bodies that fill them: make(n) is a clause of n parts."""
+    count = 4 * size // 2048
+    room = (2048 - len(agreement(owes()))) // 4
+    n = max(n for n in range(1, 200) if len(template(make(n))) <= room)
+    return agreement(owes(), [template(make(n))] * count)
+
+
+def clauses(size):
+    """Small clauses: obligations joined by `and`."""
+    return bodies(size, lambda n: tree(n, owes()))
+
+
+def expressions(size):
+    """Large conditions: a sum of many numbers."""
+    def total(n): return lit(1) if n == 1 else rec(37, total(n // 2) + total(n - n // 2))
+    return bodies(size, lambda n: owes(rec(42, total(n) + lit(5))))
+
+
+def hostile(n):
+    """Nested as deep as the length allows, far past the limit of 24."""
+    c = NIL
+    while len(c) < n - 40:
+        c = rec(20, c)
+    return agreement(c)
+
+
+def stream(*agreements): return b"".join(u2(len(a)) + a for a in agreements)
+
+
+def instructions(data):
+    out = subprocess.run(["valgrind", "--tool=callgrind", "--callgrind-out-file=/dev/null", TRIALS], input=data, capture_output=True)
+    return int(re.search(rb"Collected : (\d+)", out.stderr).group(1))
+
+
+def least_stack(data):
+    """In KB, by halving."""
+    low, high = 64, 8192
+    while high - low > 4:
+        mid = (low + high) // 2
+        limit = lambda: resource.setrlimit(resource.RLIMIT_STACK, (mid * 1024, mid * 1024))
+        ok = subprocess.run([TRIALS], input=data, capture_output=True, preexec_fn=limit).returncode == 0
+        low, high = (low, mid) if ok else (mid, high)
+    return high
+
+
+def main():
+    base = instructions(stream())
+    for name, make in (("small clauses", clauses), ("expressions", expressions)):
+        counts = []
+        for size in (2048, 4096, 8192, 16384):
+            a = make(size)
+            n = instructions(stream(a)) - base
+            counts.append(n)
+            print(f"{name}: {len(a)} bytes, {n} instructions, {n / len(a):.0f} a byte, {n / counts[0]:.2f} times the first")
+    print(f"stack of the program on no agreement: {least_stack(stream())} KB")
+    print(f"stack on a valid agreement of {len(clauses(16384))} bytes: {least_stack(stream(clauses(16384)))} KB")
+    deepest = NIL
+    for _ in range(22):
+        deepest = rec(20, deepest + NIL)
+    print(f"stack on a valid agreement 24 deep: {least_stack(stream(agreement(deepest)))} KB")
+    print(f"stack on a hostile agreement of 16,000 bytes: {least_stack(stream(hostile(16000)))} KB")
+
+
+main()
