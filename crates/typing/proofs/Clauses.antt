@@ -1,17 +1,11 @@
 -- Parties of clauses by bit.
-use mathlib.Core.Path.{_≡_, refl, sym, ap, _∙_}
-use mathlib.Core.Bool.{Bool, true, false, cond, _&&_, not}
-use mathlib.Core.List.{List, [], _∷_, _++_}
-use mathlib.Core.Option.{Option, none, some}
-use Prim.Native.Nat.{ℕ, zero, suc, _+_, _-_, _<_, _≤_}
-use native.Mathlib.Omega.{arith}
-use borrow.Author.Tests.{lt-ltb, le-ltb, ne-eqb, eq-eqb}
+use mathlib.Core.Path.{_≡_}
+use Prim.Native.Nat.{ℕ, _<_, _≤_}
+use borrow.Author.Tests.{lt-ltb, le-ltb, ne-eqb}
 use lib.Bits.{bitOr}
 use lib.Count.{ones}
-use lib.Dec.{ltb, eqb, leb}
-use Rattle.parties.specs.Masks.{maskOf, maskEnd}
-use Rattle.parties.proofs.Masks.{mask-lt}
-use Rattle.typing.specs.Clauses.{typedAs, Small, blamedAs, sidesAs, joinedAs}
+use Rattle.parties.specs.Masks.{maskEnd}
+use Rattle.typing.specs.Clauses.{Small, blamedAs, sidesAs, joinedAs}
 use Rattle.typing.specs.declared.Typed.{Typed}
 use Rattle.typing.specs.declared.Typed.the-variants.{Parties, Untyped}
 

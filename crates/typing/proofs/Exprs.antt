@@ -3,20 +3,20 @@ use mathlib.Core.Path.{_≡_, refl, sym, ap, _∙_}
 use mathlib.Core.Bool.{Bool, true, false, cond, _&&_}
 use mathlib.Core.List.{List, [], _∷_}
 use mathlib.Core.Option.{Option, none, some}
-use Prim.Native.Nat.{ℕ, zero, suc, _+_, _-_, _<_, _≤_, _^_, min}
+use Prim.Native.Nat.{ℕ, zero, suc, _-_, _<_, _≤_, _^_, min}
 use native.Mathlib.Numerals.{sub-one}
 use native.Mathlib.Omega.{arith}
 use native.Mathlib.Nat.{not-suc-le-zero, le-of-suc-le-suc}
-use borrow.Author.Tests.{lt-ltb, le-ltb, ne-eqb, eq-eqb, eqb-false, ltb-true, le-leb, lt-leb}
+use borrow.Author.Tests.{ne-eqb, eq-eqb, eqb-false, ltb-true, le-leb, lt-leb}
 use lib.Dec.{ltb, eqb, leb}
 use lib.ListN.{length, getD}
 use Rattle.csl.specs.Lists.{_>>=_, need, at}
-use lib.IntN.{ℤ, pos, negsuc, natAbs}
+use lib.IntN.{ℤ, natAbs}
 use lib.Signed.{ltZ, mag}
 use Rattle.csl.specs.Numbers.{limit, top, bottom, inRange, Arithmetic}
 use Rattle.csl.specs.Bytes.{byte, signed32, part, isRecord, kindNumber, recordEnd}
 use Rattle.csl.specs.Syntax.{Ty, number, truth, party, Op, arithmetic, conj, less, equal, Expr, numberLit, truthLit, partyLit, variable, negation, binary, badExpr}
-use Rattle.csl.specs.Decode.{ExprKind, numberKind, truthKind, partyKind, variableKind, leafKind, arithmeticOf, opOf, exprBody, exprKind, exprHead, noExpr, ofLength, expr, tyOf, tysOf}
+use Rattle.csl.specs.Decode.{numberKind, truthKind, partyKind, variableKind, leafKind, arithmeticOf, opOf, exprBody, exprKind, exprHead, noExpr, ofLength, expr, tyOf, tysOf}
 use Rattle.csl.specs.Typing.{typeExpr, sameTy, operand, result}
 use Rattle.arith.proofs.Ints.{by, some-bits, seen, read! }
 use Rattle.arith.proofs.Linear.{ints, parts, up-pos, dn-pos, up-neg, dn-neg}

@@ -4,32 +4,30 @@ use mathlib.Core.Bool.{Bool, true, false, cond, _&&_, not}
 use mathlib.Core.List.{List, [], _∷_, _++_}
 use mathlib.Core.Option.{Option, none, some}
 use Prim.Native.Nat.{ℕ, zero, suc, _+_, _-_, _<_, _≤_}
-use native.Mathlib.Nat.{not-suc-le-zero}
 use native.Mathlib.Omega.{arith}
 use borrow.Author.Tests.{ne-eqb, eq-eqb}
 use lib.Bits.{bitOr}
 use lib.Dec.{eqb}
-use lib.ListN.{length, getD, take, drop, length-map}
+use lib.ListN.{length, getD}
 use lib.Seq.{take-all}
 use Rattle.csl.specs.Lists.{_>>=_, need, all, at}
 use Rattle.csl.specs.Bytes.{byte, le16, part, recordEnd}
 use Rattle.csl.specs.Parties.{members}
-use Rattle.csl.specs.Syntax.{Ty, Expr, Clause, instance, badClause, Head}
-use Rattle.csl.specs.Decode.{expr, tyOf, tysOf, arguments, argumentsEnd, instanceOf, headsOf, templateHead, agreementOf}
-use Rattle.csl.specs.Typing.{Names, namesOf, blameOk, typeExpr, hasType, haveTypes, typeClause}
-use Rattle.arith.proofs.Ints.{by}
+use Rattle.csl.specs.Syntax.{Ty, Expr, instance, badClause}
+use Rattle.csl.specs.Decode.{tyOf, tysOf, arguments, argumentsEnd, instanceOf, headsOf, templateHead}
+use Rattle.csl.specs.Typing.{namesOf, blameOk, typeExpr, haveTypes, typeClause}
 use Rattle.arith.proofs.Lists.{length-part, part-part}
 use Rattle.arith.proofs.Bytes.{record-end-within}
 use Rattle.records.specs.Index.{Indexed, headAt, pieceAt, templatePlace}
 use Rattle.records.proofs.Index.{end-from, heads-in, heads-at, heads-past, template-facts}
-use Rattle.parties.specs.Masks.{maskOf, maskEnd, mayBlame, BlameMask}
+use Rattle.parties.specs.Masks.{maskOf, mayBlame, BlameMask}
 use Rattle.parties.proofs.Masks.{mask-lt, mask-nil, mask-append, mask-members}
 use Rattle.typing.specs.Types.{byteType, tyNumber, typeNumber}
 use Rattle.typing.specs.Clauses.{isTyped, argumentsAs, argumentsOf, blamesOf, typedAs, Small, blamedAs}
 use Rattle.typing.specs.declared.Typed.{Typed}
 use Rattle.typing.specs.declared.Typed.the-variants.{Parties, Untyped}
 use Rattle.typing.proofs.Exprs.{byte-type}
-use Rattle.typing.proofs.Sights.{has-is, parties-is, twice, tys-length}
+use Rattle.typing.proofs.Sights.{namesIn, has-is, parties-is, twice, tys-length}
 
 -- what stands behind the first
 rest-is : (v : ℕ) (vs : List ℕ) → part (v ∷ vs) 1 (length (v ∷ vs)) ≡ vs
@@ -185,22 +183,22 @@ declared-typed d bs l true = ap Parties (mask-append (members d) bs ∙ ap (λ (
 declared-typed d bs l false = refl
 
 module _ (g : List ℕ) (params : ℕ) (env : List Ty) (f : List ℕ → Expr) (s : List ℕ) {k : ℕ} (e : k ≡ byte s 4) where
-  pub instance-past : {n : ℕ} → n ≡ byte g 10 → n ≤ k → Untyped ≡ typedAs (typeClause (namesOf (agreementOf g) params) env (instanceOf f s (at (headsOf g) (byte s 4))))
+  pub instance-past : {n : ℕ} → n ≡ byte g 10 → n ≤ k → Untyped ≡ typedAs (typeClause (namesIn g params) env (instanceOf f s (at (headsOf g) (byte s 4))))
   unfolding typedAs typeClause instanceOf
   instance-past h l = rw (← e, heads-past g k (omega arith))
 
   module _ (l : k < byte g 10) where
-    instance-if : (b : Bool) (i : ℕ) → typeClause (namesOf (agreementOf g) params) env (cond b (instance k (arguments f (length (headAt g k .values)) s 5) (part s i (length s))) badClause) ≡ cond b (hasArguments g k env f s >>= λ _. partiesFrom g params k s i) none
+    instance-if : (b : Bool) (i : ℕ) → typeClause (namesIn g params) env (cond b (instance k (arguments f (length (headAt g k .values)) s 5) (part s i (length s))) badClause) ≡ cond b (hasArguments g k env f s >>= λ _. partiesFrom g params k s i) none
     unfolding typeClause namesOf _>>=_ blameOk
     instance-if true i = rw (heads-in g, heads-at g k l, parties-is g)
     instance-if false i = refl
 
-    instance-is : typeClause (namesOf (agreementOf g) params) env (instanceOf f s (at (headsOf g) (byte s 4))) ≡ cond (eqb (endOf g k s + headAt g k .params) (length s)) (hasArguments g k env f s >>= λ _. partiesFrom g params k s (endOf g k s)) none
+    instance-is : typeClause (namesIn g params) env (instanceOf f s (at (headsOf g) (byte s 4))) ≡ cond (eqb (endOf g k s + headAt g k .params) (length s)) (hasArguments g k env f s >>= λ _. partiesFrom g params k s (endOf g k s)) none
     unfolding instanceOf
     instance-is = rw (← e, heads-at g k l, ← e) (instance-if (eqb (endOf g k s + headAt g k .params) (length s)) (endOf g k s))
 
     module _ {j : ℕ} (h : j ≡ argumentsOf (headAt g k) (byte g 8) env f s) where
-      pub instance-untyped : 4 ≤ length s → j ≡ 0 → Untyped ≡ typedAs (typeClause (namesOf (agreementOf g) params) env (instanceOf f s (at (headsOf g) (byte s 4))))
+      pub instance-untyped : 4 ≤ length s → j ≡ 0 → Untyped ≡ typedAs (typeClause (namesIn g params) env (instanceOf f s (at (headsOf g) (byte s 4))))
       unfolding _>>=_
       instance-untyped m z = untyped (instance-is ∙ rw (as-none (hasArguments g k env f s) (endOf g k s) (arguments-from (length (headAt g k .values)) s 5 m (omega arith)) (sym h ∙ z)) (neither (eqb (endOf g k s + headAt g k .params) (length s))))
 
@@ -208,21 +206,21 @@ module _ (g : List ℕ) (params : ℕ) (env : List Ty) (f : List ℕ → Expr) (
         ends : j ≡ endOf g k s
         ends = as-end (hasArguments g k env f s) (endOf g k s) h z
 
-        typed-from : typeClause (namesOf (agreementOf g) params) env (instanceOf f s (at (headsOf g) (byte s 4))) ≡ cond (eqb (j + headAt g k .params) (length s)) (partiesFrom g params k s j) none
+        typed-from : typeClause (namesIn g params) env (instanceOf f s (at (headsOf g) (byte s 4))) ≡ cond (eqb (j + headAt g k .params) (length s)) (partiesFrom g params k s j) none
         unfolding _>>=_
         typed-from = instance-is ∙ rw (as-some (hasArguments g k env f s) (endOf g k s) h z, ← ends)
 
-        pub instance-long : length s < j → Untyped ≡ typedAs (typeClause (namesOf (agreementOf g) params) env (instanceOf f s (at (headsOf g) (byte s 4))))
+        pub instance-long : length s < j → Untyped ≡ typedAs (typeClause (namesIn g params) env (instanceOf f s (at (headsOf g) (byte s 4))))
         instance-long m = untyped (typed-from ∙ rw (ne-eqb (j + headAt g k .params) (length s) (λ q. omega arith)))
 
         module _ {m : ℕ} (p : m ≡ headAt g k .params) (u : j ≤ length s) where
-          pub instance-other : (length s - j ≡ m → ⊥) → Untyped ≡ typedAs (typeClause (namesOf (agreementOf g) params) env (instanceOf f s (at (headsOf g) (byte s 4))))
+          pub instance-other : (length s - j ≡ m → ⊥) → Untyped ≡ typedAs (typeClause (namesIn g params) env (instanceOf f s (at (headsOf g) (byte s 4))))
           instance-other n = untyped (typed-from ∙ rw (ne-eqb (j + headAt g k .params) (length s) (λ q. n (omega arith))))
 
-          pub instance-typed : {ps d : ℕ} {t r : Typed} → length s - j ≡ m → ps ≡ byte g 8 → t ≡ typedAs (blamesOf ps params (part s j (length s))) → d ≡ le16 (pieceAt g (templatePlace g k)) (6 + byte (pieceAt g (templatePlace g k)) 4) → d < 65_536 → r ≡ blamedAs d t → r ≡ typedAs (typeClause (namesOf (agreementOf g) params) env (instanceOf f s (at (headsOf g) (byte s 4))))
+          pub instance-typed : {ps d : ℕ} {t r : Typed} → length s - j ≡ m → ps ≡ byte g 8 → t ≡ typedAs (blamesOf ps params (part s j (length s))) → d ≡ le16 (pieceAt g (templatePlace g k)) (6 + byte (pieceAt g (templatePlace g k)) 4) → d < 65_536 → r ≡ blamedAs d t → r ≡ typedAs (typeClause (namesIn g params) env (instanceOf f s (at (headsOf g) (byte s 4))))
           unfolding blamesOf
           instance-typed {ps} {d} n a b c v w =
-              let q : typeClause (namesOf (agreementOf g) params) env (instanceOf f s (at (headsOf g) (byte s 4))) ≡ (need (all (mayBlame (byte g 8) params) (part s j (length s))) >>= λ _. some (members d ++ part s j (length s))) = typed-from ∙ rw (eq-eqb (j + headAt g k .params) (length s) (omega arith), eq-eqb (length (part s j (length s))) (headAt g k .params) (omega (arith, length-part s j (length s) (omega arith))), declared-is g k, ← c) in
+              let q : typeClause (namesIn g params) env (instanceOf f s (at (headsOf g) (byte s 4))) ≡ (need (all (mayBlame (byte g 8) params) (part s j (length s))) >>= λ _. some (members d ++ part s j (length s))) = typed-from ∙ rw (eq-eqb (j + headAt g k .params) (length s) (omega arith), eq-eqb (length (part s j (length s))) (headAt g k .params) (omega (arith, length-part s j (length s) (omega arith))), declared-is g k, ← c) in
               w ∙ ap (blamedAs d) b ∙ rw (a, q) (sym (declared-typed d (part s j (length s)) v (all (mayBlame (byte g 8) params) (part s j (length s)))))
 
 pub ruleset instances = (instance-past, instance-untyped, instance-long, instance-other, instance-typed, small-typed)

@@ -6,14 +6,14 @@ use mathlib.Core.Option.{Option, none, some}
 use Prim.Native.Nat.{ℕ, zero, suc, _+_, _-_, _<_, _≤_}
 use native.Mathlib.Numerals.{sub-one, add-one}
 use native.Mathlib.Omega.{arith}
-use borrow.Author.Tests.{lt-ltb, le-ltb, ne-eqb, eq-eqb, le-leb, lt-leb, leb-true, leb-false}
-use lib.Dec.{ltb, eqb, leb}
-use lib.ListN.{length, getD, set, take, drop, length-map, length-append, length-take}
+use borrow.Author.Tests.{lt-ltb, le-ltb, ne-eqb, eq-eqb, leb-true, leb-false}
+use lib.Dec.{eqb, leb}
+use lib.ListN.{length, getD, set, take, drop, length-map, length-append}
 use lib.Seq.{take-suc, take-suc-set, take-all, take-take, take-at, length-take-le}
 use Rattle.csl.specs.Lists.{_>>=_, need, at}
 use Rattle.csl.specs.Bytes.{byte, part, isRecord, recordEnd}
-use Rattle.csl.specs.Syntax.{Ty, number, truth, party, Expr, badExpr, Wait}
-use Rattle.csl.specs.Decode.{expr, exprHead, exprBody, noExpr, tyOf, tysOf, waitAt, readingType, agreementOf}
+use Rattle.csl.specs.Syntax.{Ty, number, truth, party, Expr, badExpr}
+use Rattle.csl.specs.Decode.{expr, exprHead, exprBody, tyOf, tysOf, waitAt, readingType, agreementOf}
 use Rattle.csl.specs.Typing.{Names, namesOf, blameOk, typeExpr, hasType, sameTy, readingOfType, thenSight, typeWait}
 use Rattle.arith.proofs.Ints.{by}
 use Rattle.arith.proofs.Lists.{length-part, part-part}
@@ -24,6 +24,10 @@ use Rattle.typing.specs.Types.{tyNumber, typeNumber}
 use Rattle.typing.specs.Clauses.{seenAs, thenOf, isTyped, waitTyped, waitSight, firstSight, JoinedSight}
 use Rattle.parties.specs.Masks.{BlameMask, mayBlame}
 use Rattle.typing.proofs.Exprs.{same-number}
+
+-- what a clause may name, in an agreement's bytes, with so many party parameters
+abbrev pub namesIn : List ℕ → ℕ → Names
+namesIn g m = namesOf (agreementOf g) m
 
 -- ---- no bytes are no expression
 no-bytes : (d : ℕ) → expr d [] ≡ badExpr
@@ -227,22 +231,22 @@ parties-is s = refl
 
 -- what the code has found: n types of `then`, and whether the expressions are typed under the first n - 1 of them
 module _ (g bs : List ℕ) (d : ℕ) (s : List ℕ) (i n : ℕ) (out : List ℕ) {k : ℕ} (p : k ≡ byte s i) (e : thenOf (agreementOf g .readings) (tysOf bs) k ≡ seenAs n out) where
-  pub wait-over : 16 < n → waitSight (namesOf (agreementOf g) 0) (tysOf bs) (waitAt (expr d) 0 s i) ≡ seenAs 17 out
+  pub wait-over : 16 < n → waitSight (namesIn g 0) (tysOf bs) (waitAt (expr d) 0 s i) ≡ seenAs 17 out
   unfolding waitSight typeWait namesOf waitAt thenOf seenAs
   wait-over l = wait-none (agreementOf g .parties) (tysOf bs) _ _ _ (readingOfType (agreementOf g .readings) (byte s i)) (rw p at (e ∙ seen-none n out l))
 
   module _ {ps : ℕ} {b : Bool} (h : ps ≡ byte g 8) (u : n ≤ 16) (l : 1 ≤ n) (m : length out ≡ 16) (w : b ≡ waitTyped ps (tysOf (take (n - 1) out)) (tysOf bs) (waitAt (expr d) 0 s i)) where
-    wait-is : waitSight (namesOf (agreementOf g) 0) (tysOf bs) (waitAt (expr d) 0 s i) ≡ cond (waitTyped (agreementOf g .parties) (tysOf (take (n - 1) out)) (tysOf bs) (waitAt (expr d) 0 s i)) (some (tysOf (take n out))) none
+    wait-is : waitSight (namesIn g 0) (tysOf bs) (waitAt (expr d) 0 s i) ≡ cond (waitTyped (agreementOf g .parties) (tysOf (take (n - 1) out)) (tysOf bs) (waitAt (expr d) 0 s i)) (some (tysOf (take n out))) none
     unfolding waitSight typeWait namesOf waitAt waitTyped thenOf thenSight
     wait-is = wait-some (agreementOf g .parties) (tysOf bs) _ _ _ (readingOfType (agreementOf g .readings) (byte s i)) (tysOf (take n out)) (tysOf (take (n - 1) out)) (rw p at (e ∙ seen-some n out u)) (λ vs q. init n out (tysOf bs ++ vs) number l (omega arith) q)
 
     told : b ≡ waitTyped (agreementOf g .parties) (tysOf (take (n - 1) out)) (tysOf bs) (waitAt (expr d) 0 s i)
     told = rw (parties-is g, ← h) w
 
-    pub wait-yes : b ≡ true → waitSight (namesOf (agreementOf g) 0) (tysOf bs) (waitAt (expr d) 0 s i) ≡ seenAs n out
+    pub wait-yes : b ≡ true → waitSight (namesIn g 0) (tysOf bs) (waitAt (expr d) 0 s i) ≡ seenAs n out
     wait-yes q = wait-is ∙ rw (sym told ∙ q) (sym (seen-some n out u))
 
-    pub wait-no : b ≡ false → waitSight (namesOf (agreementOf g) 0) (tysOf bs) (waitAt (expr d) 0 s i) ≡ seenAs 17 out
+    pub wait-no : b ≡ false → waitSight (namesIn g 0) (tysOf bs) (waitAt (expr d) 0 s i) ≡ seenAs 17 out
     wait-no q = wait-is ∙ rw (sym told ∙ q) (sym (seen-none 17 out (omega arith)))
 
 pub ruleset waits = (wait-over, wait-yes, wait-no)
@@ -259,32 +263,32 @@ twice false = refl
 -- ---- what the first clause part sees
 module _ (g : List ℕ) (m : ℕ) (env : List Ty) (f : List ℕ → Expr) (k : ℕ) (s : List ℕ) where
   module _ {b ps v : ℕ} (e : k ≡ 17) (h : ps ≡ byte g 8) (p : b ≡ byte s 4) (j : BlameMask ps m b v) where
-    blame-is : blameOk (namesOf (agreementOf g) m) (byte s 4) ≡ not (eqb v 0)
+    blame-is : blameOk (namesIn g m) (byte s 4) ≡ not (eqb v 0)
     unfolding blameOk namesOf
     blame-is = rw (parties-is g, ← h, ← p, j .refused) (twice (mayBlame ps m b))
 
-    pub first-refused : (out : List ℕ) → v ≡ 0 → firstSight (namesOf (agreementOf g) m) env f k s ≡ seenAs 17 out
+    pub first-refused : (out : List ℕ) → v ≡ 0 → firstSight (namesIn g m) env f k s ≡ seenAs 17 out
     unfolding firstSight _>>=_ need
     first-refused out z = rw (e, blame-is, z) (sym (seen-none 17 out (omega arith)))
 
-    pub first-wait : {t : Option (List Ty)} → (v ≡ 0 → ⊥) → waitSight (namesOf (agreementOf g) 0) env (waitAt f 0 s 5) ≡ t → firstSight (namesOf (agreementOf g) m) env f k s ≡ t
+    pub first-wait : {t : Option (List Ty)} → (v ≡ 0 → ⊥) → waitSight (namesIn g 0) env (waitAt f 0 s 5) ≡ t → firstSight (namesIn g m) env f k s ≡ t
     unfolding firstSight _>>=_ need waitSight typeWait namesOf
     first-wait z q = rw (e, blame-is, ne-eqb v 0 z) q
 
-  pub first-choice : {t : Option (List Ty)} → k ≡ 18 → waitSight (namesOf (agreementOf g) 0) env (waitAt f 0 s 4) ≡ t → firstSight (namesOf (agreementOf g) m) env f k s ≡ t
+  pub first-choice : {t : Option (List Ty)} → k ≡ 18 → waitSight (namesIn g 0) env (waitAt f 0 s 4) ≡ t → firstSight (namesIn g m) env f k s ≡ t
   unfolding firstSight waitSight typeWait namesOf
   first-choice e q = rw e q
 
   module _ {ps x c : ℕ} (e : k ≡ 19) (h : ps ≡ byte g 8) (p : c ≡ recordEnd s 4) (q : x ≡ typeNumber (typeExpr ps env (f (part s 4 c)))) where
-    pub first-untrue : (out : List ℕ) → (x ≡ 2 → ⊥) → firstSight (namesOf (agreementOf g) m) env f k s ≡ seenAs 17 out
+    pub first-untrue : (out : List ℕ) → (x ≡ 2 → ⊥) → firstSight (namesIn g m) env f k s ≡ seenAs 17 out
     unfolding firstSight _>>=_ need namesOf isTyped tyNumber
     first-untrue out z = rw (e, has-is (agreementOf g .parties) env (f (part s 4 (recordEnd s 4))) truth, parties-is g, ← h, ← p, ← q, ne-eqb x 2 z) (sym (seen-none 17 out (omega arith)))
 
-    pub first-true : {t : Option (List Ty)} → x ≡ 2 → some env ≡ t → firstSight (namesOf (agreementOf g) m) env f k s ≡ t
+    pub first-true : {t : Option (List Ty)} → x ≡ 2 → some env ≡ t → firstSight (namesIn g m) env f k s ≡ t
     unfolding firstSight _>>=_ need namesOf isTyped tyNumber
     first-true z t = rw (e, has-is (agreementOf g .parties) env (f (part s 4 (recordEnd s 4))) truth, parties-is g, ← h, ← p, ← q, eq-eqb x 2 z) t
 
-  pub first-join : {t : Option (List Ty)} → (k ≡ 17 → ⊥) × (k ≡ 18 → ⊥) × (k ≡ 19 → ⊥) → some env ≡ t → firstSight (namesOf (agreementOf g) m) env f k s ≡ t
+  pub first-join : {t : Option (List Ty)} → (k ≡ 17 → ⊥) × (k ≡ 18 → ⊥) × (k ≡ 19 → ⊥) → some env ≡ t → firstSight (namesIn g m) env f k s ≡ t
   unfolding firstSight
   first-join e t = rw (ne-eqb k 17 (e .0), ne-eqb k 18 (e .1), ne-eqb k 19 (e .2)) t
 

@@ -1,17 +1,17 @@
 -- Templates and the main clause of an agreement.
 use mathlib.Core.Path.{_≡_, refl, sym, ap, _∙_}
-use mathlib.Core.Bool.{Bool, true, false, cond, _&&_, true≢false}
-use mathlib.Core.List.{List, [], _∷_, _++_, map}
+use mathlib.Core.Bool.{Bool, true, false, _&&_, true≢false}
+use mathlib.Core.List.{List, [], map}
 use mathlib.Core.Option.{Option, none, some}
-use Prim.Native.Nat.{ℕ, zero, suc, _+_, _-_, _%_, _<_, _≤_}
+use Prim.Native.Nat.{ℕ, suc, _+_, _-_, _%_, _<_, _≤_}
 use native.Mathlib.Omega.{arith}
 use lib.Bits.{bitOr}
 use lib.Dec.{eqb, ltb}
-use lib.ListN.{length, take, drop}
+use lib.ListN.{length}
 use Rattle.csl.specs.Lists.{_>>=_, need, all}
 use Rattle.csl.specs.Bytes.{byte, le16, part, recordEnd}
 use Rattle.csl.specs.Parties.{member, members}
-use Rattle.csl.specs.Syntax.{Ty, Clause, Head, Template}
+use Rattle.csl.specs.Syntax.{Ty}
 use Rattle.csl.specs.Decode.{tysOf, templatesPlace, clause, pieces, piecesEnd, headsOf, bodyPlace, bodyOf, templateOf, templateHead, mainPlace, mainOf, templatePieces, agreementOf}
 use Rattle.csl.specs.Typing.{Names, namesOf, isConstant, typeClause, typeTemplate, typeTemplates, headsIn}
 use Rattle.csl.specs.Typing as typing
@@ -19,12 +19,12 @@ use Rattle.arith.proofs.Lists.{length-part, part-part}
 use Rattle.arith.proofs.Bytes.{record-end-within}
 use Rattle.records.specs.Index.{Indexed, headAt, pieceAt, templatePlace}
 use Rattle.records.proofs.Index.{heads-in, template-facts, few-params, pieces-more}
-use Rattle.parties.specs.Masks.{maskOf, ValidMembers}
+use Rattle.parties.specs.Masks.{maskOf}
 use Rattle.parties.proofs.Masks as masks
 use Rattle.typing.specs.Clauses.{typedAs, holds, pieceOf, bodyTyped, templateTyped, templatesTyped}
 use Rattle.typing.specs.declared.Typed.{Typed}
 use Rattle.typing.specs.declared.Typed.the-variants.{Parties, Untyped}
-use Rattle.typing.proofs.Sights.{parties-is}
+use Rattle.typing.proofs.Sights.{namesIn, parties-is}
 use Rattle.typing.proofs.Instances.{values-part, untyped}
 use Rattle.typing.proofs.Typings.{typed-place, valid}
 
@@ -47,12 +47,12 @@ module _ {places g : List ℕ} (x : Indexed places g) {k a n e : ℕ} (l : k < b
       let v : t + (8 + b) ≡ t + 8 + b = omega arith in
       rw (r, q, p) (ap (λ (m : ℕ). part (pieceAt g t) (8 + b) m) (length-part g t z (record-end-within g t)) ∙ part-part g t z (8 + b) (z - t) (omega arith) ∙ rw (u, v))
 
-  pub body-typed : {m : ℕ} {t : Typed} → m ≡ headAt g k .params → t ≡ typedAs (typeClause (namesOf (agreementOf g) m) (tysOf (part g (a + 5) (a + 5 + n))) (clause (headsOf g) 22 0 (part g (a + 8 + n) e))) → t ≡ typedAs (bodyTyped g k)
+  pub body-typed : {m : ℕ} {t : Typed} → m ≡ headAt g k .params → t ≡ typedAs (typeClause (namesIn g m) (tysOf (part g (a + 5) (a + 5 + n))) (clause (headsOf g) 22 0 (part g (a + 8 + n) e))) → t ≡ typedAs (bodyTyped g k)
   unfolding bodyOf bodyPlace
   body-typed {m} h f =
       let t = templatePlace g k in
       let b = 8 + byte (pieceAt g t) 4 in
-      f ∙ rw (h, ← values-part x l p q, ← body-part) (ap typedAs (typed-place (namesOf (agreementOf g) (headAt g k .params)) (headsOf g) 22 (headAt g k .values) 0 (t + b) (part (pieceAt g t) b (length (pieceAt g t)))))
+      f ∙ rw (h, ← values-part x l p q, ← body-part) (ap typedAs (typed-place (namesIn g (headAt g k .params)) (headsOf g) 22 (headAt g k .values) 0 (t + b) (part (pieceAt g t) b (length (pieceAt g t)))))
 
 pub ruleset bodies = (body-start, body-typed)
 
@@ -164,17 +164,17 @@ main-is : (n : Names) (env : List Ty) (g : List ℕ) → typeClause n env (agree
 unfolding agreementOf mainOf
 main-is n env g = typed-place n (headsOf g) 23 env (mainPlace g) 0 (part g (mainPlace g) (length g))
 
-typed-is : (g : List ℕ) → typing.typed (agreementOf g) ≡ (templatesTyped g 0 >>= λ _. typeClause (namesOf (agreementOf g) 0) [] (clause (headsOf g) 23 0 (part g (mainPlace g) (length g))))
+typed-is : (g : List ℕ) → typing.typed (agreementOf g) ≡ (templatesTyped g 0 >>= λ _. typeClause (namesIn g 0) [] (clause (headsOf g) 23 0 (part g (mainPlace g) (length g))))
 unfolding typing.typed
 typed-is g =
-    ap (λ (o : Option (Unit {0})). o >>= λ _. typeClause (namesOf (agreementOf g) 0) [] (agreementOf g .main)) (all-templates g)
-    ∙ ap (λ (o : Option (List ℕ)). templatesTyped g 0 >>= λ _. o) (main-is (namesOf (agreementOf g) 0) [] g)
+    ap (λ (o : Option (Unit {0})). o >>= λ _. typeClause (namesIn g 0) [] (agreementOf g .main)) (all-templates g)
+    ∙ ap (λ (o : Option (List ℕ)). templatesTyped g 0 >>= λ _. o) (main-is (namesIn g 0) [] g)
 
 module _ (g : List ℕ) {b : Bool} (p : b ≡ holds (templatesTyped g 0)) where
   pub agreement-stop : b ≡ false → Untyped ≡ typedAs (typing.typed (agreementOf g))
   agreement-stop e = untyped (typed-is g ∙ then-none (templatesTyped g 0) _ (sym p ∙ e))
 
-  pub agreement-main : {a : ℕ} {r : Typed} → b ≡ true → a ≡ mainPlace g → r ≡ typedAs (typeClause (namesOf (agreementOf g) 0) (tysOf (part g 0 0)) (clause (headsOf g) 23 0 (part g a (length g)))) → r ≡ typedAs (typing.typed (agreementOf g))
+  pub agreement-main : {a : ℕ} {r : Typed} → b ≡ true → a ≡ mainPlace g → r ≡ typedAs (typeClause (namesIn g 0) (tysOf (part g 0 0)) (clause (headsOf g) 23 0 (part g a (length g)))) → r ≡ typedAs (typing.typed (agreementOf g))
   unfolding tysOf
   agreement-main e f q = q ∙ rw f (ap typedAs (sym (typed-is g ∙ then-some (templatesTyped g 0) _ (sym p ∙ e))))
 

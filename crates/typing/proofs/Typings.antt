@@ -1,35 +1,33 @@
 -- Typing of a clause by its record: csl's rules in the shape in which the code goes by them.
 use mathlib.Core.Path.{_≡_, refl, sym, ap, _∙_}
-use mathlib.Core.Bool.{Bool, true, false, cond, _&&_, not, true≢false}
+use mathlib.Core.Bool.{Bool, true, false, cond}
 use mathlib.Core.List.{List, [], _∷_, _++_}
 use mathlib.Core.Option.{Option, none, some}
 use Prim.Native.Nat.{ℕ, zero, suc, _+_, _-_, _<_, _≤_}
 use native.Mathlib.Numerals.{sub-one}
 use native.Mathlib.Decide.{decLe}
 use native.Mathlib.Omega.{arith}
-use borrow.Author.Tests.{ne-eqb, eq-eqb, lt-ltb, le-ltb, le-leb, lt-leb, ltb-true, ltb-false}
-use lib.Bits.{bitOr}
+use borrow.Author.Tests.{ne-eqb, eq-eqb, lt-ltb, le-ltb, le-leb, lt-leb}
 use lib.Count.{ones}
 use lib.Dec.{eqb, leb, ltb}
 use lib.ListN.{length, take}
-use Rattle.csl.specs.Lists.{_>>=_, need, all, at}
+use Rattle.csl.specs.Lists.{_>>=_, need, at}
 use Rattle.csl.specs.Bytes.{byte, part, isRecord, kindNumber, recordEnd}
 use Rattle.csl.specs.Parties.{memberCount}
-use Rattle.csl.specs.Syntax.{Ty, truth, Expr, Wait, Join, and, or, Clause, fulfilled, obligation, choice, if, join, instance, badClause, Head}
+use Rattle.csl.specs.Syntax.{Ty, truth, Expr, Wait, Clause, fulfilled, obligation, choice, if, join, badClause, Head}
 use Rattle.csl.specs.Decode.{expr, tysOf, ClauseKind, fulfilledKind, obligationKind, choiceKind, ifKind, joinKind, instanceKind, noClause, joinOf, clauseKind, waitEnd, waitAt, instanceOf, clauseBody, clauseHead, clause, headsOf, agreementOf}
 use Rattle.csl.specs.Typing.{Names, namesOf, blameOk, hasType, joinOk, thenSight, typeWait, typeClause}
-use Rattle.arith.proofs.Ints.{by}
 use Rattle.records.specs.Index.{Indexed, firstClause}
 use Rattle.records.proofs.Trees.{kind-fulfilled, kind-instance, kind-no-clause-low, kind-no-clause-high, sided, sided-choice, sided-if, sided-join, body-wait, body-two}
 use Rattle.records.proofs.Index.{heads-in}
-use Rattle.parties.specs.Masks.{maskOf, maskEnd, mayBlame, BlameMask, ValidMembers}
+use Rattle.parties.specs.Masks.{maskOf, BlameMask, ValidMembers}
 use Rattle.parties.proofs.Masks.{mask-nil, mask-append, mask-count, valid-append}
 use Rattle.parties.proofs.Typed.{valid-typed, declared-valid}
 use Rattle.typing.specs.Types.{recordKind}
-use Rattle.typing.specs.Clauses.{seenAs, waitSight, firstSight, typedAs, fulfilledAs, blamedAs, sidesAs, joinedAs}
+use Rattle.typing.specs.Clauses.{seenAs, waitSight, firstSight, firstEnd, typedAs, fulfilledAs, blamedAs, sidesAs, joinedAs}
 use Rattle.typing.specs.declared.Typed.{Typed}
 use Rattle.typing.specs.declared.Typed.the-variants.{Parties, Untyped}
-use Rattle.typing.proofs.Sights.{parties-is, twice, seen-some, seen-none}
+use Rattle.typing.proofs.Sights.{namesIn, seen-some, seen-none}
 use Rattle.typing.proofs.Instances.{untyped}
 
 -- ---- a clause's type does not go by its place
@@ -207,51 +205,56 @@ blame-allowed : (n : Names) (env : List Ty) (e : List ℕ → Expr) (s : List �
 unfolding firstSight
 blame-allowed n env e s ts q = allowed (blameOk n (byte s 4)) (waitSight n env (waitAt e 0 s 5)) ts q
 
-bit-is : (g : List ℕ) (params : ℕ) (s : List ℕ) {b ps v : ℕ} → b ≡ byte s 4 → ps ≡ byte g 8 → BlameMask ps params b v → blameOk (namesOf (agreementOf g) params) (byte s 4) ≡ true → v ≡ maskOf (byte s 4 ∷ [])
+bit-is : (g : List ℕ) (params : ℕ) (s : List ℕ) {b ps v : ℕ} → b ≡ byte s 4 → ps ≡ byte g 8 → BlameMask ps params b v → blameOk (namesIn g params) (byte s 4) ≡ true → v ≡ maskOf (byte s 4 ∷ [])
 unfolding blameOk namesOf agreementOf
 bit-is g params s {b} {ps} p w j h = j .is ∙ rw (p, w, h)
 
 module _ {places g : List ℕ} (x : Indexed places g) (params : ℕ) (few : params ≤ 4) where
-  pub valid : (env : List Ty) (c : Clause) (ps : List ℕ) → typeClause (namesOf (agreementOf g) params) env c ≡ some ps → ValidMembers ps
+  pub valid : (env : List Ty) (c : Clause) (ps : List ℕ) → typeClause (namesIn g params) env c ≡ some ps → ValidMembers ps
   unfolding namesOf agreementOf
-  valid env c = valid-typed (namesOf (agreementOf g) params) (x .fewParties) few (λ k h q. declared-valid g k h (rw (heads-in g) at q)) c env
+  valid env c = valid-typed (namesIn g params) (x .fewParties) few (λ k h q. declared-valid g k h (rw (heads-in g) at q)) c env
 
   module _ (bs : List ℕ) (d : ℕ) (s : List ℕ) {k : ℕ} (e : k ≡ recordKind d s) where
-    pub clause-fulfilled : {r : Typed} → k ≡ 16 → r ≡ fulfilledAs (length s) → r ≡ typedAs (typeClause (namesOf (agreementOf g) params) (tysOf bs) (clause (headsOf g) d 0 s))
+    pub clause-fulfilled : {r : Typed} → k ≡ 16 → r ≡ fulfilledAs (length s) → r ≡ typedAs (typeClause (namesIn g params) (tysOf bs) (clause (headsOf g) d 0 s))
     unfolding clauseBody fulfilledAs
-    clause-fulfilled h q = q ∙ rw (clause-is (headsOf g) d 0 s e, kind-fulfilled h) (four (namesOf (agreementOf g) params) (tysOf bs) (eqb (length s) 4))
+    clause-fulfilled h q = q ∙ rw (clause-is (headsOf g) d 0 s e, kind-fulfilled h) (four (namesIn g params) (tysOf bs) (eqb (length s) 4))
 
-    pub clause-instance : {r : Typed} → k ≡ 22 → r ≡ typedAs (typeClause (namesOf (agreementOf g) params) (tysOf bs) (instanceOf (expr (d - 1)) s (at (headsOf g) (byte s 4)))) → r ≡ typedAs (typeClause (namesOf (agreementOf g) params) (tysOf bs) (clause (headsOf g) d 0 s))
+    pub clause-instance : {r : Typed} → k ≡ 22 → r ≡ typedAs (typeClause (namesIn g params) (tysOf bs) (instanceOf (expr (d - 1)) s (at (headsOf g) (byte s 4)))) → r ≡ typedAs (typeClause (namesIn g params) (tysOf bs) (clause (headsOf g) d 0 s))
     unfolding clauseBody
     clause-instance h q = q ∙ rw (clause-is (headsOf g) d 0 s e, kind-instance h)
 
-    pub clause-low : k < 16 → Untyped ≡ typedAs (typeClause (namesOf (agreementOf g) params) (tysOf bs) (clause (headsOf g) d 0 s))
+    pub clause-low : k < 16 → Untyped ≡ typedAs (typeClause (namesIn g params) (tysOf bs) (clause (headsOf g) d 0 s))
     unfolding clauseBody typeClause
     clause-low l = untyped (rw (clause-is (headsOf g) d 0 s e, kind-no-clause-low k l))
 
-    pub clause-high : (k ≡ 22 → ⊥) → 22 ≤ k → Untyped ≡ typedAs (typeClause (namesOf (agreementOf g) params) (tysOf bs) (clause (headsOf g) d 0 s))
+    pub clause-high : (k ≡ 22 → ⊥) → 22 ≤ k → Untyped ≡ typedAs (typeClause (namesIn g params) (tysOf bs) (clause (headsOf g) d 0 s))
     unfolding clauseBody typeClause
     clause-high h l = untyped (rw (clause-is (headsOf g) d 0 s e, kind-no-clause-high k (omega arith)))
 
-    module _ (l : 17 ≤ k) (u : k < 22) (r : ℕ) (out : List ℕ) (q : firstSight (namesOf (agreementOf g) params) (tysOf bs) (expr (d - 1)) k s ≡ seenAs r out) where
-      pub clause-refused : 16 < r → Untyped ≡ typedAs (typeClause (namesOf (agreementOf g) params) (tysOf bs) (clause (headsOf g) d 0 s))
-      clause-refused m = untyped (typed-none (namesOf (agreementOf g) params) (tysOf bs) (headsOf g) d s e l u (q ∙ seen-none r out m))
+    module _ (n : k ≡ 16 → ⊥) (l : 16 ≤ k) (u : k < 22) (r : ℕ) (out : List ℕ) (q : firstSight (namesIn g params) (tysOf bs) (expr (d - 1)) k s ≡ seenAs r out) where
+      pub clause-refused : 16 < r → Untyped ≡ typedAs (typeClause (namesIn g params) (tysOf bs) (clause (headsOf g) d 0 s))
+      clause-refused m = untyped (typed-none (namesIn g params) (tysOf bs) (headsOf g) d s e (omega arith) u (q ∙ seen-none r out m))
 
-      module _ (m : r ≤ 16) {c : ℕ} (i : c ≡ firstClause k s) where
-        pub clause-wait : {b ps v : ℕ} {t z : Typed} → k ≡ 17 → b ≡ byte s 4 → ps ≡ byte g 8 → BlameMask ps params b v → t ≡ typedAs (typeClause (namesOf (agreementOf g) params) (tysOf (take r out)) (clause (headsOf g) (d - 1) 0 (part s c (length s)))) → z ≡ blamedAs v t → z ≡ typedAs (typeClause (namesOf (agreementOf g) params) (tysOf bs) (clause (headsOf g) d 0 s))
-        clause-wait {b} {v = v} h p w j f z =
-            let o = typeClause (namesOf (agreementOf g) params) (tysOf (take r out)) (clause (headsOf g) (d - 1) 0 (part s c (length s))) in
+      -- a is where the first clause part ends, t what the code found of it
+      module _ (m : r ≤ 16) {c a : ℕ} {t : Typed} (i : c ≡ firstClause k s) (j : a ≡ firstEnd k s c) (f : t ≡ typedAs (typeClause (namesIn g params) (tysOf (take r out)) (clause (headsOf g) (d - 1) 0 (part s c a)))) where
+        pub clause-wait : {b ps v : ℕ} {z : Typed} → k ≡ 17 → b ≡ byte s 4 → ps ≡ byte g 8 → BlameMask ps params b v → z ≡ blamedAs v t → z ≡ typedAs (typeClause (namesIn g params) (tysOf bs) (clause (headsOf g) d 0 s))
+        unfolding firstEnd
+        clause-wait {v = v} h p w y z =
+            let part-then = clause (headsOf g) (d - 1) 0 (part s c (length s)) in
             let first = q ∙ seen-some r out m in
-            let y : v ≡ maskOf (byte s 4 ∷ []) = bit-is g params s p w j (blame-allowed (namesOf (agreementOf g) params) (tysOf bs) (expr (d - 1)) s (tysOf (take r out)) (rw h at first)) in
-            let typed = typed-wait (namesOf (agreementOf g) params) (tysOf bs) (headsOf g) d s e h i ∙ bind-at (firstSight (namesOf (agreementOf g) params) (tysOf bs) (expr (d - 1)) k s) (λ ts. afterFirst (namesOf (agreementOf g) params) (clause (headsOf g) (d - 1) 0 (part s c (length s))) (byte s 4) ts) (tysOf (take r out)) first in
-            z ∙ rw (f, y) (blamed-typed (byte s 4) o ∙ ap typedAs (sym typed))
+            let bit : v ≡ maskOf (byte s 4 ∷ []) = bit-is g params s p w y (blame-allowed (namesIn g params) (tysOf bs) (expr (d - 1)) s (tysOf (take r out)) (rw h at first)) in
+            let end : a ≡ length s = j ∙ rw (eq-eqb k 17 h) in
+            let typed = typed-wait (namesIn g params) (tysOf bs) (headsOf g) d s e h i ∙ bind-at (firstSight (namesIn g params) (tysOf bs) (expr (d - 1)) k s) (afterFirst (namesIn g params) part-then (byte s 4)) (tysOf (take r out)) first in
+            z ∙ rw (f, end, bit) (blamed-typed (byte s 4) (typeClause (namesIn g params) (tysOf (take r out)) part-then) ∙ ap typedAs (sym typed))
 
-        pub clause-two : {a : ℕ} {t f z : Typed} → (k ≡ 17 → ⊥) → a ≡ recordEnd s c → t ≡ typedAs (typeClause (namesOf (agreementOf g) params) (tysOf (take r out)) (clause (headsOf g) (d - 1) 0 (part s c a))) → f ≡ typedAs (typeClause (namesOf (agreementOf g) params) (tysOf bs) (clause (headsOf g) (d - 1) 0 (part s a (length s)))) → z ≡ joinedAs k t f → z ≡ typedAs (typeClause (namesOf (agreementOf g) params) (tysOf bs) (clause (headsOf g) d 0 s))
-        clause-two {a} h j y w z =
+        pub clause-two : {u z : Typed} → (k ≡ 17 → ⊥) → u ≡ typedAs (typeClause (namesIn g params) (tysOf bs) (clause (headsOf g) (d - 1) 0 (part s a (length s)))) → z ≡ joinedAs k t u → z ≡ typedAs (typeClause (namesIn g params) (tysOf bs) (clause (headsOf g) d 0 s))
+        unfolding firstEnd
+        clause-two h w z =
             let left = clause (headsOf g) (d - 1) 0 (part s c a) in
             let right = clause (headsOf g) (d - 1) 0 (part s a (length s)) in
             let first = q ∙ seen-some r out m in
-            let typed = typed-two (namesOf (agreementOf g) params) (tysOf bs) (headsOf g) d s e (omega arith) u i j ∙ bind-at (firstSight (namesOf (agreementOf g) params) (tysOf bs) (expr (d - 1)) k s) (λ ts. bothSides k (typeClause (namesOf (agreementOf g) params) ts left) (typeClause (namesOf (agreementOf g) params) (tysOf bs) right)) (tysOf (take r out)) first in
-            z ∙ rw (y, w) (joined-typed k (typeClause (namesOf (agreementOf g) params) (tysOf (take r out)) left) (typeClause (namesOf (agreementOf g) params) (tysOf bs) right) (valid (tysOf (take r out)) left) (valid (tysOf bs) right) ∙ ap typedAs (sym typed))
+            let end : a ≡ recordEnd s c = j ∙ rw (ne-eqb k 17 h) in
+            let typed = typed-two (namesIn g params) (tysOf bs) (headsOf g) d s e (omega arith) u i end ∙ bind-at (firstSight (namesIn g params) (tysOf bs) (expr (d - 1)) k s) (λ ts. bothSides k (typeClause (namesIn g params) ts left) (typeClause (namesIn g params) (tysOf bs) right)) (tysOf (take r out)) first in
+            z ∙ rw (f, w) (joined-typed k (typeClause (namesIn g params) (tysOf (take r out)) left) (typeClause (namesIn g params) (tysOf bs) right) (valid (tysOf (take r out)) left) (valid (tysOf bs) right) ∙ ap typedAs (sym typed))
 
 pub ruleset clauses = (clause-fulfilled, clause-instance, clause-low, clause-high, clause-refused, clause-wait, clause-two)

@@ -53,6 +53,10 @@ firstSight n env e k s =
     (cond (eqb k 19) (hasType (n .parties) env (e (part s 4 (recordEnd s 4))) truth >>= λ _. some env)
     (some env)))
 
+-- where it ends, if it begins at c
+unfoldable pub firstEnd : ℕ → List ℕ → ℕ → ℕ
+firstEnd k s c = cond (eqb k 17) (length s) (recordEnd s c)
+
 -- ---- parties by bit
 unfoldable pub typedAs : Option (List ℕ) → Typed
 typedAs none = Untyped

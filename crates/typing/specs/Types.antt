@@ -1,5 +1,5 @@
 -- Types as the code has them: numbers, 0 where there is no type. proofs/Exprs.antt has it that the rules below are csl's.
-use mathlib.Core.Bool.{Bool, true, false, cond}
+use mathlib.Core.Bool.{Bool, cond}
 use mathlib.Core.List.{List}
 use mathlib.Core.Option.{Option, none, some}
 use Prim.Native.Nat.{ℕ}

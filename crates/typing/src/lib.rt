@@ -12,7 +12,7 @@ ghost use Rattle.csl.specs.Decode.{expr, tysOf, waitAt, agreementOf, arguments,
 ghost use Rattle.csl.specs.Typing as typing;
 ghost use Rattle.csl.specs.Typing.{typeExpr, haveTypes, typeClause, namesOf};
 ghost use Rattle.typing.specs.Types.{byteType, typeNumber, sightType, recordKind, literalType, leafType, notType, operandType, resultType, operationType};
-ghost use Rattle.typing.specs.Clauses.{seenAs, thenOf, waitTyped, waitSight, firstSight, JoinedSight, argumentsAs, argumentsOf, blamesOf, bodyTyped, templateTyped, templatesTyped, holds, typedAs, fulfilledAs, Small, blamedAs, sidesAs, joinedAs};
+ghost use Rattle.typing.specs.Clauses.{seenAs, thenOf, waitTyped, waitSight, firstSight, firstEnd, JoinedSight, argumentsAs, argumentsOf, blamesOf, bodyTyped, templateTyped, templatesTyped, holds, typedAs, fulfilledAs, Small, blamedAs, sidesAs, joinedAs};
 ghost use Rattle.records.specs.Index.{Indexed, headAt};
 ghost use Rattle.parties.specs.Masks.{maskEnd};
 use arith::byte;
@@ -33,6 +33,12 @@ use records::param_count;
 use records::reading_place;
 use records::template_place;
 use records::value_count;
+
+// A clause's parties by bit, where it is typed.
+pub enum Typed {
+    Parties(usize),
+    Untyped,
+}
 
 // A type byte's type.
 fn type_number(b: u8) -> usize
@@ -318,12 +324,6 @@ fn first_sight(
     }
 }
 
-// A clause's parties by bit, where it is typed.
-pub enum Typed {
-    Parties(usize),
-    Untyped,
-}
-
 fn blamed(mask: usize, rest: Typed) -> Typed
     requires { ⌜ (mask < maskEnd) × Small rest ⌝ }
     ensures { λ r. ⌜ r ≡ blamedAs mask rest ⌝ }
@@ -463,6 +463,18 @@ fn fulfilled_parties(s: &[u8]) -> Typed
     }
 }
 
+// Where the first clause part, which begins at c, ends: an obligation has no other.
+fn first_end(s: &[u8], kind: usize, c: usize) -> usize
+    requires { ⌜ c ≤ length (now s) ⌝ }
+    ensures { λ r. ⌜ (r ≡ firstEnd kind (now (s .entry)) c) × (c ≤ r) × (r ≤ length (now (s .entry))) ⌝ }
+{
+    if kind == 17 {
+        s.len()
+    } else {
+        record_end(s, c)
+    }
+}
+
 // A clause's parties: `types` are in sight, and there are `params` party parameters.
 pub fn clause_parties(
     agreement: &[u8],
@@ -479,37 +491,20 @@ pub fn clause_parties(
     match kind {
         16 => fulfilled_parties(s),
         17..=21 => {
+            let d = depth - 1;
             let mut next = [0u8; 16];
-            let n = first_sight(
-                agreement,
-                places,
-                s,
-                kind,
-                types,
-                params,
-                &mut next,
-                depth - 1,
-            );
+            let n = first_sight(agreement, places, s, kind, types, params, &mut next, d);
             if n > 16 {
                 return Typed::Untyped;
             }
             let c = first_clause(s, kind);
+            let f = first_end(s, kind, c);
+            let first = clause_parties(agreement, places, &s[c..f], &next[..n], params, d);
             if kind == 17 {
-                let then = clause_parties(
-                    agreement,
-                    places,
-                    &s[c..],
-                    &next[..n],
-                    params,
-                    depth - 1,
-                );
-                let mask = blame_mask(byte(s, 4), byte(agreement, 8), params);
-                return blamed(mask, then);
+                return blamed(blame_mask(byte(s, 4), byte(agreement, 8), params), first);
             }
-            let f = record_end(s, c);
-            let left = clause_parties(agreement, places, &s[c..f], &next[..n], params, depth - 1);
-            let right = clause_parties(agreement, places, &s[f..], types, params, depth - 1);
-            joined(kind, left, right)
+            let second = clause_parties(agreement, places, &s[f..], types, params, d);
+            joined(kind, first, second)
         }
         22 => instance_parties(agreement, places, s, types, params, depth - 1),
         _ => Typed::Untyped,

@@ -1,0 +1,5 @@
+mod Options
+mod Reading
+pub mod Values
+mod Fitting
+pub mod Answers
