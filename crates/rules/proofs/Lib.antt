@@ -1,0 +1,7 @@
+pub mod Cells
+pub mod Evaluates
+pub mod Reduces
+pub mod Waits
+pub mod Instances
+pub mod Walks
+pub mod Sites

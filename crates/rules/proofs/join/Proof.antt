@@ -1,0 +1,14 @@
+use Rattle.rules.proofs.Reduces.{as-join, join-first, join-second}
+use borrow.Author.Needs.{needs}
+use Rattle.rules.proofs.join.Statement.{statement}
+use Rattle.rules.proofs.join.Tie as tie
+
+returns : tie.Need-returns
+returns c = let s = c .before .before .before .before in as-join (join-first (c .before .before .before .if1 .taken)) (c .before .join-both .ensures)
+
+returns-2 : tie.Need-returns-2
+returns-2 c = let s = c .before .before .before .before in as-join (join-second (s .args .kind) (c .before .before .before .if1 .left)) (c .before .join-either .ensures)
+
+pub join-spec : {M : Type 1} → statement M
+join-spec = tie.close (tie.spec
+    (λ c κs. search needs) (λ c. search needs) returns (λ c κs. search needs) (λ c. search needs) returns-2)

@@ -1,0 +1,35 @@
+use Rattle.csl.specs.Syntax.{or}
+use Rattle.rules.proofs.Reduces.{counted, either-done, either-breach-done, either-breaches, either-breach-running, either-running-done, either-running-breach, both-running, as-join, join-of-either}
+use borrow.Author.Needs.{needs}
+use Rattle.rules.proofs.join_either.Statement.{statement}
+use Rattle.rules.proofs.join_either.Tie as tie
+
+put-join-requires : tie.Need-put-join-requires
+put-join-requires c κs = let s = c .before .before .before .before .before .before .before in (search needs, search needs, counted (c .before .before .before .before .before .l2 .given .1) (s .pre .0), counted (c .before .before .r2 .given .1) (s .pre .1), s .pre .2)
+
+returns : tie.Need-returns
+returns c = let s = c .before .before in either-done (s .args .out .now) (c .enum-told .given .1)
+
+returns-2 : tie.Need-returns-2
+returns-2 c = let s = c .before .before .before .before .before in either-breach-done (s .args .out .now) (c .before .before .before .l .given .1) (c .enum-told2 .given .1)
+
+returns-3 : tie.Need-returns-3
+returns-3 c = let s = c .before .before .before .before .before .before .before in either-breaches (s .args .out .now) (c .before .before .before .before .before .l .given .1) (c .before .before .r .given .1) (c .before .before .before .before .known-told .given .0 .1) (c .before .known-told2 .given .0 .1) (c .later-breach .ensures)
+
+returns-4 : tie.Need-returns-4
+returns-4 c = let s = c .before .before .before .before .before in either-breach-running (s .args .out .now) (c .before .before .before .l .given .1) (c .enum-told3 .given .1)
+
+returns-5 : tie.Need-returns-5
+returns-5 c = let s = c .before .before .before .before .before in either-running-done (s .args .out .now) (c .before .before .before .l2 .given .1) (c .enum-told4 .given .1)
+
+returns-6 : tie.Need-returns-6
+returns-6 c = let s = c .before .before .before .before .before in either-running-breach (s .args .out .now) (c .before .before .before .l2 .given .1) (c .enum-told5 .given .1)
+
+returns-7 : tie.Need-returns-7
+returns-7 c = let s = c .before .before .before .before .before .before .before .before .before in both-running (s .args .out .now) (c .before .before .before .before .before .before .before .l2 .given .1) (c .before .before .before .before .r2 .given .1) (as-join {k = or} (join-of-either) (c .before .put-join .ensures))
+
+pub join-either-spec : {M : Type 1} → statement M
+join-either-spec = tie.close (tie.spec
+    (λ c. search needs) (λ c. search needs) (λ c. search needs) (λ c. search needs) (λ c κs. search needs)
+    (λ c. search needs) (λ c. search needs) (λ c. search needs) (λ c. search needs) (λ c. search needs)
+    put-join-requires returns returns-2 returns-3 returns-4 returns-5 returns-6 (λ c. search needs) returns-7)

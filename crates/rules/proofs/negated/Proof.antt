@@ -1,0 +1,18 @@
+use borrow.Author.Needs.{needs}
+use Rattle.arith.proofs.Ints.{read}
+use Rattle.arith.proofs.Conds.{conds}
+use Rattle.rules.specs.Parts.{negatedCell}
+use Rattle.rules.proofs.Evaluates.{nought-held, one-held}
+use Rattle.rules.proofs.negated.Statement.{statement}
+use Rattle.rules.proofs.negated.Tie as tie
+
+returns : tie.Need-returns
+unfolding negatedCell
+returns c = let e = rw (read (c .before .before .fits .x)) at (c .before .is-true .ensures) in (search conds depth 9, nought-held)
+
+returns-2 : tie.Need-returns-2
+unfolding negatedCell
+returns-2 c = let e = rw (read (c .before .before .fits .x)) at (c .before .is-true .ensures) in (search conds depth 9, one-held)
+
+pub negated-spec : {M : Type 1} → statement M
+negated-spec = tie.close (tie.spec (λ c κs. search needs) returns returns-2)

@@ -1,0 +1,3 @@
+pub mod Reduces
+pub mod Parts
+pub mod Leads
