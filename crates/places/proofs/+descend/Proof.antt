@@ -1,0 +1,56 @@
+use borrow.Author.Needs.{needs}
+use Rattle.places.proofs.Steps.{typed-room}
+use Rattle.places.proofs.Descents.{descent-absent, descent-here, into-typed, into-room, descent-into}
+use Rattle.arith.proofs.Lists.{length-part}
+use lib.ListN.{length}
+use native.Mathlib.Omega.{arith}
+use Prim.Native.Nat.{ℕ, _<_}
+use borrow.Fn.Kinds.{In}
+use borrow.Fn.PlainCycle.{Measures, is, falls, and}
+use Rattle.places.proofs.descend.Reads as descend
+use Rattle.places.proofs.descend.Kinds as descend-kinds
+use Rattle.places.proofs.+descend.Lts-descend as descend-lts
+use Rattle.places.proofs.step_down.Reads as step-down-reads
+use Rattle.places.proofs.+descend.{statement}
+use Rattle.places.proofs.+descend.Tie.{close}
+
+abbrev μ-descend : Measures 4 descend-kinds.ps ℕ
+μ-descend κs a = length (a .1 .1 .0 .now)
+
+abbrev descend-at : ℕ → In 4 descend-kinds.ps
+descend-at t = and 4 descend-kinds.ps (is 4 descend-kinds.ps μ-descend t) descend.Pre
+
+abbrev descend-below : ℕ → In 4 descend-kinds.ps
+descend-below t = and 4 descend-kinds.ps (falls 4 descend-kinds.ps _<_ μ-descend t) descend.Pre
+
+-- what a member may assume of its callees
+abbrev claims : ℕ → descend-lts.Claims
+claims t = (step-down-reads.Asked, step-down-reads.Learnt, descend-below t, descend.Post)
+
+descend-add-descend : (t : ℕ) → descend-lts.Need-add-descend (claims t) (descend-at t) descend.Post
+descend-add-descend t c = omega (arith, into-room (c .before .before .before .before .before .before .step-down .ensures) (c .before .before .a .given .1) (c .before .before .before .before .before .before .before .before .before .before .before .before .pre .1 .3))
+
+descend-descend-requires : (t : ℕ) → descend-lts.Need-descend-requires (claims t) (descend-at t) descend.Post
+descend-descend-requires t c κs =
+    let s = c .before .before .before .before .before .before .before .before .before .before .before .before .before in
+    let r = into-room (c .before .before .before .before .before .before .before .step-down .ensures) (c .before .before .before .a .given .1) (c .before .before .before .before .before .before .before .before .before .before .before .before .before .pre .1 .3) in
+    let l = length-part (s .args .s .now) (c .before .before .before .a .given .0 .0) (c .before .before .before .a .given .0 .1 .0) (r .2) in
+    (omega (arith, s .pre .0, typed-room (s .pre .1 .3)), (s .pre .1 .0, omega (arith, s .pre .1 .1, c .before .before .before .before .before .before .before .step-down .kept .1 .1 .1 .1 .1 .1 .0), r .3, into-typed (c .before .before .before .before .before .before .before .step-down .ensures) (c .before .before .before .a .given .1) (s .pre .1 .3), omega (arith, s .pre .1 .4)))
+
+descend-returns : (t : ℕ) → descend-lts.Need-returns (claims t) (descend-at t) descend.Post
+descend-returns t c = descent-absent (c .before .before .before .before .step-down .ensures) (c .before .before .before .before .before .before .before .before .before .before .args .params) (c .enum-told .given .1)
+
+descend-returns-2 : (t : ℕ) → descend-lts.Need-returns-2 (claims t) (descend-at t) descend.Post
+descend-returns-2 t c = descent-here (c .before .before .before .before .before .step-down .ensures) (c .before .before .before .before .before .before .before .before .before .before .before .args .params) (c .before .before .before .before .before .before .before .before .before .before .before .pre .1 .2) (c .before .k .given .1)
+
+descend-returns-3 : (t : ℕ) → descend-lts.Need-returns-3 (claims t) (descend-at t) descend.Post
+descend-returns-3 t c = descent-into (c .before .before .before .before .before .before .before .before .before .before .step-down .ensures) (c .before .before .before .before .before .before .a .given .1) (c .before .before .before .before .before .before .before .before .before .before .before .before .before .before .before .before .args .params) (c .before .before .descend .ensures)
+
+pub +descend-spec : {M : Type 1} → statement M
++descend-spec = close μ-descend λ t. descend-lts.spec (claims t) (descend-at t) descend.Post
+    (λ c κs. search needs) (λ c. search needs) (λ c. search needs) (λ c. search needs)
+    (λ c. omega (arith, into-room (c .before .before .before .before .before .step-down .ensures) (c .before .a .given .1) (c .before .before .before .before .before .before .before .before .before .before .before .pre .1 .3)))
+    (λ c. omega (arith, into-room (c .before .before .before .before .before .step-down .ensures) (c .before .a .given .1) (c .before .before .before .before .before .before .before .before .before .before .before .pre .1 .3)))
+    (λ c. omega (arith, into-room (c .before .before .before .before .before .step-down .ensures) (c .before .a .given .1) (c .before .before .before .before .before .before .before .before .before .before .before .pre .1 .3)))
+    (descend-add-descend t) (descend-descend-requires t) (λ c. search needs) (descend-returns t)
+    (λ c. search needs) (descend-returns-2 t) (λ c. search needs) (descend-returns-3 t)

@@ -1,0 +1,4 @@
+pub mod Found
+pub mod Sights
+pub mod Steps
+pub mod Descents

@@ -1,0 +1,30 @@
+use borrow.Author.Needs.{needs}
+use mathlib.Core.Path.{_≡_, refl, _∙_}
+use mathlib.Core.List.{_++_}
+use Prim.Native.Nat.{_+_, _-_, _≤_}
+use lib.ListN.{length, take, length-set}
+use Rattle.places.proofs.Sights.{append-first, append-more, append-last}
+use Rattle.places.proofs.append.Statement.{statement}
+use Rattle.places.proofs.append.Tie as tie
+
+abbrev Inv-loop : tie.InvT-loop
+Inv-loop out₀ n from i₀ out i = (i ≤ length from) × (length out ≡ length out₀) × (take (n + i) out ≡ take n out₀ ++ take i from)
+
+abbrev μ-loop : tie.MeasureT-loop
+μ-loop out₀ n from i₀ out i = length from - i
+
+loop-holds : tie.Need-loop-holds Inv-loop μ-loop
+loop-holds c = (search needs, refl, append-first (c .args .out .now) (c .args .n) (c .args .from .now))
+
+loop-again : tie.Need-loop-again Inv-loop μ-loop
+loop-again c =
+    let l = c .before .before in
+    (search needs, simp length-set (l .loop .inv .1), append-more (l .before .args .out .now) (l .before .args .n) (l .before .args .from .now) (l .loop .i) (l .loop .out) (c .before .loop-test .taken) (search needs) (l .loop .inv .2))
+
+returns : tie.Need-returns Inv-loop μ-loop
+returns c = let l = c .before in append-last (l .before .args .out .now) (l .before .args .n) (l .before .args .from .now) (l .loop .i) (l .loop .out) (l .loop .inv .0) (c .loop-test .left) (l .loop .inv .2)
+
+pub append-spec : {M : Type 1} → statement M
+append-spec = tie.close (tie.spec Inv-loop μ-loop
+    loop-holds (λ c. search needs) (λ c. search needs) (λ c. search needs) (λ c. search needs)
+    (λ c. search needs) loop-again (λ c. search needs) returns)

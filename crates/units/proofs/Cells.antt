@@ -1,0 +1,212 @@
+-- Cells read as numbers, parties and values.
+use mathlib.Core.Path.{_≡_, refl, sym, ap, ap₂, subst, _∙_}
+use mathlib.Core.Bool.{Bool, true, false, cond, not, _&&_}
+use mathlib.Core.List.{List, [], _∷_, _++_, append-nil, append-assoc}
+use mathlib.Core.Option.{Option, none, some}
+use Prim.Native.Nat.{ℕ, zero, suc, _+_, _-_, _≤_, _<_, min}
+use native.Mathlib.Decide.{decLe}
+use native.Mathlib.Numerals.{add-one}
+use native.Mathlib.Omega.{arith}
+use borrow.Author.Tests.{lt-ltb, le-ltb, le-leb, lt-leb, eq-eqb, ne-eqb, ltb-true, ltb-false}
+use lib.Dec.{T, leb, ltb, eqb}
+use lib.IntN.{ℤ, pos, negsuc, natAbs}
+use lib.ListN.{length, getD, take, drop, set}
+use lib.Seq.{drop-cons, take-suc-set, drop-length, take-length}
+use lib.Signed.{ltZ, nonNeg, _≤ℤ_}
+use mir.Syntax.{w64}
+use mir.Val.{Fits, SFits}
+use Rattle.arith.proofs.Ints.{seen, read, index-asked, index-given}
+use Rattle.arith.proofs.Linear.{ints, parts, up, dn}
+use Rattle.csl.specs.Lists.{_>>=_, need, all}
+use Rattle.csl.specs.Numbers.{inRange, limit}
+use Rattle.csl.specs.Syntax.{Ty, number, truth, party}
+use Rattle.csl.specs.Decode.{tyOf, tysOf}
+use Rattle.csl.specs.Values.{asNat}
+use Rattle.csl.specs.Table.{isZero}
+use Rattle.units.specs.Cells.{numberBelow, partiesIn, valueOk, valuesOk}
+
+-- ---- a test turned round
+pub yes-true : (b : Bool) → not b ≡ false → b ≡ true
+yes-true true e = refl
+yes-true false e = sym e
+
+pub no-false : (b : Bool) → not b ≡ true → b ≡ false
+no-false true e = sym e
+no-false false e = refl
+
+-- ---- a number below end
+pub below-negative : (end : ℕ) (z : ℤ) → ltZ z (pos 0) ≡ true → (end ≡ numberBelow end z) × (end ≤ end)
+unfolding numberBelow
+below-negative end (pos n) h = absurd (omega (arith, ltb-true n 0 h))
+below-negative end (negsuc n) h = (refl, omega arith)
+
+not-negative : {z : ℤ} → ltZ z (pos 0) ≡ false → pos 0 ≤ℤ z
+not-negative {z} h = omega ints
+
+module _ {z : ℤ} (f : SFits w64 z) (h : ltZ (seen z) (pos 0) ≡ false) where
+  at-least : pos 0 ≤ℤ z
+  at-least = not-negative (rw (read f) at h)
+
+  pub below-asked : T (nonNeg (seen z)) × Fits w64 (natAbs (seen z))
+  below-asked = index-asked f at-least
+
+  pub below-small : (end : ℕ) → natAbs (seen z) < end → (natAbs (seen z) ≡ numberBelow end z) × (natAbs (seen z) ≤ end)
+  unfolding numberBelow
+  below-small end l = (omega arith ∙ ap (numberBelow end) (index-given f at-least), omega arith)
+
+  pub below-large : (end : ℕ) → end ≤ natAbs (seen z) → (end ≡ numberBelow end z) × (end ≤ end)
+  unfolding numberBelow
+  below-large end l = (omega arith ∙ ap (numberBelow end) (index-given f at-least), omega arith)
+
+-- what it says of the cell
+pub below-is : (end : ℕ) (z : ℤ) → numberBelow end z < end → z ≡ pos (numberBelow end z)
+unfolding numberBelow
+below-is end (pos n) h = ap pos (omega arith)
+below-is end (negsuc n) h = absurd (omega arith)
+
+pub below-not : (end n : ℕ) (z : ℤ) → end ≤ numberBelow end z → z ≡ pos n → end ≤ n
+unfolding numberBelow
+below-not end n z h e = let g = rw e at h in omega arith
+
+-- ---- zeros
+is-zero : {r : ℕ} (z : ℤ) → r ≡ numberBelow 1 z → r ≡ 0 → isZero z ≡ true
+unfolding numberBelow isZero
+is-zero (pos n) e h = eq-eqb n 0 (omega arith)
+is-zero (negsuc n) e h = absurd (omega arith)
+
+not-zero : {r : ℕ} (z : ℤ) → r ≡ numberBelow 1 z → (r ≡ 0 → ⊥) → isZero z ≡ false
+unfolding numberBelow isZero
+not-zero (pos n) e h = ne-eqb n 0 (λ g. h (omega arith))
+not-zero (negsuc n) e h = refl
+
+module _ (zs : List ℤ) where
+  abbrev From : ℕ → Type 0
+  From i = (i ≤ length zs) × (all isZero zs ≡ all isZero (drop i zs))
+
+  pub zeros-first : From 0
+  zeros-first = (omega arith, refl)
+
+  pub zeros-more : {i r : ℕ} → i < length zs → r ≡ numberBelow 1 (getD zs i (pos 0)) → r ≡ 0 → From i → From (i + 1)
+  unfolding all
+  zeros-more {i} l e h f = (omega arith, f .1 ∙ rw (drop-cons zs i (pos 0) l, is-zero (getD zs i (pos 0)) e h, add-one i))
+
+  pub zeros-not : {i r : ℕ} → i < length zs → r ≡ numberBelow 1 (getD zs i (pos 0)) → (r ≡ 0 → ⊥) → From i → false ≡ all isZero zs
+  unfolding all
+  zeros-not {i} l e h f = sym (f .1 ∙ rw (drop-cons zs i (pos 0) l, not-zero (getD zs i (pos 0)) e h))
+
+  pub zeros-last : {i : ℕ} → length zs ≤ i → From i → true ≡ all isZero zs
+  unfolding all
+  zeros-last {i} l f = let e : i ≡ length zs = omega arith in sym (f .1 ∙ rw (e, drop-length zs))
+
+-- ---- parties
+party-is : {r : ℕ} (ps : ℕ) (z : ℤ) (rest : List ℤ) → r ≡ numberBelow ps z → r ≤ ps → (r ≡ ps → ⊥) → partiesIn ps (z ∷ rest) ≡ (partiesIn ps rest >>= λ ns. some (r ∷ ns))
+unfolding partiesIn numberBelow asNat need _>>=_
+party-is {r} ps (pos n) rest e l h =
+    let same : n ≡ r = omega arith in
+    rw (same, lt-ltb r ps (omega arith)) refl
+party-is {r} ps (negsuc n) rest e l h = absurd (h e)
+
+party-not : {r : ℕ} (ps : ℕ) (z : ℤ) (rest : List ℤ) → r ≡ numberBelow ps z → r ≡ ps → partiesIn ps (z ∷ rest) ≡ none
+unfolding partiesIn numberBelow asNat need _>>=_
+party-not ps (pos n) rest e h = rw (le-ltb n ps (omega arith)) refl
+party-not ps (negsuc n) rest e h = refl
+
+module _ (zs : List ℤ) (ps : ℕ) where
+  -- i cells are in out, and the rest follow
+  pub record Reads (out : List ℕ) (i : ℕ) : Type 0 where
+    pub within : i ≤ length zs
+    pub same : partiesIn ps zs ≡ (partiesIn ps (drop i zs) >>= λ ns. some (take i out ++ ns))
+
+  pub reads-first : (out : List ℕ) → Reads out 0
+  unfolding _>>=_
+  reads-first out = record { within = omega arith; same = go (partiesIn ps zs) }
+    where
+      go : (o : Option (List ℕ)) → o ≡ (o >>= λ ns. some ([] ++ ns))
+      go none = refl
+      go (some ns) = refl
+
+  module _ {out : List ℕ} {i r : ℕ} (l : i < length zs) (e : r ≡ numberBelow ps (getD zs i (pos 0))) (h : Reads out i) where
+    pub reads-more : r ≤ ps → (r ≡ ps → ⊥) → i < length out → Reads (set out i r) (i + 1)
+    unfolding _>>=_
+    reads-more u f k = record { within = omega arith; same = h .same ∙ rw (drop-cons zs i (pos 0) l, party-is ps (getD zs i (pos 0)) (drop (suc i) zs) e u f, add-one i, take-suc-set out i r k) (go (partiesIn ps (drop (suc i) zs))) }
+      where
+        go : (o : Option (List ℕ)) → ((o >>= λ ns. some (r ∷ ns)) >>= λ ns. some (take i out ++ ns)) ≡ (o >>= λ ns. some ((take i out ++ (r ∷ [])) ++ ns))
+        go none = refl
+        go (some ns) = ap some (sym (append-assoc (take i out) (r ∷ []) ns))
+
+    pub reads-not : r ≡ ps → partiesIn ps zs ≡ none
+    unfolding _>>=_
+    reads-not f = h .same ∙ rw (drop-cons zs i (pos 0) l, party-not ps (getD zs i (pos 0)) (drop (suc i) zs) e f) refl
+
+  pub reads-last : {out : List ℕ} {i : ℕ} → length zs ≤ i → Reads out i → partiesIn ps zs ≡ some (take (length zs) out)
+  unfolding _>>=_ partiesIn
+  reads-last {out} {i} l h =
+      let e : i ≡ length zs = omega (arith, h .within) in
+      h .same ∙ rw (e, drop-length zs) (ap some (append-nil (take (length zs) out)))
+
+-- ---- values
+module _ (z : ℤ) where
+  pub range-over : ltZ (pos 1_000_000_000) z ≡ true → false ≡ inRange z
+  unfolding inRange up dn
+  range-over h = sym (lt-leb (natAbs z) limit (omega (ints, parts z)))
+
+  pub range-under : ltZ z (negsuc 999_999_999) ≡ true → false ≡ inRange z
+  unfolding inRange up dn
+  range-under h = sym (lt-leb (natAbs z) limit (omega (ints, parts z)))
+
+  pub range-in : ltZ (pos 1_000_000_000) z ≡ false → ltZ z (negsuc 999_999_999) ≡ false → true ≡ inRange z
+  unfolding inRange up dn
+  range-in h g = sym (le-leb (natAbs z) limit (omega (ints, parts z)))
+
+truth-at : {r : ℕ} (ps : ℕ) (z : ℤ) → r ≡ numberBelow 2 z → ltb r 2 ≡ valueOk ps truth z
+unfolding numberBelow valueOk
+truth-at {r} ps (pos n) h = go (decLe n 1)
+  where
+    go : Dec (n ≤ 1) → ltb r 2 ≡ leb n 1
+    go (yes l) = rw (le-leb n 1 l) (lt-ltb r 2 (omega arith))
+    go (no l) = rw (lt-leb n 1 (omega arith)) (le-ltb r 2 (omega arith))
+truth-at {r} ps (negsuc n) h = le-ltb r 2 (omega arith)
+
+party-at : {r : ℕ} (ps : ℕ) (z : ℤ) → r ≡ numberBelow ps z → ltb r ps ≡ valueOk ps party z
+unfolding numberBelow valueOk
+party-at {r} ps (pos n) h = go (decLe ps n)
+  where
+    go : Dec (ps ≤ n) → ltb r ps ≡ ltb n ps
+    go (yes l) = rw (le-ltb n ps l) (le-ltb r ps (omega arith))
+    go (no l) = rw (lt-ltb n ps (omega arith)) (lt-ltb r ps (omega arith))
+party-at {r} ps (negsuc n) h = le-ltb r ps (omega arith)
+
+module _ {t : ℕ} (ps : ℕ) (z : ℤ) where
+  pub number-ok : {b : Bool} → t ≡ 1 → b ≡ inRange z → b ≡ valueOk ps (tyOf t) z
+  unfolding valueOk tyOf
+  number-ok e h = rw e h
+
+  pub truth-ok : {r : ℕ} → t ≡ 2 → r ≡ numberBelow 2 z → ltb r 2 ≡ valueOk ps (tyOf t) z
+  unfolding tyOf
+  truth-ok e h = rw e (truth-at ps z h)
+
+  pub party-ok : {r : ℕ} → (t ≡ 1 → ⊥) → (t ≡ 2 → ⊥) → r ≡ numberBelow ps z → ltb r ps ≡ valueOk ps (tyOf t) z
+  unfolding tyOf
+  party-ok f g h = rw (ne-eqb t 1 f, ne-eqb t 2 g) (party-at ps z h)
+
+module _ (ps : ℕ) (ts : List ℕ) (zs : List ℤ) (room : length ts ≤ length zs) where
+  abbrev ValuesFrom : ℕ → Type 0
+  ValuesFrom i = (i ≤ length ts) × (valuesOk ps (tysOf ts) zs ≡ valuesOk ps (tysOf (drop i ts)) (drop i zs))
+
+  pub values-first : ValuesFrom 0
+  values-first = (omega arith, refl)
+
+  module _ {i : ℕ} {b : Bool} (l : i < length ts) (e : b ≡ valueOk ps (tyOf (getD ts i 0)) (getD zs i (pos 0))) (h : ValuesFrom i) where
+    one-more : valuesOk ps (tysOf ts) zs ≡ (b && valuesOk ps (tysOf (drop (i + 1) ts)) (drop (i + 1) zs))
+    unfolding valuesOk tysOf
+    one-more = h .1 ∙ rw (drop-cons ts i 0 l, drop-cons zs i (pos 0) (omega arith), add-one i, e)
+
+    pub values-more : not b ≡ false → ValuesFrom (i + 1)
+    values-more g = (omega arith, one-more ∙ rw (yes-true b g))
+
+    pub values-not : not b ≡ true → false ≡ valuesOk ps (tysOf ts) zs
+    values-not g = sym (one-more ∙ rw (no-false b g))
+
+  pub values-last : {i : ℕ} → length ts ≤ i → ValuesFrom i → true ≡ valuesOk ps (tysOf ts) zs
+  unfolding valuesOk tysOf
+  values-last {i} l h = let e : i ≡ length ts = omega arith in sym (h .1 ∙ rw (e, drop-length ts))

@@ -1,0 +1,4 @@
+pub mod Cells
+pub mod Blames
+pub mod Units
+pub mod Waits

@@ -1,0 +1,38 @@
+use Rattle.units.proofs.Units.{no-parties, no-zeros, no-values, no-rest, cells-show}
+use Rattle.units.proofs.Cells.{yes-true, no-false}
+use Rattle.arith.proofs.Lists.{length-part}
+use lib.ListN.{length}
+use native.Mathlib.Omega.{arith}
+use mathlib.Core.Path.{_≡_}
+use Prim.Native.Nat.{_+_}
+use Rattle.units.specs.Units.{cellsIn}
+use mathlib.Core.Bool.{false≢true}
+use borrow.Author.Needs.{needs}
+use Rattle.units.proofs.unit_cells.Statement.{statement}
+use Rattle.units.proofs.unit_cells.Tie as tie
+
+returns : tie.Need-returns
+returns c = (λ e. absurd (false≢true e), λ _. no-parties (c .before .before .before .before .before .before .before .before .args .types .now) (c .before .before .before .before .before .before .before .before .args .cells .now) (c .before .before .before .party-cells .ensures .1 (no-false (c .before .before .before .party-cells .result) (c .if1 .taken))))
+
+returns-2 : tie.Need-returns-2
+returns-2 c = (λ e. absurd (false≢true e), λ _. no-zeros (c .before .before .before .before .before .before .before .before .before .before .before .args .types .now) (c .before .before .before .before .before .before .before .before .before .before .before .args .cells .now) (c .before .zeros .ensures) (c .if2 .taken))
+
+returns-3 : tie.Need-returns-3
+returns-3 c = (λ e. absurd (false≢true e), λ _. no-values (c .before .before .before .before .before .before .before .before .before .before .before .before .before .before .args .types .now) (c .before .before .before .before .before .before .before .before .before .before .before .before .before .before .args .cells .now) (c .before .values-ok .ensures) (c .if3 .taken))
+
+returns-4 : tie.Need-returns-4
+returns-4 c =
+    let p = c .before .before .before .before .before .before .before .before .before .before .before .party-cells in
+    let s = c .before .before .before .before .before .before .before .before .before .before .before .before .before .before .before .before in
+    let n : length (cellsIn (s .args .cells .now) 2 (2 + s .args .n)) ≡ s .args .n = omega (arith, length-part (s .args .cells .now) 2 (2 + s .args .n) (omega (arith, s .pre))) in
+    let e = p .ensures .0 (yes-true (p .result) (c .before .before .before .before .before .before .before .before .if1 .left)) in
+    (λ k. cells-show (c .before .before .before .before .before .before .before .before .before .before .before .before .before .before .before .before .args .types .now) (c .before .before .before .before .before .before .before .before .before .before .before .before .before .before .before .before .args .cells .now) (rw n at e) (c .before .before .before .before .before .before .zeros .ensures) (c .before .before .before .before .before .if2 .left) (c .before .before .before .values-ok .ensures) (c .before .before .if3 .left) (c .zeros2 .ensures) k, λ k. no-rest (c .before .before .before .before .before .before .before .before .before .before .before .before .before .before .before .before .args .types .now) (c .before .before .before .before .before .before .before .before .before .before .before .before .before .before .before .before .args .cells .now) (c .zeros2 .ensures) k)
+
+pub unit-cells-spec : {M : Type 1} → statement M
+unit-cells-spec = tie.close (tie.spec
+    (λ c. search needs) (λ c. search needs) (λ c. search needs) (λ c. search needs) (λ c κs. search needs)
+    (λ c. search needs) returns (λ c. search needs) (λ c. search needs) (λ c. search needs)
+    (λ c. search needs) (λ c. search needs) (λ c κs. search needs) (λ c. search needs) returns-2
+    (λ c. search needs) (λ c. search needs) (λ c. search needs) (λ c κs. search needs) (λ c. search needs)
+    returns-3 (λ c. search needs) (λ c. search needs) (λ c. search needs) (λ c. search needs)
+    (λ c. search needs) (λ c κs. search needs) (λ c. search needs) returns-4)

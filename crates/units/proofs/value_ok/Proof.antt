@@ -1,0 +1,27 @@
+use native.Mathlib.Omega.{arith}
+use Rattle.units.proofs.Cells.{range-over, range-under, range-in, number-ok, truth-ok, party-ok}
+use Rattle.units.specs.Cells.{numberBelow}
+use Rattle.arith.proofs.Ints.{read}
+use mathlib.Core.Path.{ap, _∙_}
+use borrow.Author.Needs.{needs}
+use Rattle.units.proofs.value_ok.Statement.{statement}
+use Rattle.units.proofs.value_ok.Tie as tie
+
+returns : tie.Need-returns
+returns c = number-ok (c .before .before .args .parties) (c .before .before .args .z) (c .before .match .keys1) (range-over (c .before .before .args .z) (rw (read (c .before .before .fits .z)) at (c .if1 .taken)))
+
+returns-2 : tie.Need-returns-2
+returns-2 c = number-ok (c .before .before .before .args .parties) (c .before .before .before .args .z) (c .before .before .match .keys1) (range-under (c .before .before .before .args .z) (rw (read (c .before .before .before .fits .z)) at (c .if2 .taken)))
+
+returns-3 : tie.Need-returns-3
+returns-3 c = number-ok (c .before .before .before .args .parties) (c .before .before .before .args .z) (c .before .before .match .keys1) (range-in (c .before .before .before .args .z) (rw (read (c .before .before .before .fits .z)) at (c .before .if1 .left)) (rw (read (c .before .before .before .fits .z)) at (c .if2 .left)))
+
+returns-4 : tie.Need-returns-4
+returns-4 c = truth-ok (c .before .before .args .parties) (c .before .before .args .z) (c .before .match .keys2) (c .number-below .ensures .0 ∙ ap (numberBelow 2) (read (c .before .before .fits .z)))
+
+returns-5 : tie.Need-returns-5
+returns-5 c = party-ok (c .before .before .args .parties) (c .before .before .args .z) (λ e. omega (arith, c .before .match .rest)) (λ e. omega (arith, c .before .match .rest)) (c .number-below2 .ensures .0 ∙ ap (numberBelow (c .before .before .args .parties)) (read (c .before .before .fits .z)))
+
+pub value-ok-spec : {M : Type 1} → statement M
+value-ok-spec = tie.close (tie.spec
+    (λ c κs. search needs) (λ c κs. search needs) returns returns-2 returns-3 returns-4 returns-5)
