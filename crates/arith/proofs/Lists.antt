@@ -17,7 +17,7 @@ module _ {A : Type 0} where
   pub getD-part : (l : List A) (a e i : ℕ) (d : A) → a + i < e → getD (take (e - a) (drop a l)) i d ≡ getD l (a + i) d
   getD-part l a e i d h = let k : i < e - a = omega arith in rw (getD-take, getD-drop)
 
-  take-drop : (m n : ℕ) (l : List A) → drop m (take n l) ≡ take (n - m) (drop m l)
+  pub take-drop : (m n : ℕ) (l : List A) → drop m (take n l) ≡ take (n - m) (drop m l)
   take-drop zero n l = let k : n - 0 ≡ n = omega arith in rw k
   take-drop (suc m) zero l = let k : 0 - suc m ≡ 0 = omega arith in rw k
   take-drop (suc m) (suc n) [] = sym (take-nil (suc n - suc m))

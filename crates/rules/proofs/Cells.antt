@@ -1,15 +1,15 @@
 -- Cells that are copied and filled, and the cells of a unit.
-use mathlib.Core.Path.{_≡_, refl, sym, ap, _∙_}
-use mathlib.Core.List.{List, [], _∷_, _++_, append-nil, append-assoc}
-use Prim.Native.Nat.{ℕ, zero, suc, _+_, _-_, _*_, _≤_, _<_, min}
+use mathlib.Core.Path.{_≡_, sym, ap, _∙_}
+use mathlib.Core.List.{List, [], _∷_, _++_, append-nil}
+use Prim.Native.Nat.{ℕ, suc, _+_, _-_, _≤_, _<_}
 use native.Mathlib.Numerals.{add-one}
 use native.Mathlib.Omega.{arith}
 use native.Mathlib.Decide.{decLt}
 use lib.IntN.{ℤ, pos}
-use lib.ListN.{length, getD, take, drop, set, replicate, length-drop, length-append, length-take, length-replicate, getD-replicate, List·getD-append, List·getD-eq-default, length-set, take-append-drop, drop-of-length-le}
-use lib.Seq.{set-at, take-suc, drop-cons, append-snoc, length-take-le, take-length, take-all, drop-length, drop-at, take-at, getD-append-add, sets-eq, drop-drop, drop-append-le}
+use lib.ListN.{length, getD, take, drop, set, replicate, length-drop, length-append, length-take, length-replicate, getD-replicate, List·getD-append, List·getD-eq-default, length-set, drop-of-length-le}
+use lib.Seq.{set-at, take-suc, drop-cons, append-snoc, length-take-le, take-length, drop-length, take-at, getD-append-add, sets-eq, drop-drop}
 use borrow.Rule.Slice.PartMut.{putMid}
-use Rattle.arith.proofs.Lists.{part-put, tail-put}
+use Rattle.arith.proofs.Lists.{part-put}
 use mir.Syntax.{w64}
 use mir.Val.{toZ}
 use mir.ValLaws.{toZ-pos}

@@ -2,11 +2,11 @@
 use mathlib.Core.Path.{_≡_, refl, sym, ap, _∙_}
 use mathlib.Core.Bool.{Bool, true, false, cond, not}
 use mathlib.Core.List.{List}
-use Prim.Native.Nat.{ℕ, _+_, _-_, _^_, _≤_, _<_}
+use Prim.Native.Nat.{ℕ, _-_, _^_, _≤_, _<_}
 use native.Mathlib.Omega.{arith}
 use lib.IntN.{ℤ, pos}
 use lib.Dec.{eqb, lit≤}
-use lib.Signed.{mag, ltZ}
+use lib.Signed.{mag}
 use lib.ListN.{length, getD, List·getD-eq-default}
 use borrow.Author.Tests.{eq-eqb, ne-eqb, eqb-false}
 use mir.Syntax.{w64}
@@ -15,11 +15,11 @@ use mir.ValLaws.{toZ-pos}
 use Rattle.arith.proofs.Ints.{seen, read, read! }
 use Rattle.arith.proofs.Numbers.{Answer, held-fits}
 use Rattle.arith.proofs.Bytes.{whole-from}
-use Rattle.csl.specs.Numbers.{Held, held, Arithmetic, calculate, eqZ}
+use Rattle.csl.specs.Numbers.{Held, held, Arithmetic, calculate}
 use Rattle.csl.specs.Bytes.{byte, signed32, part, isRecord, kindNumber, recordEnd}
 use Rattle.csl.specs.Syntax.{Op, Expr, badExpr}
-use Rattle.csl.specs.Decode.{ExprKind, numberKind, truthKind, partyKind, variableKind, notKind, binaryKind, noExpr, leafKind, opOf, exprKind, exprBody, expr, ofLength}
-use Rattle.cells.specs.Evaluate.{truthCell, isTrue, applyCells, evalCells}
+use Rattle.csl.specs.Decode.{ExprKind, numberKind, truthKind, partyKind, variableKind, leafKind, opOf, exprKind, exprBody, expr, ofLength}
+use Rattle.cells.specs.Evaluate.{applyCells, evalCells}
 use Rattle.records.proofs.Trees.{expr-zero, expr-none, expr-at, kind-leaf, kind-not, kind-binary, kind-no-expr-low, kind-no-expr-high}
 use Rattle.rules.specs.Parts.{leafOf, negatedCell}
 

@@ -1,27 +1,25 @@
 -- Laws of blames and of an instance's arguments, as the loops over them know things.
 use mathlib.Core.Path.{_≡_, refl, sym, ap, _∙_}
 use mathlib.Core.Bool.{true, false}
-use mathlib.Core.List.{List, [], _∷_, _++_, append-nil, append-assoc}
-use Prim.Native.Nat.{ℕ, zero, suc, _+_, _-_, _*_, _^_, _≤_, _<_}
+use mathlib.Core.List.{List, [], _∷_, _++_, append-nil}
+use Prim.Native.Nat.{ℕ, zero, suc, _+_, _-_, _≤_, _<_}
 use native.Mathlib.Numerals.{add-one}
 use native.Mathlib.Omega.{arith}
 use lib.IntN.{ℤ, pos, negsuc}
-use lib.Signed.{mag, ltZ, _≤ℤ_}
+use lib.Signed.{ltZ, _≤ℤ_}
 use lib.ListN.{length, getD, take, drop, set}
 use lib.Seq.{take-suc-set, drop-cons, drop-length, append-snoc}
 use borrow.Author.Tests.{ltb-true, lt-ltb, le-ltb, ne-eqb}
 use mir.Syntax.{w64}
 use mir.Val.{SFits, toZ}
 use mir.ValLaws.{toZ-pos}
-use Rattle.arith.proofs.Ints.{seen, read, read! }
+use Rattle.arith.proofs.Ints.{seen, read}
 use Rattle.arith.proofs.Linear.{ints, parts}
 use Rattle.csl.specs.Bytes.{byte, part, recordEnd}
 use Rattle.csl.specs.Parties.{member, bit, bitsFrom, bitsOf}
-use Rattle.csl.specs.Syntax.{Expr}
 use Rattle.csl.specs.Decode.{expr, arguments, argumentsEnd}
 use Rattle.cells.specs.Evaluate.{evalCells, evalsCells}
 use Rattle.cells.specs.Reduce.{partyCell, blamedCell, blamedCells, blameBits}
-use Rattle.rules.proofs.Waits.{clamped}
 
 -- ---- a party's bit
 pub more : {k n : ℕ} → k ≤ n → (n ≡ k → ⊥) → suc k ≤ n

@@ -1,3 +1,4 @@
+pub mod Few
 pub mod Cells
 pub mod Evaluates
 pub mod Reduces
@@ -5,3 +6,6 @@ pub mod Waits
 pub mod Instances
 pub mod Walks
 pub mod Sites
+pub mod Settled
+pub mod Stack
+mod Natural

@@ -1,8 +1,8 @@
 -- Laws of answers: a residue at the end of `out`, and the two sides of a join.
 use mathlib.Core.Path.{_≡_, refl, sym, ap, _∙_, subst}
 use mathlib.Core.Bool.{Bool, true, false, cond}
-use mathlib.Core.List.{List, [], _∷_, _++_, append-nil, append-assoc}
-use Prim.Native.Nat.{ℕ, zero, suc, _+_, _-_, _*_, _^_, _≤_, _<_, min}
+use mathlib.Core.List.{List, [], _∷_, _++_}
+use Prim.Native.Nat.{ℕ, _+_, _-_, _*_, _^_, _≤_, _<_, min}
 use native.Mathlib.Omega.{arith}
 use lib.IntN.{ℤ, pos}
 use lib.Bits.{bitOr}
@@ -10,7 +10,7 @@ use lib.Dec.{eqb}
 use borrow.Author.Tests.{eqb-true, eqb-false, ne-eqb}
 use lib.Signed.{ltZ, mag}
 use lib.ListN.{length, take, drop, length-append, length-take, length-drop, take-append-drop}
-use lib.Seq.{drop-at, take-length, drop-length, length-take-le, drop-append-le}
+use lib.Seq.{drop-at, take-length, length-take-le, drop-append-le}
 use borrow.Rule.Slice.PartMut.{putMid}
 use mir.Syntax.{w64}
 use mir.Val.{SFits, toZ}
@@ -21,7 +21,7 @@ use Rattle.csl.specs.Decode.{joinOf}
 use Rattle.csl.specs.Table.{padded, joinNumber, joinCells}
 use Rattle.cells.specs.Reduce.{unitOf}
 use Rattle.cells.specs.Reduce as cells
-use Rattle.rules.specs.Reduces.{Stands, Is, farthest, roomLeft, Sides, Counted, JoinIs, BreachIs}
+use Rattle.rules.specs.Reduces.{Stands, Is, roomLeft, Counted, JoinIs, BreachIs}
 use Rattle.rules.specs.declared.Reduced.{Reduced}
 use Rattle.rules.specs.declared.Reduced.the-variants.{Done, Breach, Running}
 use Rattle.rules.proofs.Cells.{unit-length}

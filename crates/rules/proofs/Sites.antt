@@ -1,7 +1,7 @@
 -- Laws for the recursion: what each activation within another is promised, that its weight falls, and what its answer says of the whole.
 use mathlib.Core.Path.{_≡_, refl, sym, ap, _∙_, subst}
-use mathlib.Core.List.{List, [], _∷_, _++_}
-use Prim.Native.Nat.{ℕ, _+_, _-_, _*_, _^_, _≤_, _<_, min}
+use mathlib.Core.List.{List, [], _++_}
+use Prim.Native.Nat.{ℕ, _+_, _-_, _*_, _^_, _≤_, _<_}
 use native.Mathlib.Omega.{arith}
 use lib.IntN.{ℤ, pos}
 use lib.Signed.{mag}
@@ -10,11 +10,10 @@ use lib.Seq.{drop-at, take-at}
 use Rattle.arith.proofs.Ints.{seen, read! }
 use Rattle.arith.proofs.Lists.{length-part}
 use Rattle.csl.specs.Bytes.{byte, part}
-use Rattle.csl.specs.Decode.{headsOf, clause}
-use Rattle.records.specs.Index.{Indexed, headAt}
+use Rattle.csl.specs.Decode.{clause}
 use Rattle.cells.specs.Reduce as cells
-use Rattle.rules.specs.Reduces.{Stands, Is, Sides, roomLeft, farthest}
-use Rattle.rules.specs.Leads.{Ready, Fits, Sided, reduceAt, innerSite, bodySite, bodyFrom, bodyTo, rank, weight}
+use Rattle.rules.specs.Reduces.{Stands, Is, Sides, roomLeft}
+use Rattle.rules.specs.Leads.{Ready, Fits, innerSite, weight}
 use Rattle.rules.specs.declared.Reduced.{Reduced}
 use Rattle.rules.specs.declared.Reduced.the-variants.{Done, Breach, Running}
 use Rattle.rules.specs.declared.Event.{Event}

@@ -1,35 +1,33 @@
 -- Laws of waits: their windows, what a reading makes of them, and the values in sight.
 use mathlib.Core.Path.{_≡_, refl, sym, ap, _∙_}
-use mathlib.Core.Bool.{Bool, true, false, cond, not, _&&_}
+use mathlib.Core.Bool.{Bool, true, false}
 use mathlib.Core.List.{List, [], _∷_, _++_, append-assoc}
 use Prim.Native.Nat.{ℕ, suc, _+_, _-_, _^_, _≤_, _<_, min}
-use native.Mathlib.Numerals.{add-one}
 use native.Mathlib.Omega.{arith}
 use native.Mathlib.Decide.{decLe}
 use lib.IntN.{ℤ, pos, natAbs, _+ℤ_, _-ℤ_}
-use lib.Dec.{T, eqb}
+use lib.Dec.{T}
 use lib.Signed.{mag, ltZ, nonNeg}
-use lib.ListN.{length, getD, take, drop, set, length-append, length-drop, length-take}
-use lib.Seq.{take-at, drop-at, drop-drop, take-all, set-at, take-append-le, drop-cons, append-snoc, take-take, length-take-le, set-split}
+use lib.ListN.{length, getD, take, drop, set, length-append, length-drop}
+use lib.Seq.{take-at, drop-at, drop-drop, take-all, set-at, take-append-le, drop-cons, append-snoc}
 use borrow.Author.Tests.{eq-eqb, ne-eqb}
 use borrow.Rule.Slice.PartMut.{putMid}
 use mir.Syntax.{w64}
 use mir.Val.{Fits, SFits, toZ}
 use Rattle.arith.specs.Within.{Within, far}
-use Rattle.arith.proofs.Ints.{seen, read, read!, abs-add}
+use Rattle.arith.proofs.Ints.{seen, read, read! }
 use Rattle.arith.proofs.Numbers.{sizes, within-goal, held-fits, later-size}
 use Rattle.arith.proofs.Lists.{tail-put}
 use Rattle.csl.specs.Numbers.{Held, laterOf}
-use Rattle.csl.specs.Bytes.{byte, le16, part, recordEnd}
+use Rattle.csl.specs.Bytes.{le16, part, recordEnd}
 use Rattle.csl.specs.Syntax.{Wait}
 use Rattle.csl.specs.Decode.{expr, waitAt}
 use Rattle.cells.specs.Evaluate.{evalCells, isTrue}
-use Rattle.cells.specs.Reduce.{Mode, activating, forecasting, following, firstOf, lastOf, takes, thenValues, fate, waits, late, taken}
-use Rattle.rules.specs.Reduces.{farthest, modeOf}
+use Rattle.cells.specs.Reduce.{following, firstOf, lastOf, takes, thenValues, fate, waits}
+use Rattle.rules.specs.Reduces.{farthest}
 use Rattle.rules.specs.Parts.{modeAt, WindowIs, FateIs, conditionOf}
 use Rattle.rules.specs.declared.Window.{Window}
 use Rattle.rules.specs.declared.Event.{Event}
-use Rattle.rules.specs.declared.Step.{Step}
 use Rattle.rules.specs.declared.Step.the-variants.{Activate, Forecast, Follow}
 use Rattle.rules.specs.declared.Fate.{Fate}
 use Rattle.rules.specs.declared.Fate.the-variants.{Waits, Late, Taken}

@@ -1,39 +1,38 @@
 -- Laws of the rules as the code knows things: what each clause leads to.
 use mathlib.Core.Path.{_≡_, refl, sym, ap, _∙_, subst}
 use mathlib.Core.Bool.{Bool, true, false, cond, not}
-use mathlib.Core.List.{List, [], _∷_, _++_}
+use mathlib.Core.List.{List, _++_}
 use mathlib.Core.Option.{Option, none, some}
-use Prim.Native.Nat.{ℕ, zero, suc, _+_, _-_, _^_, _≤_, _<_}
+use Prim.Native.Nat.{ℕ, zero, suc, _+_, _-_, _≤_, _<_}
 use native.Mathlib.Nat.{not-suc-le-zero}
 use native.Mathlib.Omega.{arith}
 use native.Mathlib.Decide.{decLe}
 use lib.IntN.{ℤ, pos, _-ℤ_}
 use lib.Dec.{eqb}
-use lib.Signed.{mag}
 use lib.ListN.{length, take, drop}
 use lib.Seq.{drop-at, take-append-le, take-take, length-take-le}
 use borrow.Rule.Slice.PartMut.{putMid}
 use borrow.Author.Tests.{eqb-true, eqb-false, ne-eqb, eq-eqb}
 use Rattle.arith.specs.Within.{Within}
-use Rattle.arith.proofs.Ints.{seen, read, read! }
+use Rattle.arith.proofs.Ints.{seen, read}
 use Rattle.arith.proofs.Numbers.{held-fits}
 use Rattle.arith.proofs.Lists.{length-part, part-part, tail-put}
 use Rattle.arith.proofs.Bytes.{record-end-within, record-end-after}
 use Rattle.records.specs.Index.{Indexed, templatePlace, pieceAt, headAt}
-use Rattle.records.proofs.Index.{piece, heads-at, templates-at, templates-length, template-within, body-within}
+use Rattle.records.proofs.Index.{piece, heads-at, templates-at, templates-length, template-within}
 use Rattle.csl.specs.Lists.{at}
 use Rattle.csl.specs.Numbers.{Held, laterOf}
 use Rattle.csl.specs.Bytes.{byte, part, isRecord, kindNumber, recordEnd}
 use Rattle.csl.specs.Syntax.{Expr, Clause, badClause, Wait, Template, Head}
-use Rattle.csl.specs.Decode.{ClauseKind, clauseKind, expr, waitAt, waitEnd, clause, clauseBody, instanceOf, headsOf, agreementOf, arguments, argumentsEnd, ifKind, obligationKind, choiceKind, instanceKind, bodyPlace, bodyOf, templateOf}
+use Rattle.csl.specs.Decode.{ClauseKind, clauseKind, expr, waitAt, waitEnd, clause, clauseBody, instanceOf, headsOf, arguments, argumentsEnd, ifKind, obligationKind, choiceKind, instanceKind, bodyPlace, bodyOf, templateOf}
 use Rattle.cells.specs.Evaluate.{evalCells, evalsCells, isTrue}
 use Rattle.cells.specs.Reduce as cells
-use Rattle.cells.specs.Reduce.{Mode, activating, forecasting, following, fate, waits, late, taken, lastOf, thenValues, blamedCells, blameBits}
+use Rattle.cells.specs.Reduce.{Mode, activating, fate, waits, late, taken, lastOf, thenValues, blamedCells, blameBits}
 use Rattle.records.proofs.Trees.{clause-zero, clause-none, clause-at, kind-no-clause-low, kind-no-clause-high, kind-fulfilled, kind-join}
 use Rattle.rules.proofs.Evaluates.{is-one, is-none}
-use Rattle.rules.specs.Reduces.{farthest, modeOf}
+use Rattle.rules.specs.Reduces.{modeOf}
 use Rattle.rules.specs.Parts.{modeAt, FateIs}
-use Rattle.rules.specs.Leads.{Leads, GoesOn, IsTaken, HasSides, IsInstance, reduceBelow, bodyIn, templatesOf, bodyFrom, bodyTo}
+use Rattle.rules.specs.Leads.{Leads, reduceBelow, bodyIn, templatesOf, bodyFrom, bodyTo}
 use Rattle.rules.specs.declared.Event.{Event}
 use Rattle.rules.specs.declared.Step.{Step}
 use Rattle.rules.specs.declared.Step.the-variants.{Activate, Forecast, Follow}
@@ -291,3 +290,8 @@ module _ (e : Event) (rs : List ℤ) (ag : List ℕ) (below : ℕ) (s : List ℕ
 pub body-from : (ag : List ℕ) (k : ℕ) {t n : ℕ} → t ≡ templatePlace ag k → n ≡ byte (pieceAt ag (templatePlace ag k)) 4 → t + (8 + n) ≡ bodyFrom ag k
 unfolding bodyPlace
 body-from ag k et en = rw (et, en)
+
+-- with every template in reach they are the rules themselves
+pub reduce-is : (m : Mode) (ag : List ℕ) (c : Clause) (ps vs : List ℤ) (a : ℕ) → reduceBelow m ag (byte ag 10) c ps vs a ≡ cells.reduce m (templatesOf ag) c ps vs a
+unfolding reduceBelow cells.reduce
+reduce-is m ag c ps vs a = ap (λ n. cells.walk m (cells.activate (templatesOf ag)) (cells.unfoldBelow m (cells.activate (templatesOf ag)) (templatesOf ag) n) c ps vs a) (sym (templates-length ag))

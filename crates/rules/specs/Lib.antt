@@ -1,3 +1,5 @@
 pub mod Reduces
 pub mod Parts
 pub mod Leads
+pub mod Units
+pub mod Pile

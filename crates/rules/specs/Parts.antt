@@ -1,7 +1,7 @@
 -- The parts of an evaluation, as the functions say them that each do one part.
 use mathlib.Core.Path.{_≡_}
 use mathlib.Core.Bool.{Bool, cond}
-use mathlib.Core.List.{List, _++_}
+use mathlib.Core.List.{List}
 use Prim.Native.Nat.{ℕ, _+_}
 use lib.IntN.{ℤ, pos}
 use Rattle.csl.specs.Syntax.{Expr, badExpr, Wait}

@@ -1,4 +1,7 @@
 // Evaluation and the rules, over the bytes of an agreement and cells.
+pub mod across;
+pub mod settle;
+
 ghost use mathlib.Core.Path.{_≡_};
 ghost use mathlib.Core.List.{List, _++_, _∷_, []};
 ghost use Prim.Native.Nat.{ℕ, _+_, _-_, _*_, _≤_, _<_, min};

@@ -2,15 +2,14 @@ use Rattle.rules.proofs.Sites.{ready-within, lighter-within, fits-withi
 use Rattle.rules.proofs.Walks.{then-is}
 use Rattle.rules.proofs.Reduces.{is-counted}
 use native.Mathlib.Omega.{arith}
-use mathlib.Core.Path.{_≡_, refl, sym, ap, _∙_}
+use mathlib.Core.Path.{sym, _∙_}
 use lib.ListN.{length, take, drop, length-take}
 use lib.Seq.{length-take-le}
 use Rattle.csl.specs.Bytes.{part}
 use Rattle.csl.specs.Decode.{clause, headsOf}
-use Rattle.rules.specs.Leads.{Leads, reduceAt, innerSite}
+use Rattle.rules.specs.Leads.{Leads, reduceAt, innerSite, weight}
 use borrow.Author.Needs.{needs}
-use Prim.Native.Nat.{ℕ, _<_, _≤_, _+_, _-_, _*_}
-use Rattle.rules.specs.Leads.{weight}
+use Prim.Native.Nat.{ℕ, _<_, _+_, _-_, _*_}
 use borrow.Fn.Kinds.{In}
 use borrow.Fn.PlainCycle.{Measures, is, falls, and}
 use Rattle.rules.proofs.activate.Reads as activate

@@ -25,8 +25,6 @@ eval-at t = and 2 eval-kinds.ps (is 2 eval-kinds.ps μ-eval t) eval.Pre
 abbrev eval-below : ℕ → In 2 eval-kinds.ps
 eval-below t = and 2 eval-kinds.ps (falls 2 eval-kinds.ps _<_ μ-eval t) eval.Pre
 
-ruleset laws = (eval-leaf, eval-not, eval-binary, eval-low, eval-high, needs)
-
 -- what a member may assume of its callees
 abbrev claims : ℕ → eval-lts.Claims
 claims t = (is-record-reads.Asked, is-record-reads.Learnt, kind-reads.Asked, kind-reads.Learnt, eval-below t, eval.Post, negated-reads.Asked, negated-reads.Learnt, leaf-reads.Asked, leaf-reads.Learnt, record-end-reads.Asked, record-end-reads.Learnt, operate-reads.Asked, operate-reads.Learnt)

@@ -1,8 +1,5 @@
 use borrow.Author.Needs.{needs}
-use mathlib.Core.Path.{_≡_}
-use Prim.Native.Nat.{ℕ}
 use Rattle.arith.proofs.Conds.{keys}
-use Rattle.csl.specs.Numbers.{plus, minus, times, quot}
 use Rattle.csl.specs.Decode.{arithmeticOf}
 use Rattle.rules.proofs.Evaluates.{as-arithmetic}
 use Rattle.rules.proofs.arithmetic.Statement.{statement}

@@ -1,8 +1,7 @@
 use Rattle.rules.proofs.Instances.{bits-below, bits-of, not-below}
 use mathlib.Core.Path.{_∙_}
-use borrow.Author.Needs.{sfits-of}
+use borrow.Author.Needs.{sfits-of, needs}
 use Rattle.arith.proofs.Ints.{read!, index-asked, index-given}
-use borrow.Author.Needs.{needs}
 use Rattle.rules.proofs.blame_bits.Statement.{statement}
 use Rattle.rules.proofs.blame_bits.Tie as tie
 

@@ -1,6 +1,6 @@
 use Rattle.rules.proofs.Walks.{is-waits, is-late, is-taken, choice-waits, choice-late, choice-taken}
 use native.Mathlib.Omega.{arith}
-use mathlib.Core.Path.{refl, sym, ap, _∙_}
+use mathlib.Core.Path.{refl, ap, _∙_}
 use Prim.Native.Nat.{_-_}
 use lib.IntN.{pos, _-ℤ_}
 use Rattle.arith.proofs.Ints.{read! }

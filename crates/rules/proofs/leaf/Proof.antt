@@ -1,11 +1,10 @@
 use borrow.Author.Needs.{needs}
-use mathlib.Core.Path.{_≡_, _∙_, ap, sym}
-use native.Mathlib.Omega.{arith}
+use mathlib.Core.Path.{_∙_, ap}
 use lib.ListN.{getD}
 use lib.IntN.{pos}
 use Rattle.csl.specs.Numbers.{held}
 use Rattle.arith.proofs.Ints.{read! }
-use Rattle.rules.proofs.Evaluates.{told, told-as, nought-held, leaf-number, leaf-number-bad, leaf-literal, leaf-variable, leaf-bad, byte-held, past-held}
+use Rattle.rules.proofs.Evaluates.{told-as, nought-held, leaf-number, leaf-number-bad, leaf-literal, leaf-variable, leaf-bad, byte-held, past-held}
 use Rattle.rules.proofs.leaf.Statement.{statement}
 use Rattle.rules.proofs.leaf.Tie as tie
 

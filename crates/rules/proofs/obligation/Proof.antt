@@ -1,16 +1,15 @@
 use Rattle.rules.proofs.Walks.{is-waits, is-late, is-taken, obligation-waits, obligation-late, obligation-taken}
 use Rattle.rules.proofs.Waits.{later-seen}
 use native.Mathlib.Omega.{arith}
-use mathlib.Core.Path.{refl, sym, ap, _∙_}
+use mathlib.Core.Path.{refl, ap, _∙_}
 use Prim.Native.Nat.{_-_}
 use lib.IntN.{pos, _-ℤ_}
-use borrow.Author.Needs.{sfits-of}
+use borrow.Author.Needs.{sfits-of, needs}
 use Rattle.arith.proofs.Ints.{read! }
 use Rattle.arith.proofs.Numbers.{sizes}
 use Rattle.csl.specs.Decode.{waitAt, expr}
 use Rattle.cells.specs.Reduce.{blameBits, thenValues}
 use Rattle.rules.specs.Parts.{modeAt}
-use borrow.Author.Needs.{needs}
 use Rattle.rules.proofs.obligation.Statement.{statement}
 use Rattle.rules.proofs.obligation.Tie as tie
 

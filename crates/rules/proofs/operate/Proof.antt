@@ -1,5 +1,5 @@
 use borrow.Author.Needs.{needs}
-use mathlib.Core.Path.{_≡_, _∙_, ap}
+use mathlib.Core.Path.{_∙_, ap}
 use Rattle.arith.proofs.Conds.{keys}
 use Rattle.csl.specs.Syntax.{conj, less, equal, arithmetic}
 use Rattle.csl.specs.Decode.{opOf, arithmeticOf}

@@ -1,5 +1,4 @@
 use borrow.Author.Needs.{needs}
-use native.Mathlib.Omega.{arith}
 use Rattle.rules.proofs.Reduces.{put-short, put-long}
 use Rattle.rules.proofs.put_unit.Statement.{statement}
 use Rattle.rules.proofs.put_unit.Tie as tie

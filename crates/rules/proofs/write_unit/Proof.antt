@@ -3,7 +3,7 @@ use mir.Syntax.{w64}
 use mir.Val.{toZ}
 use native.Mathlib.Omega.{arith}
 use lib.ListN.{length-set}
-use Rattle.rules.proofs.Cells.{unit-written, params-length, unit-three}
+use Rattle.rules.proofs.Cells.{unit-written, unit-three}
 use Rattle.rules.proofs.write_unit.Statement.{statement}
 use Rattle.rules.proofs.write_unit.Tie as tie
 

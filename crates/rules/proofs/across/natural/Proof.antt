@@ -1,0 +1,15 @@
+use mathlib.Core.Path.{ap, _∙_}
+use lib.IntN.{natAbs}
+use Rattle.arith.proofs.Ints.{read, index-asked}
+use Rattle.rules.proofs.Natural.{not-below}
+use Rattle.rules.proofs.across.natural.Statement.{statement}
+use Rattle.rules.proofs.across.natural.Tie as tie
+
+cast-result : tie.Need-cast-result
+cast-result c = index-asked (c .fits .z) (not-below (c .pre))
+
+returns : tie.Need-returns
+returns c = ap natAbs (read (c .fits .z) ∙ c .pre)
+
+pub natural-spec : {M : Type 1} → statement M
+natural-spec = tie.close (tie.spec cast-result returns)

@@ -1,0 +1,12 @@
+use borrow.Author.Needs.{needs}
+use lib.IntN.{pos}
+use lib.ListN.{getD}
+use Rattle.rules.proofs.Stack.{sort-below}
+use Rattle.rules.proofs.across.waits.Statement.{statement}
+use Rattle.rules.proofs.across.waits.Tie as tie
+
+returns : tie.Need-returns
+returns c = sort-below (getD (c .before .before .args .table .now) 0 (pos 0)) (c .before .sort .given) (c .less .ensures)
+
+pub waits-spec : {M : Type 1} → statement M
+waits-spec = tie.close (tie.spec (λ c. search needs) (λ c κs. search needs) returns)
