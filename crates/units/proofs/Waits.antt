@@ -19,7 +19,7 @@ use Rattle.csl.specs.Parties.{bitsOf, subset}
 use Rattle.csl.specs.Decode.{tysOf, headsOf, agreementOf}
 use Rattle.csl.specs.Typing.{typeClause, namesOf}
 use Rattle.csl.specs.Values.{Val, asNat, asTruth, valueOf, valuesOf}
-use Rattle.csl.specs.Outcomes.{Sight, Sort, anObligation, aChoice, Residue, unit}
+use Rattle.csl.specs.Outcomes.{Sight, Sort, anObligation, aChoice, Residue, unit, units}
 use Rattle.csl.specs.Places.{Found, clauseAt}
 use Rattle.csl.specs.Table.{isZero, isSort, sortNumber, asNats, waitingUnit, standFor, residueParties}
 use Rattle.soundness.proofs.Inversion.{from-bind, from-need, some-bind, passes, some-inj, T-both, both-true}
@@ -227,7 +227,7 @@ module _ {A : List ℕ} (acc : Accepted A) (now : ℕ) (s : Sort) (zs : List ℤ
       }
 
   pub unit-shows : (h : UnitFacts A now s zs) → UnitShows A now (waitingUnit Ag s zs) (bitsOf (standFor (h .params) (recorded A (h .place)))) (h .found .params) (length (h .found .sight))
-  unfolding waitingUnit residueParties agreementOf at sightNumbers
+  unfolding waitingUnit residueParties agreementOf at sightNumbers units
   unit-shows h =
       let f = h .found in
       let n = f .params in
@@ -262,6 +262,7 @@ module _ {A : List ℕ} (acc : Accepted A) (now : ℕ) (s : Sort) (zs : List ℤ
         is = reads;
         parties = record { parties = standFor (h .params) (recorded A (h .place)); are = parties; small = λ q m. stand-small acc (h .place) f (h .isAt) (h .params) (nats .1) q m; same = refl };
         sights = ap₂ (λ (x y : ℕ). x ∷ y ∷ []) (nats .2 ∙ omega (arith, length-part zs 2 (2 + n) (omega arith))) (v .count);
+        one = refl;
       }
 
 -- ---- sorts by number

@@ -12,7 +12,7 @@ use Rattle.csl.specs.Parties.{member, bitsOf, subset}
 use Rattle.csl.specs.Syntax.{Ty, Agreement}
 use Rattle.csl.specs.Bytes.{byte, part, recordEnd}
 use Rattle.csl.specs.Decode.{tysOf, headsOf, agreementOf}
-use Rattle.csl.specs.Outcomes.{Sort, anObligation, aChoice, Residue, unit, both}
+use Rattle.csl.specs.Outcomes.{Sort, anObligation, aChoice, Residue, unit, both, units}
 use Rattle.csl.specs.Places.{Found, clauseAt}
 use Rattle.csl.specs.Table.{isZero, waitingUnit, standFor, residueParties}
 use Rattle.places.specs.Locate.{mainsOf, clauseIn}
@@ -82,6 +82,7 @@ pub record UnitShows (a : List ℕ) (now : ℕ) (o : Option Residue) (bits n c :
   pub is : o ≡ some residue
   pub parties : PartiesOf a now residue bits
   pub sights : sightNumbers residue ≡ n ∷ c ∷ []
+  pub one : units residue ≡ 1
 
 unfoldable pub WaitingIs : List ℕ → ℕ → Sort → List ℤ → Waiting → Type 0
 WaitingIs a now s zs Damaged = (waitingUnit (agreementOf a) s zs >>= residueParties (agreementOf a) (mainsOf a) now) ≡ none

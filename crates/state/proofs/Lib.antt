@@ -1,0 +1,3 @@
+pub mod Stacks
+pub mod Heads
+pub mod Shows

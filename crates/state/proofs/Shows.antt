@@ -1,0 +1,416 @@
+-- The state that a table shows, by what the code read.
+use mathlib.Core.Path.{_≡_, refl, sym, ap, ap₂, subst, _∙_}
+use mathlib.Core.Bool.{Bool, true, false, cond, not, _&&_, true≢false}
+use mathlib.Core.List.{List, [], _∷_, _++_, append-nil}
+use mathlib.Core.Option.{Option, none, some}
+use Prim.Native.Nat.{ℕ, zero, suc, _+_, _-_, _*_, _^_, _≤_, _<_}
+use native.Mathlib.Omega.{arith}
+use lib.Bits.{bitOr}
+use lib.Dec.{T, leb, ltb, eqb, leb→le, le→leb, ltb→lt, lt→ltb, eqb→eq}
+use lib.IntN.{ℤ, pos, negsuc}
+use lib.ListN.{length, getD, take, drop, length-drop}
+use lib.Seq.{take-all}
+use borrow.Author.Tests.{eq-eqb, ne-eqb}
+use Rattle.csl.specs.Lists.{_>>=_, need, all, at, split}
+use Rattle.csl.specs.Bytes.{le32}
+use Rattle.csl.specs.Parties.{bitsOf, members, membersFrom, subset}
+use Rattle.csl.specs.Decode.{agreementOf}
+use Rattle.csl.specs.Outcomes.{Residue, units, Outcome, done, breach, running}
+use Rattle.csl.specs.Run.{Run}
+use Rattle.csl.specs.Table.{isZero, HeadNumbers, readState, runOf, trees, single, residueParties}
+use Rattle.parties.proofs.Masks.{within-subset, bits-members}
+use Rattle.parties.proofs.Members.{members-in}
+use Rattle.soundness.proofs.Inversion.{from-bind, from-need, some-bind, passes, some-inj, T-both, both-true}
+use Rattle.places.specs.Locate.{mainsOf}
+use Rattle.units.specs.Cells.{numberBelow}
+use Rattle.units.specs.Units.{sightNumbers, PartiesOf}
+use Rattle.units.proofs.Cells.{below-is, below-not, yes-true, no-false}
+use Rattle.units.proofs.Waits.{none-is, option-none}
+use Rattle.state.specs.declared.State.{State}
+use Rattle.state.specs.declared.State.the-variants.{Damaged, Running, Fulfilled, Breached}
+use Rattle.state.specs.declared.Walk.{Walk}
+use Rattle.state.specs.declared.Walk.the-variants.{Damaged as Torn, Stacked}
+use Rattle.state.specs.Stack.{partiesAll, StackIs, unitsIn, sightsIn, Behind, StackedAs, WalkIs}
+use Rattle.state.specs.Shown.{RunShows, RunningAs, BreachedAs, Shows, runIn, HeadAt}
+use Rattle.state.proofs.Heads.{RunFacts, run-facts, run-is, eight}
+
+pos-inj : {m n : ℕ} → pos m ≡ pos n → m ≡ n
+pos-inj e = cc
+
+T→true : (b : Bool) → T b → b ≡ true
+T→true true t = refl
+T→true false t = absurd t
+
+true→T : {b : Bool} → b ≡ true → T b
+true→T e = subst T (sym e) tt
+
+opposed : {C : Type 0} {b : Bool} → b ≡ true → b ≡ false → C
+opposed p q = absurd (true≢false (sym p ∙ q))
+
+-- ---- cells that are zero
+zero-is : (z : ℤ) → T (isZero z) → z ≡ pos 0
+unfolding isZero
+zero-is (pos n) t = ap pos (eqb→eq n 0 t)
+zero-is (negsuc n) t = absurd t
+
+is-zero : (z : ℤ) → z ≡ pos 0 → T (isZero z)
+unfolding isZero
+is-zero z e = rw e tt
+
+module _ (cells : List ℤ) (l : length cells ≡ 3080) where
+  -- cells 2 and 3, 2 to 4, and 4
+  two-zeros : T (all isZero (take 2 (drop 2 cells))) → (getD cells 2 (pos 0) ≡ pos 0) × (getD cells 3 (pos 0) ≡ pos 0)
+  unfolding all
+  two-zeros = eight (λ zs. T (all isZero (take 2 (drop 2 zs))) → (getD zs 2 (pos 0) ≡ pos 0) × (getD zs 3 (pos 0) ≡ pos 0)) (λ a b c d e f g h zs t. both-true (isZero c) _ t λ p u. both-true (isZero d) _ u λ q _. (zero-is c p, zero-is d q)) cells (omega arith)
+
+  zeros-two : getD cells 2 (pos 0) ≡ pos 0 → getD cells 3 (pos 0) ≡ pos 0 → T (all isZero (take 2 (drop 2 cells)))
+  unfolding all
+  zeros-two = eight (λ zs. getD zs 2 (pos 0) ≡ pos 0 → getD zs 3 (pos 0) ≡ pos 0 → T (all isZero (take 2 (drop 2 zs)))) (λ a b c d e f g h zs p q. T-both (isZero c) _ (is-zero c p) (T-both (isZero d) _ (is-zero d q) tt)) cells (omega arith)
+
+  one-zero : T (all isZero (take 1 (drop 4 cells))) → getD cells 4 (pos 0) ≡ pos 0
+  unfolding all
+  one-zero = eight (λ zs. T (all isZero (take 1 (drop 4 zs))) → getD zs 4 (pos 0) ≡ pos 0) (λ a b c d e f g h zs t. both-true (isZero e) _ t λ p u. zero-is e p) cells (omega arith)
+
+  zeros-one : getD cells 4 (pos 0) ≡ pos 0 → T (all isZero (take 1 (drop 4 cells)))
+  unfolding all
+  zeros-one = eight (λ zs. getD zs 4 (pos 0) ≡ pos 0 → T (all isZero (take 1 (drop 4 zs)))) (λ a b c d e f g h zs p. T-both (isZero e) _ (is-zero e p) tt) cells (omega arith)
+
+  unit-cells : take 3072 (drop 8 cells) ≡ drop 8 cells
+  unit-cells = take-all 3072 (drop 8 cells) (omega (arith, length-drop 8 cells))
+
+  -- ---- no run is read
+  module _ (A : List ℕ) where
+    pub shown-none : (sights : List ℕ) → ((q : Run) → RunFacts A cells q → ⊥) → Shows (runIn A cells) cells sights Damaged
+    unfolding Shows
+    shown-none sights f = option-none (runIn A cells) (λ q e. f q (run-facts A cells (omega arith) q e))
+
+    module _ {state time : ℕ} (h : HeadAt A cells state time) where
+      same-state : {q : Run} (f : RunFacts A cells q) → f .head .state ≡ state
+      same-state f = pos-inj (sym (f .isState) ∙ h .isState)
+
+      same-now : {q : Run} (f : RunFacts A cells q) → f .head .now ≡ time
+      same-now f = pos-inj (sym (f .isNow) ∙ h .isNow)
+
+      -- the outcome that is read, the rest of the head being so
+      reads-at : {q : Run} (f : RunFacts A cells q) → readState (agreementOf A) (mainsOf A) (f .head) (drop 8 cells) state ≡ some (f .outcome)
+      reads-at f = subst (λ (s : ℕ). readState (agreementOf A) (mainsOf A) (f .head) (drop 8 cells) s ≡ some (f .outcome)) (same-state f) (f .reads)
+
+      shows : {t p u : ℕ} (o : Outcome) → getD cells 2 (pos 0) ≡ pos t → getD cells 3 (pos 0) ≡ pos p → getD cells 4 (pos 0) ≡ pos u → readState (agreementOf A) (mainsOf A) (record { state = state; now = time; time = t; parties = p; used = u }) (drop 8 cells) state ≡ some o → RunShows (runIn A cells) cells o
+      shows {t} {p} {u} o a b c e = record {
+        now = time;
+        is = run-is A cells (omega arith) (record { lastTime = time; outcome = o }) (record {
+          head = record { state = state; now = time; time = t; parties = p; used = u };
+          isState = h .isState;
+          isNow = h .isNow;
+          isTime = a;
+          isParties = b;
+          isUsed = c;
+          zeros = h .zeros;
+          from = h .from;
+          to = h .to;
+          outcome = o;
+          reads = e;
+          is = refl;
+        });
+        cell = h .isNow;
+      }
+
+-- ---- fulfilled
+module _ (cells : List ℤ) (l : length cells ≡ 3080) (A : List ℕ) {time : ℕ} (h : HeadAt A cells 2 time) (sights : List ℕ) where
+  record Done : Type 0 where
+    pub timeless : getD cells 2 (pos 0) ≡ pos 0
+    pub blameless : getD cells 3 (pos 0) ≡ pos 0
+    pub unused : getD cells 4 (pos 0) ≡ pos 0
+    pub rest : T (all isZero (drop 8 cells))
+
+  done-facts : {q : Run} → RunFacts A cells q → Done
+  unfolding readState
+  done-facts f =
+      let d = f .head in
+      from-need (eqb (d .time) 0 && eqb (d .parties) 0 && eqb (d .used) 0 && all isZero (drop 8 cells)) _ (f .outcome) (reads-at cells l A h f) λ t _.
+      both-true (eqb (d .time) 0 && eqb (d .parties) 0 && eqb (d .used) 0) _ t λ t₁ z.
+      both-true (eqb (d .time) 0 && eqb (d .parties) 0) _ t₁ λ t₂ c.
+      both-true (eqb (d .time) 0) _ t₂ λ a b.
+      record { timeless = f .isTime ∙ ap pos (eqb→eq (d .time) 0 a); blameless = f .isParties ∙ ap pos (eqb→eq (d .parties) 0 b); unused = f .isUsed ∙ ap pos (eqb→eq (d .used) 0 c); rest = z }
+
+  pub fulfilled-head : {b : Bool} → b ≡ all isZero (take 2 (drop 2 cells)) → not b ≡ true → Shows (runIn A cells) cells sights Damaged
+  fulfilled-head {b} e g = shown-none cells l A sights λ q f. let d = done-facts f in opposed (T→true (all isZero (take 2 (drop 2 cells))) (zeros-two cells l (d .timeless) (d .blameless))) (sym e ∙ no-false b g)
+
+  pub fulfilled-used : {b : Bool} → b ≡ all isZero (take 1 (drop 4 cells)) → not b ≡ true → Shows (runIn A cells) cells sights Damaged
+  fulfilled-used {b} e g = shown-none cells l A sights λ q f. opposed (T→true (all isZero (take 1 (drop 4 cells))) (zeros-one cells l (done-facts f .unused))) (sym e ∙ no-false b g)
+
+  pub fulfilled-rest : {b : Bool} → b ≡ all isZero (take 3072 (drop 8 cells)) → b ≡ false → Shows (runIn A cells) cells sights Damaged
+  fulfilled-rest {b} e g = shown-none cells l A sights λ q f. opposed (T→true (all isZero (drop 8 cells)) (done-facts f .rest)) (ap (all isZero) (sym (unit-cells cells l)) ∙ sym e ∙ g)
+
+  pub fulfilled-is : {a b c : Bool} → a ≡ all isZero (take 2 (drop 2 cells)) → not a ≡ false → b ≡ all isZero (take 1 (drop 4 cells)) → not b ≡ false → c ≡ all isZero (take 3072 (drop 8 cells)) → c ≡ true → Shows (runIn A cells) cells sights Fulfilled
+  unfolding Shows readState
+  fulfilled-is {a} {b} e g i j k m =
+      let two = two-zeros cells l (true→T (sym e ∙ yes-true a g)) in
+      let one = one-zero cells l (true→T (sym i ∙ yes-true b j)) in
+      let rest : T (all isZero (drop 8 cells)) = true→T (ap (all isZero) (sym (unit-cells cells l)) ∙ sym k ∙ m) in
+      shows cells l A h done (two .0) (two .1) one (passes (all isZero (drop 8 cells)) _ rest)
+
+-- ---- breached
+module _ (cells : List ℤ) (l : length cells ≡ 3080) (A : List ℕ) {time : ℕ} (h : HeadAt A cells 3 time) (sights : List ℕ) where
+  record Broken : Type 0 where
+    pub when : ℕ
+    pub bits : ℕ
+    pub isWhen : getD cells 2 (pos 0) ≡ pos when
+    pub isBits : getD cells 3 (pos 0) ≡ pos bits
+    pub unused : getD cells 4 (pos 0) ≡ pos 0
+    pub from : le32 A 4 ≤ when
+    pub to : when ≤ time
+    pub small : bits < 65_536
+    pub some-party : bits ≡ 0 → ⊥
+    pub within : T (subset (members bits) (mainsOf A))
+    pub rest : T (all isZero (drop 8 cells))
+
+  broken-facts : {q : Run} → RunFacts A cells q → Broken
+  unfolding readState agreementOf
+  broken-facts f =
+      let d = f .head in
+      let o = f .outcome in
+      from-need (leb (le32 A 4) (d .time)) _ o (reads-at cells l A h f) λ t₁ b₁.
+      from-need (leb (d .time) (d .now)) _ o b₁ λ t₂ b₂.
+      from-need (ltb (d .parties) (2 ^ 16)) _ o b₂ λ t₃ b₃.
+      from-need (not (eqb (d .parties) 0)) _ o b₃ λ t₄ b₄.
+      from-need (subset (members (d .parties)) (mainsOf A)) _ o b₄ λ t₅ b₅.
+      from-need (eqb (d .used) 0) _ o b₅ λ t₆ b₆.
+      from-need (all isZero (drop 8 cells)) _ o b₆ λ t₇ _.
+      let now = same-now cells l A h f in
+      record {
+        when = d .time;
+        bits = d .parties;
+        isWhen = f .isTime;
+        isBits = f .isParties;
+        unused = f .isUsed ∙ ap pos (eqb→eq (d .used) 0 t₆);
+        from = leb→le (le32 A 4) (d .time) t₁;
+        to = omega (arith, leb→le (d .time) (d .now) t₂);
+        small = ltb→lt (d .parties) (2 ^ 16) t₃;
+        some-party = λ e. not-nought (d .parties) t₄ e;
+        within = t₅;
+        rest = t₇;
+      }
+    where
+      not-nought : (n : ℕ) → T (not (eqb n 0)) → n ≡ 0 → ⊥
+      not-nought n t e = subst (λ (m : ℕ). T (not (eqb m 0))) e t
+
+  broken-none : (Broken → ⊥) → Shows (runIn A cells) cells sights Damaged
+  broken-none k = shown-none cells l A sights λ q f. k (broken-facts f)
+
+  pub breached-late : {when : ℕ} → when ≡ numberBelow (time + 1) (getD cells 2 (pos 0)) → time < when → Shows (runIn A cells) cells sights Damaged
+  breached-late e g = broken-none λ b. omega (arith, below-not (time + 1) (b .when) (getD cells 2 (pos 0)) (omega arith) (b .isWhen), b .to)
+
+  module _ {when : ℕ} (e : when ≡ numberBelow (time + 1) (getD cells 2 (pos 0))) (g : when ≤ time) where
+    is-when : getD cells 2 (pos 0) ≡ pos when
+    is-when = below-is (time + 1) (getD cells 2 (pos 0)) (omega arith) ∙ ap pos (sym e)
+
+    pub breached-early : {start : ℕ} → start ≡ le32 A 4 → when < start → Shows (runIn A cells) cells sights Damaged
+    breached-early s k = broken-none λ b. let same : b .when ≡ when = pos-inj (sym (b .isWhen) ∙ is-when) in omega (arith, b .from)
+
+  pub breached-wide : {bits : ℕ} → bits ≡ numberBelow 65_536 (getD cells 3 (pos 0)) → bits ≡ 65_536 → Shows (runIn A cells) cells sights Damaged
+  breached-wide e g = broken-none λ b. omega (arith, below-not 65_536 (b .bits) (getD cells 3 (pos 0)) (omega arith) (b .isBits), b .small)
+
+  module _ {bits : ℕ} (e : bits ≡ numberBelow 65_536 (getD cells 3 (pos 0))) (u : bits ≤ 65_536) (g : bits ≡ 65_536 → ⊥) where
+    narrow : bits < 65_536
+    narrow = omega arith
+
+    is-bits : getD cells 3 (pos 0) ≡ pos bits
+    is-bits = below-is 65_536 (getD cells 3 (pos 0)) (omega (arith, narrow)) ∙ ap pos (sym e)
+
+    same-bits : (b : Broken) → b .bits ≡ bits
+    same-bits b = pos-inj (sym (b .isBits) ∙ is-bits)
+
+    pub breached-nobody : bits ≡ 0 → Shows (runIn A cells) cells sights Damaged
+    breached-nobody k = broken-none λ b. b .some-party (same-bits b ∙ k)
+
+    in-mains : {mains : ℕ} {t : Bool} → mains ≡ bitsOf (mainsOf A) → t ≡ eqb (bitOr bits mains) mains → t ≡ subset (members bits) (mainsOf A)
+    unfolding members
+    in-mains m k = k ∙ rw m (ap (λ (n : ℕ). eqb (bitOr n (bitsOf (mainsOf A))) (bitsOf (mainsOf A))) (sym (bits-members bits narrow)) ∙ within-subset (members bits) (mainsOf A) (λ q t. omega (arith, members-in 16 0 bits q t)))
+
+    pub breached-others : {mains : ℕ} {t : Bool} → mains ≡ bitsOf (mainsOf A) → t ≡ eqb (bitOr bits mains) mains → not t ≡ true → Shows (runIn A cells) cells sights Damaged
+    breached-others {t = t} m k n = broken-none λ b. opposed (T→true (subset (members (b .bits)) (mainsOf A)) (b .within)) (ap (λ (y : ℕ). subset (members y) (mainsOf A)) (same-bits b) ∙ sym (in-mains m k) ∙ no-false t n)
+
+  pub breached-used : {b : Bool} → b ≡ all isZero (take 1 (drop 4 cells)) → not b ≡ true → Shows (runIn A cells) cells sights Damaged
+  breached-used {b} e g = broken-none λ f. opposed (T→true (all isZero (take 1 (drop 4 cells))) (zeros-one cells l (f .unused))) (sym e ∙ no-false b g)
+
+  pub breached-rest : {b : Bool} → b ≡ all isZero (take 3072 (drop 8 cells)) → not b ≡ true → Shows (runIn A cells) cells sights Damaged
+  breached-rest {b} e g = broken-none λ f. opposed (T→true (all isZero (drop 8 cells)) (f .rest)) (ap (all isZero) (sym (unit-cells cells l)) ∙ sym e ∙ no-false b g)
+
+  module _ {when start bits mains : ℕ} {s v w : Bool} {t : ℤ} where
+    pub breached-is : when ≡ numberBelow (time + 1) (getD cells 2 (pos 0)) → when ≤ time → start ≡ le32 A 4 → start ≤ when → bits ≡ numberBelow 65_536 (getD cells 3 (pos 0)) → bits ≤ 65_536 → (bits ≡ 65_536 → ⊥) → (bits ≡ 0 → ⊥) → mains ≡ bitsOf (mainsOf A) → s ≡ eqb (bitOr bits mains) mains → not s ≡ false → v ≡ all isZero (take 1 (drop 4 cells)) → not v ≡ false → w ≡ all isZero (take 3072 (drop 8 cells)) → not w ≡ false → t ≡ getD cells 2 (pos 0) → Shows (runIn A cells) cells sights (Breached t bits)
+    unfolding Shows readState agreementOf
+    breached-is e g a b c u d n m k s₁ p v₁ q w₁ z =
+        let rest : T (all isZero (drop 8 cells)) = true→T (ap (all isZero) (sym (unit-cells cells l)) ∙ sym q ∙ yes-true w w₁) in
+        record {
+          time = when;
+          isTime = z ∙ is-when e g;
+          small = narrow c u d;
+          shows = shows cells l A h (breach when (members bits)) (is-when e g) (is-bits c u d) (one-zero cells l (true→T (sym p ∙ yes-true v v₁)))
+              (passes (leb (le32 A 4) when) _ (le→leb (le32 A 4) when (omega arith))
+              ∙ passes (leb when time) _ (le→leb when time g)
+              ∙ passes (ltb bits (2 ^ 16)) _ (lt→ltb bits (2 ^ 16) (narrow c u d))
+              ∙ passes (not (eqb bits 0)) _ (subst (λ (y : Bool). T (not y)) (sym (ne-eqb bits 0 n)) tt)
+              ∙ passes (subset (members bits) (mainsOf A)) _ (true→T (sym (in-mains c u d m k) ∙ yes-true s s₁))
+              ∙ passes (eqb 0 0) _ tt
+              ∙ passes (all isZero (drop 8 cells)) _ rest);
+        }
+
+-- ---- running
+module _ (cells : List ℤ) (l : length cells ≡ 3080) (A : List ℕ) {time : ℕ} (h : HeadAt A cells 1 time) where
+  record Waits : Type 0 where
+    pub timeless : getD cells 2 (pos 0) ≡ pos 0
+    pub blameless : getD cells 3 (pos 0) ≡ pos 0
+    pub used : ℕ
+    pub isUsed : getD cells 4 (pos 0) ≡ pos used
+    pub few : used ≤ 128
+    pub residue : Residue
+    pub are : trees (agreementOf A) used (drop 8 cells) ≡ some (residue ∷ [])
+    pub parties : List ℕ
+    pub have : residueParties (agreementOf A) (mainsOf A) time residue ≡ some parties
+
+  single-is : (rs : List Residue) (r : Residue) → single rs ≡ some r → rs ≡ r ∷ []
+  unfolding single
+  single-is [] r e = none-is e
+  single-is (x ∷ []) r e = ap (λ (y : Residue). y ∷ []) (some-inj e)
+  single-is (x ∷ y ∷ rs) r e = none-is e
+
+  waits-facts : {q : Run} → RunFacts A cells q → Waits
+  unfolding readState
+  waits-facts f =
+      let d = f .head in
+      let o = f .outcome in
+      from-need (eqb (d .time) 0 && eqb (d .parties) 0 && leb (d .used) 128) _ o (reads-at cells l A h f) λ t b₁.
+      from-bind (trees (agreementOf A) (d .used) (drop 8 cells)) _ o b₁ λ rs a₂ b₂.
+      from-bind (single rs) _ o b₂ λ r a₃ b₃.
+      from-bind (residueParties (agreementOf A) (mainsOf A) (d .now) r) _ o b₃ λ ps a₄ _.
+      both-true (eqb (d .time) 0 && eqb (d .parties) 0) _ t λ t₁ c.
+      both-true (eqb (d .time) 0) _ t₁ λ a b.
+      record {
+        timeless = f .isTime ∙ ap pos (eqb→eq (d .time) 0 a);
+        blameless = f .isParties ∙ ap pos (eqb→eq (d .parties) 0 b);
+        used = d .used;
+        isUsed = f .isUsed;
+        few = leb→le (d .used) 128 c;
+        residue = r;
+        are = a₂ ∙ ap some (single-is rs r a₃);
+        parties = ps;
+        have = subst (λ (n : ℕ). residueParties (agreementOf A) (mainsOf A) n r ≡ some ps) (same-now cells l A h f) a₄;
+      }
+
+  waits-none : (sights : List ℕ) → (Waits → ⊥) → Shows (runIn A cells) cells sights Damaged
+  waits-none sights k = shown-none cells l A sights λ q f. k (waits-facts f)
+
+  pub running-head : {b : Bool} (sights : List ℕ) → b ≡ all isZero (take 2 (drop 2 cells)) → not b ≡ true → Shows (runIn A cells) cells sights Damaged
+  running-head {b} sights e g = waits-none sights λ w. opposed (T→true (all isZero (take 2 (drop 2 cells))) (zeros-two cells l (w .timeless) (w .blameless))) (sym e ∙ no-false b g)
+
+  pub running-many : {n : ℕ} (sights : List ℕ) → n ≡ numberBelow 129 (getD cells 4 (pos 0)) → n ≡ 129 → Shows (runIn A cells) cells sights Damaged
+  running-many sights e g = waits-none sights λ w. omega (arith, below-not 129 (w .used) (getD cells 4 (pos 0)) (omega arith) (w .isUsed), w .few)
+
+  module _ {n : ℕ} (e : n ≡ numberBelow 129 (getD cells 4 (pos 0))) (u : n ≤ 129) (g : n ≡ 129 → ⊥) where
+    pub fewer : n ≤ 128
+    fewer = omega arith
+
+    is-used : getD cells 4 (pos 0) ≡ pos n
+    is-used = below-is 129 (getD cells 4 (pos 0)) (omega (arith, fewer)) ∙ ap pos (sym e)
+
+    same-used : (w : Waits) → w .used ≡ n
+    same-used w = pos-inj (sym (w .isUsed) ∙ is-used)
+
+    trees-at : (w : Waits) → trees (agreementOf A) n (take 3072 (drop 8 cells)) ≡ some (w .residue ∷ [])
+    trees-at w = ap₂ (trees (agreementOf A)) (sym (same-used w)) (unit-cells cells l) ∙ w .are
+
+    module _ (stack sights : List ℕ) {r : Walk} (k : WalkIs A time n (trees (agreementOf A) n (take 3072 (drop 8 cells))) stack sights r) where
+      pub running-torn : r ≡ Torn → Shows (runIn A cells) cells sights Damaged
+      unfolding WalkIs _>>=_ partiesAll
+      running-torn t = waits-none sights λ w.
+          let none-there = rw t at k in
+          none-is (sym none-there ∙ ap (λ (o : Option (List Residue)). o >>= partiesAll A time) (trees-at w) ∙ some-bind (residueParties (agreementOf A) (mainsOf A) time (w .residue)) _ (w .parties) (w .have))
+
+      module _ {m : ℕ} (t : r ≡ Stacked m) where
+        stacked : StackedAs A time n (trees (agreementOf A) n (take 3072 (drop 8 cells))) stack sights m
+        unfolding WalkIs
+        stacked = rw t at k
+
+        pub running-more : (m ≡ 1 → ⊥) → Shows (runIn A cells) cells sights Damaged
+        unfolding StackIs
+        running-more f = waits-none sights λ w.
+            let same : stacked .residues ≡ w .residue ∷ [] = some-inj (sym (stacked .are) ∙ trees-at w) in
+            let s = subst (λ (rs : List Residue). StackIs A time rs stack m) same (stacked .behind .stacked) in
+            f (omega (arith, s .0, s .2))
+
+        record Alone : Type 0 where
+          pub residue : Residue
+          pub is : stacked .residues ≡ residue ∷ []
+          pub bits : ℕ
+          pub parties : PartiesOf A time residue bits
+
+        alone : m ≡ 1 → Alone
+        unfolding StackIs
+        alone f = go (stacked .residues) refl (stacked .behind .stacked)
+          where
+            go : (rs : List Residue) → stacked .residues ≡ rs → StackIs A time rs stack m → Alone
+            go [] q s = absurd (omega arith)
+            go (x ∷ []) q s = record { residue = x; is = q; bits = getD stack (m - 1) 0; parties = s .1 }
+            go (x ∷ y ∷ rs) q s = absurd (omega (arith, s .2 .0))
+
+        pub running-is : {b : Bool} → b ≡ all isZero (take 2 (drop 2 cells)) → not b ≡ false → m ≡ 1 → Shows (runIn A cells) cells sights (Running n)
+        unfolding Shows readState unitsIn sightsIn single
+        running-is {b} p q f =
+            let a = alone f in
+            let x = a .residue in
+            let two = two-zeros cells l (true→T (sym p ∙ yes-true b q)) in
+            let are : trees (agreementOf A) n (drop 8 cells) ≡ some (x ∷ []) = ap (trees (agreementOf A) n) (sym (unit-cells cells l)) ∙ stacked .are ∙ ap some (a .is) in
+            record {
+              residue = x;
+              shows = shows cells l A h (running x) (two .0) (two .1) is-used
+                  (passes (leb n 128) _ (le→leb n 128 fewer)
+                  ∙ some-bind (trees (agreementOf A) n (drop 8 cells)) _ (x ∷ []) are
+                  ∙ some-bind (single (x ∷ [])) _ x refl
+                  ∙ some-bind (residueParties (agreementOf A) (mainsOf A) time x) _ (a .parties .parties) (a .parties .are));
+              count = sym (stacked .behind .count) ∙ ap unitsIn (a .is) ∙ omega arith;
+              few = fewer;
+              sighted = stacked .behind .sighted ∙ ap sightsIn (a .is) ∙ append-nil (sightNumbers x);
+            }
+
+-- ---- the head
+state-in : (A : List ℕ) (d : HeadNumbers) (cells : List ℤ) (n : ℕ) (o : Outcome) → readState (agreementOf A) (mainsOf A) d cells n ≡ some o → (1 ≤ n) × (n ≤ 3)
+unfolding readState
+state-in A d cells zero o e = none-is e
+state-in A d cells (suc zero) o e = (omega arith, omega arith)
+state-in A d cells (suc (suc zero)) o e = (omega arith, omega arith)
+state-in A d cells (suc (suc (suc zero))) o e = (omega arith, omega arith)
+state-in A d cells (suc (suc (suc (suc n)))) o e = none-is e
+
+module _ (cells : List ℤ) (l : length cells ≡ 3080) (A : List ℕ) (sights : List ℕ) where
+  pub head-timeless : {time : ℕ} → time ≡ numberBelow 4_294_967_296 (getD cells 1 (pos 0)) → time ≡ 4_294_967_296 → Shows (runIn A cells) cells sights Damaged
+  head-timeless e g = shown-none cells l A sights λ q f. omega (arith, below-not 4_294_967_296 (f .head .now) (getD cells 1 (pos 0)) (omega arith) (f .isNow), f .to)
+
+  pub head-zeros : {b : Bool} → b ≡ all isZero (take 3 (drop 5 cells)) → not b ≡ true → Shows (runIn A cells) cells sights Damaged
+  head-zeros {b} e g = shown-none cells l A sights λ q f. opposed (T→true (all isZero (take 3 (drop 5 cells))) (f .zeros)) (sym e ∙ no-false b g)
+
+  pub head-other : {r : ℕ} → r ≡ numberBelow 4 (getD cells 0 (pos 0)) → (r ≡ 1 → ⊥) → (r ≡ 2 → ⊥) → (r ≡ 3 → ⊥) → Shows (runIn A cells) cells sights Damaged
+  unfolding numberBelow
+  head-other {r} e a b c = shown-none cells l A sights λ q f.
+      let s = state-in A (f .head) (drop 8 cells) (f .head .state) (f .outcome) (f .reads) in
+      let same : r ≡ f .head .state = e ∙ ap (numberBelow 4) (f .isState) ∙ omega arith in
+      omega arith
+
+  module _ {time : ℕ} (e : time ≡ numberBelow 4_294_967_296 (getD cells 1 (pos 0))) (u : time ≤ 4_294_967_296) (g : time ≡ 4_294_967_296 → ⊥) where
+    before-end : time < 4_294_967_296
+    before-end = omega arith
+
+    is-now : getD cells 1 (pos 0) ≡ pos time
+    is-now = below-is 4_294_967_296 (getD cells 1 (pos 0)) (omega (arith, before-end)) ∙ ap pos (sym e)
+
+    pub head-early : {start : ℕ} → start ≡ le32 A 4 → time < start → Shows (runIn A cells) cells sights Damaged
+    head-early s k = shown-none cells l A sights λ q f. let same : f .head .now ≡ time = pos-inj (sym (f .isNow) ∙ is-now) in omega (arith, f .from)
+
+    pub head-at : {start r n : ℕ} {b : Bool} → start ≡ le32 A 4 → start ≤ time → b ≡ all isZero (take 3 (drop 5 cells)) → not b ≡ false → r ≡ numberBelow 4 (getD cells 0 (pos 0)) → r ≡ n → n < 4 → HeadAt A cells n time
+    head-at {r = r} {n = n} {b = b} s k z t w i j = record {
+      isState = below-is 4 (getD cells 0 (pos 0)) (omega arith) ∙ ap pos (sym w ∙ i);
+      isNow = is-now;
+      from = omega arith;
+      to = before-end;
+      zeros = true→T (sym z ∙ yes-true b t);
+    }

@@ -1,0 +1,22 @@
+use Rattle.state.proofs.Shows.{fulfilled-head, fulfilled-used, fulfilled-rest, fulfilled-is}
+use borrow.Author.Needs.{needs}
+use Rattle.state.proofs.fulfilled.Statement.{statement}
+use Rattle.state.proofs.fulfilled.Tie as tie
+
+returns : tie.Need-returns
+returns c = λ a time sights h. fulfilled-head (c .before .before .before .args .table .now) (c .before .before .before .pre) a h sights (c .before .zeros .ensures) (c .if1 .taken)
+
+returns-2 : tie.Need-returns-2
+returns-2 c = λ a time sights h. fulfilled-used (c .before .before .before .before .before .before .args .table .now) (c .before .before .before .before .before .before .pre) a h sights (c .before .zeros2 .ensures) (c .if2 .taken)
+
+returns-3 : tie.Need-returns-3
+returns-3 c = λ a time sights h. fulfilled-is (c .before .before .before .before .before .before .before .before .before .args .table .now) (c .before .before .before .before .before .before .before .before .before .pre) a h sights (c .before .before .before .before .before .before .before .zeros .ensures) (c .before .before .before .before .before .before .if1 .left) (c .before .before .before .before .zeros2 .ensures) (c .before .before .before .if2 .left) (c .before .zeros3 .ensures) (c .if3 .taken)
+
+returns-4 : tie.Need-returns-4
+returns-4 c = λ a time sights h. fulfilled-rest (c .before .before .before .before .before .before .before .before .before .args .table .now) (c .before .before .before .before .before .before .before .before .before .pre) a h sights (c .before .zeros3 .ensures) (c .if3 .left)
+
+pub fulfilled-spec : {M : Type 1} → statement M
+fulfilled-spec = tie.close (tie.spec
+    (λ c. search needs) (λ c. search needs) (λ c. search needs) (λ c κs. search needs) returns
+    (λ c. search needs) (λ c. search needs) (λ c. search needs) (λ c κs. search needs) returns-2
+    (λ c. search needs) (λ c. search needs) (λ c. search needs) (λ c κs. search needs) returns-3 returns-4)

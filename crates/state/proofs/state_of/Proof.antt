@@ -1,0 +1,39 @@
+use Rattle.state.proofs.Shows.{head-timeless, head-zeros, head-other, head-early, head-at}
+use Rattle.units.specs.Cells.{numberBelow}
+use Rattle.arith.proofs.Ints.{read! }
+use native.Mathlib.Omega.{arith}
+use mathlib.Core.Path.{ap, _∙_}
+use borrow.Author.Needs.{needs}
+use Rattle.state.proofs.state_of.Statement.{statement}
+use Rattle.state.proofs.state_of.Tie as tie
+
+returns : tie.Need-returns
+returns c = head-timeless (c .before .before .before .before .before .before .args .table .now) (c .before .before .before .before .before .before .pre .3) (c .before .before .before .before .before .before .args .agreement .now) (c .before .before .before .before .before .before .args .sights .now) (c .before .number-below .ensures .0 ∙ ap (numberBelow 4_294_967_296) (read! (c .before .before .number-below-arg .given))) (c .if1 .taken)
+
+returns-2 : tie.Need-returns-2
+returns-2 c = head-early (c .before .before .before .before .before .before .before .before .args .table .now) (c .before .before .before .before .before .before .before .before .pre .3) (c .before .before .before .before .before .before .before .before .args .agreement .now) (c .before .before .before .before .before .before .before .before .args .sights .now) (c .before .before .before .number-below .ensures .0 ∙ ap (numberBelow 4_294_967_296) (read! (c .before .before .before .before .number-below-arg .given))) (c .before .before .before .number-below .ensures .1) (c .before .before .if1 .left) (c .before .unsigned32 .ensures .0) (c .if2 .taken)
+
+returns-3 : tie.Need-returns-3
+returns-3 c = head-zeros (c .before .before .before .before .before .before .before .before .before .before .before .args .table .now) (c .before .before .before .before .before .before .before .before .before .before .before .pre .3) (c .before .before .before .before .before .before .before .before .before .before .before .args .agreement .now) (c .before .before .before .before .before .before .before .before .before .before .before .args .sights .now) (c .before .zeros .ensures) (c .if3 .taken)
+
+running-requires : tie.Need-running-requires
+running-requires c κs = (c .before .before .before .before .before .before .before .before .before .before .before .before .before .before .before .pre .0, c .before .before .before .before .before .before .before .before .before .before .before .before .before .before .before .pre .1, c .before .before .before .before .before .before .before .before .before .before .before .before .before .before .before .pre .2, c .before .before .before .before .before .before .before .before .before .before .before .before .before .before .before .pre .3, c .before .before .before .before .before .before .before .before .before .before .before .before .before .before .before .pre .4, head-at (c .before .before .before .before .before .before .before .before .before .before .before .before .before .before .before .args .table .now) (c .before .before .before .before .before .before .before .before .before .before .before .before .before .before .before .pre .3) (c .before .before .before .before .before .before .before .before .before .before .before .before .before .before .before .args .agreement .now) (c .before .before .before .before .before .before .before .before .before .before .before .before .before .before .before .args .sights .now) (c .before .before .before .before .before .before .before .before .before .before .number-below .ensures .0 ∙ ap (numberBelow 4_294_967_296) (read! (c .before .before .before .before .before .before .before .before .before .before .before .number-below-arg .given))) (c .before .before .before .before .before .before .before .before .before .before .number-below .ensures .1) (c .before .before .before .before .before .before .before .before .before .if1 .left) (c .before .before .before .before .before .before .before .before .unsigned32 .ensures .0) (c .before .before .before .before .before .before .before .if2 .left) (c .before .before .before .before .before .zeros .ensures) (c .before .before .before .before .if3 .left) (c .before .before .number-below2 .ensures .0 ∙ ap (numberBelow 4) (read! (c .before .before .before .number-below-arg2 .given))) (c .before .match .keys1) (omega arith))
+
+breached-requires : tie.Need-breached-requires
+breached-requires c κs = (c .before .before .before .before .before .before .before .before .before .before .before .before .before .before .pre .3, c .before .before .before .before .before .before .before .before .before .before .before .before .before .before .pre .2, head-at (c .before .before .before .before .before .before .before .before .before .before .before .before .before .before .args .table .now) (c .before .before .before .before .before .before .before .before .before .before .before .before .before .before .pre .3) (c .before .before .before .before .before .before .before .before .before .before .before .before .before .before .args .agreement .now) (c .before .before .before .before .before .before .before .before .before .before .before .before .before .before .args .sights .now) (c .before .before .before .before .before .before .before .before .before .number-below .ensures .0 ∙ ap (numberBelow 4_294_967_296) (read! (c .before .before .before .before .before .before .before .before .before .before .number-below-arg .given))) (c .before .before .before .before .before .before .before .before .before .number-below .ensures .1) (c .before .before .before .before .before .before .before .before .if1 .left) (c .before .before .before .before .before .before .before .unsigned32 .ensures .0) (c .before .before .before .before .before .before .if2 .left) (c .before .before .before .before .zeros .ensures) (c .before .before .before .if3 .left) (c .before .number-below2 .ensures .0 ∙ ap (numberBelow 4) (read! (c .before .before .number-below-arg2 .given))) (c .match .keys3) (omega arith))
+
+returns-5 : tie.Need-returns-5
+returns-5 c = c .fulfilled .ensures (c .before .before .before .before .before .before .before .before .before .before .before .before .before .before .before .args .agreement .now) (c .before .before .before .before .before .before .before .before .before .before .number-below .result) (c .before .before .before .before .before .before .before .before .before .before .before .before .before .before .before .args .sights .now) (head-at (c .before .before .before .before .before .before .before .before .before .before .before .before .before .before .before .args .table .now) (c .before .before .before .before .before .before .before .before .before .before .before .before .before .before .before .pre .3) (c .before .before .before .before .before .before .before .before .before .before .before .before .before .before .before .args .agreement .now) (c .before .before .before .before .before .before .before .before .before .before .before .before .before .before .before .args .sights .now) (c .before .before .before .before .before .before .before .before .before .before .number-below .ensures .0 ∙ ap (numberBelow 4_294_967_296) (read! (c .before .before .before .before .before .before .before .before .before .before .before .number-below-arg .given))) (c .before .before .before .before .before .before .before .before .before .before .number-below .ensures .1) (c .before .before .before .before .before .before .before .before .before .if1 .left) (c .before .before .before .before .before .before .before .before .unsigned32 .ensures .0) (c .before .before .before .before .before .before .before .if2 .left) (c .before .before .before .before .before .zeros .ensures) (c .before .before .before .before .if3 .left) (c .before .before .number-below2 .ensures .0 ∙ ap (numberBelow 4) (read! (c .before .before .before .number-below-arg2 .given))) (c .before .match .keys2) (omega arith))
+
+returns-6 : tie.Need-returns-6
+returns-6 c = c .breached .ensures (c .before .before .before .before .before .before .before .before .before .before .before .before .before .before .before .args .sights .now)
+
+returns-7 : tie.Need-returns-7
+returns-7 c = head-other (c .before .before .before .before .before .before .before .before .before .before .before .before .before .before .args .table .now) (c .before .before .before .before .before .before .before .before .before .before .before .before .before .before .pre .3) (c .before .before .before .before .before .before .before .before .before .before .before .before .before .before .args .agreement .now) (c .before .before .before .before .before .before .before .before .before .before .before .before .before .before .args .sights .now) (c .before .number-below2 .ensures .0 ∙ ap (numberBelow 4) (read! (c .before .before .number-below-arg2 .given))) (λ e. omega (arith, c .match .rest)) (λ e. omega (arith, c .match .rest)) (λ e. omega (arith, c .match .rest))
+
+pub state-of-spec : {M : Type 1} → statement M
+state-of-spec = tie.close (tie.spec
+    (λ c. search needs) (λ c κs. search needs) returns (λ c κs. search needs) returns-2 (λ c. search needs)
+    (λ c. search needs) (λ c. search needs) (λ c κs. search needs) returns-3 (λ c. search needs)
+    (λ c κs. search needs) running-requires (λ c κs. search needs) breached-requires (λ c. search needs)
+    (λ c. search needs) returns-5 returns-6 returns-7)
