@@ -1,1 +1,6 @@
 pub mod Checks
+pub mod Begins
+pub mod Tabled
+pub mod Follows
+pub mod Foretells
+pub mod Demand3

@@ -116,7 +116,7 @@ active-few : (ts : List Template) (c : Clause) (ps vs : List ℤ) (a : ℕ) → 
 unfolding activate
 active-few ts c ps vs a = walk-few activating _ (λ t qs us u. done-few) _ (unfold-few activating (λ t qs us u. done) (λ t qs us u. done-few) ts (length ts)) c ps vs a
 
-reduce-few : (m : Mode) (ts : List Template) (c : Clause) (ps vs : List ℤ) (a : ℕ) → Few (reduce m ts c ps vs a)
+pub reduce-few : (m : Mode) (ts : List Template) (c : Clause) (ps vs : List ℤ) (a : ℕ) → Few (reduce m ts c ps vs a)
 unfolding reduce
 reduce-few m ts c ps vs a = walk-few m (activate ts) (active-few ts) (unfoldBelow m (activate ts) ts (length ts)) (unfold-few m (activate ts) (active-few ts) ts (length ts)) c ps vs a
 

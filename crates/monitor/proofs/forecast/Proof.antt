@@ -1,0 +1,24 @@
+use borrow.Author.Needs.{needs}
+use native.Mathlib.Omega.{arith}
+use Rattle.monitor.proofs.Follows.{state-asked, opened}
+use Rattle.monitor.proofs.Foretells.{foretell-checked, foretell-table}
+use Rattle.monitor.proofs.forecast.Statement.{statement}
+use Rattle.monitor.proofs.forecast.Tie as tie
+
+returns : tie.Need-returns
+returns c = foretell-table _ _ _ (c .before .before .before .before .before .verify .ensures) (c .before .before .parties .given .1) (c .if1 .taken)
+
+state-of-requires : tie.Need-state-of-requires
+state-of-requires c κs = let g = state-asked _ _ (c .before .before .before .before .before .before .before .verify .ensures) (c .before .before .before .before .parties .given .1) in (g .0, g .1, g .2, c .before .before .if1 .left, omega arith)
+
+foretell-requires : tie.Need-foretell-requires
+foretell-requires c κs = (opened _ _ (c .before .before .before .before .before .before .before .before .before .before .before .verify .ensures) (c .before .before .before .before .before .before .before .before .parties .given .1) (c .before .before .before .before .before .before .if1 .left) (c .before .before .sights2 .given), c .before .before .before .state-of .ensures)
+
+returns-2 : tie.Need-returns-2
+returns-2 c = foretell-checked _ _ _ (c .before .before .before .before .verify .ensures) (c .before .why .given .1)
+
+pub forecast-spec : {M : Type 1} → statement M
+forecast-spec = tie.close (tie.spec
+    (λ c. search needs) (λ c κs. search needs) (λ c. search needs) (λ c. search needs) returns
+    (λ c. search needs) (λ c. search needs) state-of-requires (λ c. search needs) (λ c. search needs)
+    foretell-requires returns-2 (λ c. search needs))

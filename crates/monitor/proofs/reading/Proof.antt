@@ -1,0 +1,23 @@
+use borrow.Author.Needs.{needs}
+use native.Mathlib.Omega.{arith}
+use Rattle.monitor.proofs.Follows.{state-asked, opened, read-checked, read-table}
+use Rattle.monitor.proofs.reading.Statement.{statement}
+use Rattle.monitor.proofs.reading.Tie as tie
+
+returns : tie.Need-returns
+returns c = read-table _ _ _ _ (c .before .before .before .before .before .verify .ensures) (c .before .before .parties .given .1) (c .if1 .taken)
+
+state-of-requires : tie.Need-state-of-requires
+state-of-requires c κs = let g = state-asked _ _ (c .before .before .before .before .before .before .before .before .verify .ensures) (c .before .before .before .before .before .parties .given .1) in (g .0, g .1, g .2, c .before .before .before .if1 .left, omega arith)
+
+read-on-requires : tie.Need-read-on-requires
+read-on-requires c κs = (opened _ _ (c .before .before .before .before .before .before .before .before .before .before .before .before .before .verify .ensures) (c .before .before .before .before .before .before .before .before .before .before .parties .given .1) (c .before .before .before .before .before .before .before .before .if1 .left) (c .before .before .before .sights2 .given), c .before .before .before .before .state-of .ensures)
+
+returns-2 : tie.Need-returns-2
+returns-2 c = read-checked _ _ _ _ (c .before .before .before .before .verify .ensures) (c .before .why .given .1)
+
+pub reading-spec : {M : Type 1} → statement M
+reading-spec = tie.close (tie.spec
+    (λ c. search needs) (λ c κs. search needs) (λ c. search needs) (λ c. search needs) returns
+    (λ c. search needs) (λ c. search needs) state-of-requires (λ c. search needs) (λ c. search needs)
+    read-on-requires returns-2 (λ c. search needs) (λ c. search needs))

@@ -1,0 +1,18 @@
+use borrow.Author.Needs.{needs}
+use Rattle.monitor.proofs.Begins.{goes-on, start-checked, start-table}
+use Rattle.monitor.proofs.start.Statement.{statement}
+use Rattle.monitor.proofs.start.Tie as tie
+
+returns : tie.Need-returns
+returns c = start-table _ _ _ (c .before .before .before .before .verify .ensures) (c .before .enum-told .given .1) (c .if1 .taken)
+
+begin-requires : tie.Need-begin-requires
+begin-requires c κs = ((c .before .before .before .enum-told .given .0 .0, goes-on _ _ (c .before .before .before .before .before .before .verify .ensures) (c .before .before .before .enum-told .given .1)), c .before .before .if1 .left)
+
+returns-2 : tie.Need-returns-2
+returns-2 c = start-checked _ _ _ (c .before .before .before .before .verify .ensures) (c .before .why .given .1)
+
+pub start-spec : {M : Type 1} → statement M
+start-spec = tie.close (tie.spec
+    (λ c. search needs) (λ c κs. search needs) (λ c. search needs) (λ c. search needs) returns
+    (λ c. search needs) begin-requires returns-2 (λ c. search needs) (λ c. search needs))
