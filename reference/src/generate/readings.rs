@@ -1,0 +1,167 @@
+//! Readings that hit windows, and damaged ones.
+
+use super::random::Random;
+use crate::agreement::{Agreement, Expression, Type};
+use crate::build;
+use crate::rules::{evaluate, Outcome, Residue, Waiting};
+use crate::table::State;
+
+/// A reading for what a table holds: often one that some waiting unit wants, near its window.
+pub fn reading(random: &mut Random, agreement: &Agreement, state: &State) -> Vec<u8> {
+    let target = target(random, state);
+    let bytes = match target {
+        Some(waiting) if random.chance(80) => aimed(random, agreement, state, waiting),
+        _ => any(random, agreement, state),
+    };
+    if random.chance(10) {
+        damaged(random, agreement, bytes)
+    } else {
+        bytes
+    }
+}
+
+/// Some waiting unit of a running state, often the one that is late first.
+fn target<'s, 'a>(random: &mut Random, state: &'s State<'a>) -> Option<&'s Waiting<'a>> {
+    let mut units = Vec::new();
+    if let Outcome::Running(residue) = &state.outcome {
+        collect(residue, &mut units);
+    }
+    if random.chance(60) {
+        units.into_iter().min_by_key(|unit| unit.window().1)
+    } else {
+        random.any(&units)
+    }
+}
+
+/// All waiting units of a residue.
+pub fn collect<'s, 'a>(residue: &'s Residue<'a>, units: &mut Vec<&'s Waiting<'a>>) {
+    match residue {
+        Residue::Waiting(waiting) => units.push(waiting),
+        Residue::And(left, right) | Residue::Or(left, right) => {
+            collect(left, units);
+            collect(right, units);
+        }
+    }
+}
+
+/// A reading for one waiting unit.
+fn aimed(random: &mut Random, agreement: &Agreement, state: &State, waiting: &Waiting) -> Vec<u8> {
+    let time = near_window(random, state.last, waiting.window());
+    if random.chance(15) {
+        return build::reading(time, 0, &[]);
+    }
+    let wanted = waiting.wait.reading;
+    let kind = if random.chance(92) { wanted } else { 1 + random.below(agreement.readings.len()) as u8 };
+    let mut values = self::values(random, agreement, kind, Some(waiting));
+    if kind == wanted && random.chance(75) {
+        for _ in 0..8 {
+            if holds(waiting, &values) {
+                break;
+            }
+            values = self::values(random, agreement, kind, Some(waiting));
+        }
+    }
+    build::reading(time, kind, &values)
+}
+
+fn holds(waiting: &Waiting, values: &[i32]) -> bool {
+    let values: Vec<i64> = values.iter().map(|value| i64::from(*value)).collect();
+    evaluate(&waiting.wait.condition, &waiting.scope.with(&values)) == 1
+}
+
+/// A time in the window as soon as may be, or near its first or last minute; seldom one before the
+/// last reading.
+fn near_window(random: &mut Random, last_reading: i64, (first, last): (i64, i64)) -> u32 {
+    let middle = if first < last { random.between(first, last) } else { first };
+    let time = match random.below(20) {
+        0..=9 => first.max(last_reading) + random.pick(&[0, 0, 1, 3]),
+        10..=12 => first + random.pick(&[-1, 0, 1]),
+        13..=16 => last + random.pick(&[-1, 0, 0, 1]),
+        17 => middle,
+        18 => last_reading + random.between(0, 5),
+        _ => last + random.between(2, 300),
+    };
+    let time = if time < last_reading && random.chance(95) { last_reading } else { time };
+    time.clamp(0, i64::from(u32::MAX)) as u32
+}
+
+/// Any reading or mark a little later.
+fn any(random: &mut Random, agreement: &Agreement, state: &State) -> Vec<u8> {
+    let step = random.pick(&[0, 0, 1, 5, 60, 100_000, -1, -20]);
+    let time = (state.last + step).clamp(0, i64::from(u32::MAX)) as u32;
+    let kind = random.below(agreement.readings.len() + 1) as u8;
+    let values = values(random, agreement, kind, None);
+    build::reading(time, kind, &values)
+}
+
+/// Values that fit a reading type, near what a unit's condition compares with.
+fn values(random: &mut Random, agreement: &Agreement, kind: u8, waiting: Option<&Waiting>) -> Vec<i32> {
+    let Some(index) = usize::from(kind).checked_sub(1) else { return Vec::new() };
+    let mut thresholds = Thresholds::default();
+    if let Some(waiting) = waiting {
+        thresholds.find(&waiting.wait.condition);
+        thresholds.numbers.extend(waiting.scope.values[..waiting.scope.count].iter().map(|value| *value as i32));
+    }
+    let types = &agreement.readings[index];
+    types.iter().map(|value_type| value(random, *value_type, agreement.parties, &thresholds)).collect()
+}
+
+fn value(random: &mut Random, value_type: Type, parties: u8, thresholds: &Thresholds) -> i32 {
+    match value_type {
+        Type::Number => match random.any(&thresholds.numbers) {
+            Some(number) if random.chance(70) => {
+                (number + random.pick(&[-1, 0, 0, 1])).clamp(-1_000_000_000, 1_000_000_000)
+            }
+            _ => random.number(),
+        },
+        Type::Truth => random.below(2) as i32,
+        Type::Party => match random.any(&thresholds.parties) {
+            Some(party) if random.chance(60) => i32::from(party),
+            _ => random.below(usize::from(parties)) as i32,
+        },
+    }
+}
+
+/// The literals of a condition.
+#[derive(Default)]
+struct Thresholds {
+    numbers: Vec<i32>,
+    parties: Vec<u8>,
+}
+
+impl Thresholds {
+    fn find(&mut self, expression: &Expression) {
+        match expression {
+            Expression::Number(number) => self.numbers.push(*number),
+            Expression::Party(party) => self.parties.push(*party),
+            Expression::Truth(_) | Expression::Value(_) => {}
+            Expression::Not(operand) => self.find(operand),
+            Expression::Binary(_, left, right) => {
+                self.find(left);
+                self.find(right);
+            }
+        }
+    }
+}
+
+/// A reading with something wrong about it.
+pub fn damaged(random: &mut Random, agreement: &Agreement, mut bytes: Vec<u8>) -> Vec<u8> {
+    match random.below(10) {
+        0 => bytes.truncate(random.below(bytes.len())),
+        1 => bytes.push(random.draw() as u8),
+        2 => bytes[random.below(4)] ^= 1 << random.below(8),
+        3 => return build::record(64, &[&bytes[4..], &[0]]),
+        4 => return build::record(64, &[&bytes[4..9], &[0; 20]]),
+        5 => bytes[8] = agreement.readings.len() as u8 + 1,
+        6 => bytes[8] = random.draw() as u8,
+        7 => return build::record(64, &[&bytes[4..], &[0; 4]]),
+        8 if bytes.len() > 9 => return build::record(64, &[&bytes[4..bytes.len() - 4]]),
+        _ if bytes.len() > 9 => {
+            let wrong: [i32; 6] = [2, -1, 1_000_000_001, -1_000_000_001, i32::from(agreement.parties), i32::MIN];
+            let at = 9 + 4 * random.below((bytes.len() - 9) / 4);
+            bytes[at..at + 4].copy_from_slice(&random.pick(&wrong).to_le_bytes());
+        }
+        _ => return build::record(63, &[&bytes[4..]]),
+    }
+    bytes
+}

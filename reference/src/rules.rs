@@ -1,0 +1,282 @@
+//! Evaluation and the rules, on trees, by the paper's section "Following a reading".
+
+use crate::agreement::{Agreement, Clause, Expression, Instance, Late, Operator, Type, Wait};
+use crate::check::SIGHT;
+use crate::reading::Reading;
+use std::cmp::Ordering;
+
+/// What there is to say of a clause under way.
+#[derive(Clone, Debug)]
+pub enum Outcome<'a> {
+    Fulfilled,
+    Breached(Breach),
+    Running(Residue<'a>),
+}
+
+/// A breach: when, and the blamed parties by bit.
+#[derive(Clone, Copy, Debug, PartialEq, Eq)]
+pub struct Breach {
+    pub time: i64,
+    pub parties: u32,
+}
+
+/// "a residue of waiting clauses (place, A, parameters, values in sight) joined by `and` and `or`"
+#[derive(Clone, Debug)]
+pub enum Residue<'a> {
+    Waiting(Waiting<'a>),
+    And(Box<Residue<'a>>, Box<Residue<'a>>),
+    Or(Box<Residue<'a>>, Box<Residue<'a>>),
+}
+
+/// An obligation or choice that waits since its activation at A.
+#[derive(Clone, Debug)]
+pub struct Waiting<'a> {
+    pub wait: &'a Wait,
+    pub activated: i64,
+    pub scope: Scope,
+}
+
+/// The party parameters and the values in sight; a truth is 0 or 1, a party its number.
+#[derive(Clone, Copy, Debug, Default)]
+pub struct Scope {
+    pub parameters: [i64; 4],
+    pub values: [i64; SIGHT],
+    pub count: usize,
+}
+
+impl Scope {
+    /// The same with further values bound after those in sight.
+    pub fn with(mut self, bound: &[i64]) -> Scope {
+        let end = self.count + bound.len();
+        self.values[self.count..end].copy_from_slice(bound);
+        self.count = end;
+        self
+    }
+
+    /// The party that a blame byte stands for.
+    fn party(&self, blame: u8) -> i64 {
+        match blame.checked_sub(128) {
+            Some(parameter) => self.parameters[usize::from(parameter)],
+            None => i64::from(blame),
+        }
+    }
+}
+
+impl Residue<'_> {
+    /// "joined by `and` and `or`, a unit each"
+    pub fn units(&self) -> usize {
+        match self {
+            Residue::Waiting(_) => 1,
+            Residue::And(left, right) | Residue::Or(left, right) => 1 + left.units() + right.units(),
+        }
+    }
+}
+
+impl Waiting<'_> {
+    /// "its window being first = A + after, last = first + within, both ends included, never held
+    /// at a limit"
+    pub fn window(&self) -> (i64, i64) {
+        let first = self.activated + evaluate(&self.wait.after, &self.scope);
+        (first, first + evaluate(&self.wait.within, &self.scope))
+    }
+
+    /// The time of a breach or of an else: "the later of A and last".
+    fn late_time(&self, last: i64) -> i64 {
+        self.activated.max(last)
+    }
+}
+
+/// The value of a typed expression.
+pub fn evaluate(expression: &Expression, scope: &Scope) -> i64 {
+    match expression {
+        Expression::Number(number) => i64::from(*number),
+        Expression::Truth(truth) => i64::from(*truth),
+        Expression::Party(party) => i64::from(*party),
+        Expression::Value(name) => scope.values[usize::from(*name)],
+        Expression::Not(operand) => 1 - evaluate(operand, scope),
+        Expression::Binary(operator, left, right) => apply(*operator, evaluate(left, scope), evaluate(right, scope)),
+    }
+}
+
+fn apply(operator: Operator, left: i64, right: i64) -> i64 {
+    match operator {
+        Operator::Plus => held(left + right),
+        Operator::Minus => held(left - right),
+        Operator::Times => held(left * right),
+        // "The quotient drops the fraction towards zero; a quotient by 0 is 0."
+        Operator::Quotient => left.checked_div(right).unwrap_or(0),
+        Operator::And => left & right,
+        Operator::Less => i64::from(left < right),
+        Operator::Equal => i64::from(left == right),
+    }
+}
+
+/// "a sum, difference or product beyond an end is held at that end"
+fn held(number: i64) -> i64 {
+    number.clamp(-Type::LIMIT, Type::LIMIT)
+}
+
+fn is_true(condition: &Expression, scope: &Scope) -> bool {
+    evaluate(condition, scope) == 1
+}
+
+/// Activates a clause at a time. The outcome is never a breach.
+pub fn activate<'a>(agreement: &'a Agreement, clause: &'a Clause, time: i64, scope: &Scope) -> Outcome<'a> {
+    match clause {
+        Clause::Fulfilled => Outcome::Fulfilled,
+        // "an obligation or choice waits"
+        Clause::Wait(wait) => Outcome::Running(Residue::Waiting(Waiting { wait, activated: time, scope: *scope })),
+        // "An if picks its side."
+        Clause::If(condition, left, right) => {
+            let side = if is_true(condition, scope) { left } else { right };
+            activate(agreement, side, time, scope)
+        }
+        Clause::And(left, right) => {
+            and(activate(agreement, left, time, scope), activate(agreement, right, time, scope))
+        }
+        Clause::Or(left, right) => or(activate(agreement, left, time, scope), activate(agreement, right, time, scope)),
+        // "Activating an instance activates the template's body with the values given."
+        Clause::Instance(instance) => {
+            let body = &agreement.templates[instance.template].body;
+            activate(agreement, body, time, &arguments(instance, scope))
+        }
+    }
+}
+
+/// What a template's body sees.
+pub fn arguments(instance: &Instance, scope: &Scope) -> Scope {
+    let mut inner = Scope { count: instance.values.len(), ..Scope::default() };
+    for (cell, value) in inner.values.iter_mut().zip(&instance.values) {
+        *cell = evaluate(value, scope);
+    }
+    for (cell, blame) in inner.parameters.iter_mut().zip(&instance.blames) {
+        *cell = scope.party(*blame);
+    }
+    inner
+}
+
+/// "A reading at time T reaches every waiting unit, and both sides of an `and` may use the same
+/// one."
+pub fn follow<'a>(agreement: &'a Agreement, residue: Residue<'a>, reading: &Reading) -> Outcome<'a> {
+    match residue {
+        Residue::Waiting(waiting) => follow_waiting(agreement, waiting, reading),
+        Residue::And(left, right) => and(follow(agreement, *left, reading), follow(agreement, *right, reading)),
+        Residue::Or(left, right) => or(follow(agreement, *left, reading), follow(agreement, *right, reading)),
+    }
+}
+
+/// "For each unit, in this order: ..."
+fn follow_waiting<'a>(agreement: &'a Agreement, waiting: Waiting<'a>, reading: &Reading) -> Outcome<'a> {
+    let (first, last) = waiting.window();
+    if reading.time > last {
+        return late(agreement, &waiting, last, reading);
+    }
+    if reading.kind == waiting.wait.reading && reading.time >= first {
+        let seen = waiting.scope.with(&reading.values);
+        if is_true(&waiting.wait.condition, &seen) {
+            // "`then` is activated at T, remaining time last − T. It does not see this reading
+            // again."
+            let scope = seen.with(&[last - reading.time]);
+            return activate(agreement, &waiting.wait.then, reading.time, &scope);
+        }
+    }
+    // "Otherwise it waits on."
+    Outcome::Running(Residue::Waiting(waiting))
+}
+
+/// "T > last: an obligation is breached at the later of A and last, by its blame. A choice
+/// activates its else at that time, and the else follows this same reading."
+fn late<'a>(agreement: &'a Agreement, waiting: &Waiting<'a>, last: i64, reading: &Reading) -> Outcome<'a> {
+    let time = waiting.late_time(last);
+    match &waiting.wait.late {
+        Late::Breach(blame) => Outcome::Breached(breach(time, *blame, &waiting.scope)),
+        Late::Else(otherwise) => match activate(agreement, otherwise, time, &waiting.scope) {
+            Outcome::Running(residue) => follow(agreement, residue, reading),
+            decided => decided,
+        },
+    }
+}
+
+fn breach(time: i64, blame: u8, scope: &Scope) -> Breach {
+    Breach { time, parties: 1 << scope.party(blame) }
+}
+
+/// "`and`: one breach decides; of two the earlier, at equal times both sets." "Fulfilled beside
+/// `and` vanishes".
+pub fn and<'a>(left: Outcome<'a>, right: Outcome<'a>) -> Outcome<'a> {
+    use Outcome::{Breached, Fulfilled, Running};
+    match (left, right) {
+        (Breached(left), Breached(right)) => Breached(earlier(left, right)),
+        (Breached(breach), _) | (_, Breached(breach)) => Breached(breach),
+        (Fulfilled, other) | (other, Fulfilled) => other,
+        (Running(left), Running(right)) => Running(Residue::And(Box::new(left), Box::new(right))),
+    }
+}
+
+/// "`or`: fulfilled beats all; a breach leaves the other side; of two breaches the later."
+pub fn or<'a>(left: Outcome<'a>, right: Outcome<'a>) -> Outcome<'a> {
+    use Outcome::{Breached, Fulfilled, Running};
+    match (left, right) {
+        (Fulfilled, _) | (_, Fulfilled) => Fulfilled,
+        (Breached(left), Breached(right)) => Breached(later(left, right)),
+        (Breached(_), other) | (other, Breached(_)) => other,
+        (Running(left), Running(right)) => Running(Residue::Or(Box::new(left), Box::new(right))),
+    }
+}
+
+/// Of two breaches the earlier, at equal times both sets.
+pub fn earlier(left: Breach, right: Breach) -> Breach {
+    match left.time.cmp(&right.time) {
+        Ordering::Less => left,
+        Ordering::Greater => right,
+        Ordering::Equal => Breach { time: left.time, parties: left.parties | right.parties },
+    }
+}
+
+/// Of two breaches the later. At equal times they are the same: the two sides of an `or` have one
+/// party together.
+pub fn later(left: Breach, right: Breach) -> Breach {
+    if left.time < right.time {
+        right
+    } else {
+        left
+    }
+}
+
+/// The breach that comes if no reading but marks comes any more. "A breached table gives its
+/// verdict."
+pub fn forecast<'a>(agreement: &'a Agreement, outcome: &Outcome<'a>) -> Option<Breach> {
+    match outcome {
+        Outcome::Fulfilled => None,
+        Outcome::Breached(breach) => Some(*breach),
+        Outcome::Running(residue) => forecast_residue(agreement, residue),
+    }
+}
+
+pub fn forecast_residue<'a>(agreement: &'a Agreement, residue: &Residue<'a>) -> Option<Breach> {
+    match residue {
+        Residue::Waiting(waiting) => forecast_waiting(agreement, waiting),
+        // "`and` treats none as later than every time"
+        Residue::And(left, right) => match (forecast_residue(agreement, left), forecast_residue(agreement, right)) {
+            (Some(left), Some(right)) => Some(earlier(left, right)),
+            (left, right) => left.or(right),
+        },
+        // "`or` with a none is none"
+        Residue::Or(left, right) => {
+            let left = forecast_residue(agreement, left)?;
+            let right = forecast_residue(agreement, right)?;
+            Some(later(left, right))
+        }
+    }
+}
+
+/// "an obligation gives its breach at the later of A and last; a choice gives what its else,
+/// activated at that time, gives"
+fn forecast_waiting<'a>(agreement: &'a Agreement, waiting: &Waiting<'a>) -> Option<Breach> {
+    let (_, last) = waiting.window();
+    let time = waiting.late_time(last);
+    match &waiting.wait.late {
+        Late::Breach(blame) => Some(breach(time, *blame, &waiting.scope)),
+        Late::Else(otherwise) => forecast(agreement, &activate(agreement, otherwise, time, &waiting.scope)),
+    }
+}
