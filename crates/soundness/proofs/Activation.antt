@@ -131,11 +131,13 @@ module _ (ag : Agreement) (mains : List ℕ) (fair : Fair ag mains) where
         (good-sub ag W (standFor ps (ft .blames)) (t .head .declared ++ ps) _ (body-sub k t ft vs ps ok′)
         (ih (t .body) (t .head .params) (t .head .values) (record { params = ps; values = vs }) u (ft .blames) (guarded-mono k m (t .body) (omega arith) (ft .guarded)) ok′ wu (ft .typed) (ft .placed))))
 
+    -- the same through instances: a guarded template names only lower ones, so unfolding ends
     pub walkIn-good : (m : ℕ) → WalksGood m
     unfolding walkIn UnfoldGood WalksGood
     walkIn-good zero = walk-good ag (fair .few) heads-declared W s sg 0 _ (λ k h vs ps u lt. absurd (omega arith))
     walkIn-good (suc m) = walk-good ag (fair .few) heads-declared W s sg (suc m) _ (unfold-good m (walkIn-good m))
 
+    -- and with as many unfoldings as there are templates
     pub during-good : (c : Clause) (n : ℕ) (env : List Ty) (e : Sight) (a : ℕ) (bs : List ℕ) → SightOk ag n env e → W a → typeClause (namesOf ag n) env c ≡ some bs → Placed ag n env c → Good ag W (standFor (e .params) bs) (during s (ag .templates) c e a)
     unfolding during WalksGood
     during-good c n env e a bs ok wa ty pl = walkIn-good (length (ag .templates)) c n env e a bs (typed-guarded c n env bs ty) ok wa ty pl
@@ -148,6 +150,7 @@ module _ (ag : Agreement) (mains : List ℕ) (fair : Fair ag mains) where
     choice = λ n env w t f e a bs g ok wa ty pl h. (standFor (e .params) bs, record { found = record { clause = choice w t f; sight = env; params = n }; isAt = pl .0; sorted = tt; when = wa; sight = ok; blames = bs; typed = ty; parties = refl; placed = pl }, sub-refl (standFor (e .params) bs));
   }
 
+  -- Activating a typed clause gives a good outcome: typing and parties are kept, and it is never stuck.
   pub activate-good : (W : ℕ → Type 0) (c : Clause) (n : ℕ) (env : List Ty) (e : Sight) (a : ℕ) (bs : List ℕ) → SightOk ag n env e → W a → typeClause (namesOf ag n) env c ≡ some bs → Placed ag n env c → Good ag W (standFor (e .params) bs) (activate (ag .templates) c e a)
   unfolding activate
   activate-good W c n env e a bs ok wa ty pl = during-good W activating (activating-good W) c n env e a bs ok wa ty pl

@@ -54,6 +54,7 @@ pub record Passed (bytes : List ℕ) (a : Agreement) (mains : List ℕ) : Type 0
   pub types : typed a ≡ some mains
   pub guarded : T (guardedFrom 0 (a .templates))
 
+-- what each of check's tests says of an accepted agreement
 pub passed : (bytes : List ℕ) (a : Agreement) (mains : List ℕ) → checked bytes ≡ accepted a mains → Passed bytes a mains
 unfolding checked checkDecoded checkTyped
 passed bytes a mains e =
@@ -92,6 +93,7 @@ constant-in ds q h t = go (ltb q 128) (lt→ltb q 128 h) t
     go true x y = member→in q ds y
     go false x y = absurd x
 
+-- An accepted agreement is fair: every template and the main clause is typed, guarded, and found at its places.
 pub fair : (bytes : List ℕ) (a : Agreement) (mains : List ℕ) → Passed bytes a mains → Fair a mains
 unfolding typed typeTemplate namesOf clauseAt Out
 fair bytes a mains p =

@@ -89,6 +89,7 @@ module _ (hs : List Head) (e : List ℕ → Expr) (inner : ℕ → List ℕ → 
   body-ranged instanceKind = instance-ranged p (p + length s) e s (at hs (byte s 4)) (omega arith)
   body-ranged noClause = omega arith
 
+-- the waiting clauses of any decoded bytes stand at places within those bytes, strictly increasing
 pub clause-ranged : (hs : List Head) (d p : ℕ) (s : List ℕ) → Ranged p (p + length s) (clause hs d p s)
 unfolding clause clauseHead isRecord
 clause-ranged hs zero p s = unfold Ranged in omega arith
@@ -198,6 +199,7 @@ well-formed s t =
     both-true p r t₆ λ h₂ h₃.
     record { kind = h₁; parties = h₂; readings = h₃; templates = h₄; readingsOk = h₅; templatesOk = h₆; main = h₇; bodies = h₈ }
 
+-- What decoding gives: at most 16 parties, and templates and main clause one behind another in the bytes.
 pub decoded : (s : List ℕ) (a : Agreement) → decode s ≡ some a → Decoded s a
 unfolding agreementOf mainOf mainPlace templatesPlace templatePieces between
 decoded s a e = decode-is s a e λ t same.

@@ -165,6 +165,7 @@ module _ (bytes : List ℕ) (a : Agreement) (mains : List ℕ) (ck : checked byt
       go true e q = absurd (omega arith)
       go false e q = record { from = omega arith; fits = start-lt bytes a hb ((isPassed bytes a mains ck) .decodes); good = first-good; small = nltb→le 128 (needed first) (subst (λ b. T (not b)) (sym e ∙ tooMany-is first) tt) }
 
+-- The single claim over the whole list: never stuck, each answer the run's, the table well typed and the run's cell for cell, 0 and 11 if and only if .., breaches in order, nothing altered after one.
 pub demand3 : Demand3
 unfolding Demand3
 demand3 bytes a mains cells rs hb hr ck l st =

@@ -84,6 +84,7 @@ quotient-range : (x y : ℤ) → T (inRange x) → T (inRange (quotient x y))
 unfolding inRange quotient
 quotient-range x y h = le→leb (natAbs (signed (differ (isNegative x) (isNegative y)) (natAbs x / natAbs y))) limit (omega (arith, signed-size (differ (isNegative x) (isNegative y)) (natAbs x / natAbs y), div-le-self (natAbs x) (natAbs y), leb→le (natAbs x) limit h))
 
+-- a number in range stays in range under every operator: "a sum, difference or product beyond an end is held at that end"
 pub calculate-range : (o : Arithmetic) (x y : ℤ) → T (inRange x) → T (inRange (calculate o x y))
 unfolding calculate
 calculate-range plus x y h = held-range (x +ℤ y)
@@ -127,6 +128,7 @@ sameVal-typed ps number u v h k = let a = num-of ps u h in let b = num-of ps v k
 sameVal-typed ps truth u v h k = let a = bool-of ps u h in let b = bool-of ps v k in rw (a .1, b .1) (bool (sameBool (a .0) (b .0)), refl, tt)
 sameVal-typed ps party u v h k = let a = who-of ps u h in let b = who-of ps v k in rw (a .1, b .1) (bool (eqb (a .0) (b .0)), refl, tt)
 
+-- operands of the types that an operator wants give a value of its result type; the operator is a parameter
 pub apply-typed : (ps : ℕ) (o : Op) (s : Ty) (u v : Val) → HasTy ps s u → HasTy ps (operand o s) v → s ≡ operand o s → Applied ps (result o) (apply o u v)
 unfolding apply operand result HasTy
 apply-typed ps (arithmetic o) s u v h k e = onNums-typed ps number _ u v (calculate-range o) (rw e at h) k
@@ -151,6 +153,7 @@ then-typed ps s t m f a g = let b = g (a .0) (a .2) in (b .0, some-bind m f (a .
 retype : (ps : ℕ) (s t : Ty) (m : Option Val) → s ≡ t → Applied ps s m → Applied ps t m
 retype ps s t m e a = (a .0, a .1, subst (λ x. HasTy ps x (a .0)) e (a .2))
 
+-- Type soundness: a typed expression, with values of the types in sight, has a value, of its type and in its range. So evaluation is never stuck (CSL Lemma 8).
 pub eval-typed : (ps : ℕ) (ts : List Ty) (vs : List Val) (e : Expr) (t : Ty) → HaveTy ps ts vs → typeExpr ps ts e ≡ some t → Applied ps t (eval vs e)
 unfolding eval typeExpr HasTy
 eval-typed ps ts vs (numberLit z) t h e = from-need (inRange z) (λ _. some number) t e (λ b p. retype ps number t _ (some-inj p) (num z, refl, b))

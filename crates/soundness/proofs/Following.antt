@@ -148,6 +148,7 @@ module _ (ag : Agreement) (mains : List ℕ) (fair : Fair ag mains) (r : Reading
       (λ not-late. taken-good n env e w vs (pos a +ℤ x) y t ps (standFor (e .params) bs) _ u₁ ok rt tc ry not-late p (subst (λ z. Placed ag n z t) (orNil-is w vs env rt) (pl .1)) (stand-sub (e .params) ps bs (subst (λ l. Sub ps l) (some-inj q₄) (λ z k. in-left z ps qs k))) (omega (arith, wa .0, wa .1))
       (activating-good ag mains fair W .choice n env w t f e a bs g ok wa ty pl h)))
 
+  -- Following a reading is good at obligations and choices: late, taken or waiting on ("For each unit, in this order").
   pub following-good : StepGood ag (fair .few) (heads-declared ag mains fair) W (following (ag .templates) r)
   following-good = record { obligation = following-obligation; choice = following-choice }
 

@@ -435,6 +435,7 @@ module _ (ag : Agreement) (mains : List ℕ) (fair : Fair ag mains) where
   pub forecasting-good : StepGood ag (fair .few) (heads-declared ag mains fair) From forecasting
   forecasting-good = record { obligation = forecasting-obligation; choice = forecasting-choice }
 
+  -- a forecast of a well-typed residue is never stuck, and blames only that residue's parties
   pub forecast-good : (now : ℕ) (res : Residue) (ps : List ℕ) → Ok ag (λ t. (ag .start ≤ t) × (t ≤ now)) res ps → Good ag From ps (forecast ag res)
   unfolding forecast
   forecast-good now = across-good ag mains fair (λ t. (ag .start ≤ t) × (t ≤ now)) From (λ t h. h .0) forecasting forecasting-good

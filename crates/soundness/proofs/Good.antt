@@ -47,10 +47,12 @@ module _ (ag : Agreement) (W : ℕ → Type 0) where
     pub parties : ps ≡ standFor (e .params) blames
     pub placed : Placed ag (found .params) (found .sight) (found .clause)
 
+  -- a residue whose units are well typed, found at their places, in time, and whose joins keep the rule for `or`
   unfoldable pub Ok : Residue → List ℕ → Type 0
   Ok (unit s p a e) ps = OkUnit s p a e ps
   Ok (both j l r) ps = (pl : List ℕ) × (pr : List ℕ) × Ok l pl × Ok r pr × T (joinOk j (pl ++ pr)) × (ps ≡ pl ++ pr)
 
+  -- an outcome that is not stuck, whose breach names a party, only parties of P, at a time that W allows, and whose residue is Ok
   unfoldable pub Good : List ℕ → Outcome → Type 0
   Good P done = Unit {0}
   Good P (breach t ps) = (p : ℕ) × In p ps × Sub ps P × W t
@@ -108,6 +110,7 @@ module _ (ag : Agreement) (W : ℕ → Type 0) where
   unfolding Sub
   right-good P Q o g = good-sub Q (P ++ Q) o (λ x k. in-right x P Q k) g
 
+  -- `and` and `or` join good outcomes to a good one: two breaches of an `or` blame the same party, so they never clash
   pub joined-good : (j : Join) (P Q : List ℕ) (l r : Outcome) → T (joinOk j (P ++ Q)) → Good P l → Good Q r → Good (P ++ Q) (joined j l r)
   unfolding joined joinBoth joinEither Good
   joined-good and P Q done r ok g h = right-good P Q r h

@@ -83,6 +83,7 @@ none-orElse none o e = e
 none-orElse (some a) o e = refl
 
 module _ (rs : List (List Ty)) (n p : ℕ) where
+  -- a place outside a clause's range is no place in it: places are unique
   pub find-none : (lo hi : ℕ) (c : Clause) (env : List Ty) → Ranged lo hi c → Out p lo hi → find rs n p c env ≡ none
   unfolding find Ranged
   find-none lo hi fulfilled env h o = refl

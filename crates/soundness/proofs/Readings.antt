@@ -49,6 +49,7 @@ unfolding valuesWanted readingOfType
 wanted-same a zero ts us p q = let z : _≡_ {A = ℕ} 0 1 = cc in absurd (omega arith)
 wanted-same a (suc k) ts us p q = some-inj (sym p ∙ q)
 
+-- a reading that 9 does not refuse has values of the types its clause will see
 pub reading-ok : (a : Agreement) (w : Raw) (d : Reading) → typedReading a w ≡ some d → ReadingOk a d × (d .time ≡ w .time)
 unfolding typedReading ReadingOk
 reading-ok a w d e =
@@ -79,5 +80,6 @@ raw-time s w h e =
     from-need (between 9 25 (length s) && eqb ((length s - 9) % 4) 0) _ w b₁ λ t₂ b₂.
     subst (λ z. z .time < 2 ^ 32) (some-inj b₂) (time-below s 4 h)
 
+-- an agreement's start time fits 32 bits
 pub start-lt : (bytes : List ℕ) (a : Agreement) → Bytes bytes → decode bytes ≡ some a → a .start < 2 ^ 32
 start-lt s a h e = subst (λ t. t < 2 ^ 32) (sym (decoded s a e .start)) (time-below s 4 h)

@@ -199,6 +199,7 @@ module _ (ag : Agreement) (mains : List ℕ) (now : ℕ) (st : ag .start ≤ now
   unfolding trees
   no-trees n = some-bind (need (all isZero (replicate n (pos 0)))) _ tt (true-need _ (zeros-zero n))
 
+  -- the table of a running run reads back as that run
   pub running-reads : (res : Residue) (ps : List ℕ) → Ok ag (λ t. (ag .start ≤ t) × (t ≤ now)) res ps → Sub ps mains → units res ≤ 128 → runOf ag mains (tableOf (record { lastTime = now; outcome = running res })) ≡ some (record { lastTime = now; outcome = running res })
   unfolding tableOf readState single _>>=_ need
   running-reads res ps ok sub few = run-reads 1 0 0 (units res) (residueCells res) (running res)
@@ -207,11 +208,13 @@ module _ (ag : Agreement) (mains : List ℕ) (now : ℕ) (st : ag .start ≤ now
       (subst (λ m. trees ag m (residueCells res ++ replicate (3080 - length (headCells 1 now 0 0 (units res) ++ residueCells res)) (pos 0)) ≡ some (res ∷ [])) (omega arith) (trees-read ag _ res ps 0 (replicate (3080 - length (headCells 1 now 0 0 (units res) ++ residueCells res)) (pos 0)) [] ok (no-trees (3080 - length (headCells 1 now 0 0 (units res) ++ residueCells res)))))
       ∙ some-bind (residueParties ag mains now res) _ ps (parties-read ag mains now res ps ok sub))
 
+  -- the same of a fulfilled run
   pub done-reads : runOf ag mains (tableOf (record { lastTime = now; outcome = done })) ≡ some (record { lastTime = now; outcome = done })
   unfolding tableOf readState headCells natCells
   done-reads = run-reads 2 0 0 0 [] done (some-bind (need (all isZero (replicate (3080 - length (headCells 2 now 0 0 0 ++ [])) (pos 0)))) _ tt (true-need _ (zeros-zero (3080 - length (headCells 2 now 0 0 0 ++ [])))))
 
 module _ (ag : Agreement) (mains : List ℕ) (few : (q : ℕ) → In q mains → q < 16) (now : ℕ) (st : ag .start ≤ now) (fit : now < 2 ^ 32) where
+  -- the same of a breached run, the parties being read back from their bits
   pub breach-reads : (t : ℕ) (ps : List ℕ) (p : ℕ) → In p ps → Sub ps mains → ag .start ≤ t → t ≤ now → runOf ag mains (tableOf (record { lastTime = now; outcome = breach t ps })) ≡ some (record { lastTime = now; outcome = breach t (members (bitsOf ps)) })
   unfolding tableOf readState headCells natCells Sub members bitsOf
   breach-reads t ps p i sub lo hi = run-reads ag mains now st fit 3 t (bitsOf ps) 0 [] (breach t (members (bitsOf ps)))

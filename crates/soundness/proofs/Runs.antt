@@ -92,6 +92,7 @@ follow-case a t (running res) bytes d ns f le ok lt e = go (tooMany (follow a d 
     go false g = after d f le (nltb→le 128 (needed (follow a d res)) (subst (λ b. T (not b)) (sym g ∙ tooMany-is (follow a d res)) tt)) (λ b. b) ok lt (e ∙ ap (λ b. elim b [ true ↦ stepped 11 (runAt t (running res)) | false ↦ stepped 0 (runAt (d .time) (follow a d res)) ]) g)
 follow-case a t stuck bytes d ns f le ok lt e = absurd ns
 
+-- what a reading can do to a run that is not stuck: one of five cases
 pub cases : (a : Agreement) (t : ℕ) (o : Outcome) (bytes : List ℕ) → NotStuck o → Case a t o bytes
 unfolding step
 cases a t o bytes ns = fit-cases a t bytes
@@ -237,6 +238,7 @@ module _ (bytes : List ℕ) (a : Agreement) (mains : List ℕ) (ck : checked byt
   pub few-mains : (q : ℕ) → In q mains → q < 16
   few-mains q i = omega (arith, main-in a mains isFair q i, isFair .few)
 
+  -- on a run's table the entry answers with the run's number and leaves the run's table
   pub reading-fine : (now : ℕ) (o : Outcome) (r : List ℕ) → Inv a mains now o → Fine a now o (tableOf (runAt now o)) r (readingOf bytes (tableOf (runAt now o)) r)
   reading-fine now o r i =
       let x = reads a mains few-mains now o i in
@@ -254,6 +256,7 @@ module _ (bytes : List ℕ) (a : Agreement) (mains : List ℕ) (ck : checked byt
   abbrev pub InvOf : Run → Type 0
   InvOf r = Inv a mains (r .lastTime) (r .outcome)
 
+  -- every reading keeps the invariant: typed residue, parties within the main clause's, times from the start to the last reading
   pub step-inv : (now : ℕ) (o : Outcome) (r : List ℕ) → Bytes r → Inv a mains now o → InvOf ((step a (runAt now o) r) .run)
   step-inv now o r hr i = go (cases a now o r (not-stuck a mains now o (i .good)))
     where

@@ -161,6 +161,7 @@ module _ (ag : Agreement) (few : ag .parties ≤ 16) (hd : (k : ℕ) (h : Head) 
   UnfoldGood m un = (k : ℕ) (h : Head) (vs : List Val) (ps : List ℕ) (a : ℕ) → k < m → at (headsIn (ag .templates)) k ≡ some h → HaveTy (ag .parties) (h .values) vs → length ps ≡ h .params → T (all (λ x. ltb x (ag .parties)) ps) → W a → Good ag W (h .declared ++ ps) (un k vs ps a)
 
   module _ (s : Step) (sg : StepGood s) (m : ℕ) (un : ℕ → List Val → List ℕ → ℕ → Outcome) (ug : UnfoldGood m un) where
+    -- Any step that is good at obligations and choices is good at every typed clause (CSL Thms. 10 and 11, for a clause).
     pub walk-good : (c : Clause) (n : ℕ) (env : List Ty) (e : Sight) (a : ℕ) (bs : List ℕ) → T (guardedIn m c) → SightOk ag n env e → W a → typeClause (namesOf ag n) env c ≡ some bs → Placed ag n env c → Good ag W (standFor (e .params) bs) (walk s un c e a)
     unfolding walk guardedIn Placed typeClause orStuck Good namesOf UnfoldGood
     walk-good fulfilled n env e a bs gd ok wa ty pl = tt
