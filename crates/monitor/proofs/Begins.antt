@@ -1,20 +1,19 @@
 -- Laws for start: the main clause is activated as csl says, and the table is written that the rules on cells give.
-use mathlib.Core.Path.{_≡_, refl, sym, ap, _∙_}
-use mathlib.Core.Bool.{Bool, true, false, cond, not}
-use mathlib.Core.List.{List, [], _∷_}
-use Prim.Native.Nat.{ℕ, _+_, _-_, _*_, _/_, _≤_, _<_, min}
+use mathlib.Core.Path.{_≡_, refl, sym, _∙_}
+use mathlib.Core.Bool.{Bool, true, false, not}
+use mathlib.Core.List.{List, []}
+use Prim.Native.Nat.{ℕ, _*_, _/_, _≤_, _<_, min}
 use native.Mathlib.Omega.{arith}
 use borrow.Author.Tests.{not-true, not-false, leb-true, leb-false, lt-ltb, le-ltb}
 use mir.Syntax.{w64}
 use mir.Val.{toZ}
 use mir.ValLaws.{toZ-pos}
-use lib.Dec.{T, ltb, leb, eqb, leb→le}
+use lib.Dec.{ltb, leb, leb→le}
 use lib.IntN.{ℤ, pos}
-use lib.ListN.{length, take, drop}
+use lib.ListN.{length}
 use Rattle.csl.specs.Bytes.{byte, le32, part}
-use Rattle.csl.specs.Decode.{agreementOf, mainOf, mainPlace, headsOf, clause, sized, between}
-use Rattle.csl.specs.Check.{checked, accepted}
-use Rattle.csl.specs.Entries.{Answer, startOf}
+use Rattle.csl.specs.Decode.{agreementOf, mainOf, mainPlace, sized, between}
+use Rattle.csl.specs.Entries.{startOf}
 use Rattle.soundness.proofs.Checked.{passed}
 use Rattle.records.specs.Index.{Indexed}
 use Rattle.records.proofs.Index.{T-both, templates-length}
@@ -25,8 +24,7 @@ use Rattle.bridge.proofs.Tables as bridge
 use Rattle.bridge.proofs.Tables.{unitsIn}
 use Rattle.bridge.proofs.Refusals.{answer, start-refused, start-six}
 use Rattle.bridge.proofs.Entries.{keptCells, start-reduce}
-use Rattle.rules.specs.Parts.{modeAt}
-use Rattle.rules.specs.Reduces.{Is, Stands}
+use Rattle.rules.specs.Reduces.{Is}
 use Rattle.rules.specs.Units as rules
 use Rattle.rules.specs.Units.{Settles, unitsOf, bitsIn}
 use Rattle.rules.specs.Leads.{Ready, Fits, reduceAt, reduceBelow}
@@ -35,12 +33,11 @@ use Rattle.rules.specs.declared.Site.{Site}
 use Rattle.rules.specs.declared.Step.the-variants.{Activate}
 use Rattle.rules.specs.declared.Reduced.{Reduced}
 use Rattle.rules.specs.declared.Reduced.the-variants.{Done, Breach, Running}
-use Rattle.rules.proofs.Few.{Few, reduce-few, answer-few}
+use Rattle.rules.proofs.Few.{reduce-few, answer-few}
 use Rattle.monitor.specs.declared.Checked.{Checked}
 use Rattle.monitor.specs.declared.Checked.the-variants.{Accepted, Refused}
 use Rattle.monitor.specs.declared.Refusal.{Refusal}
 use Rattle.monitor.specs.declared.Refusal.the-variants.{TableLength, Units}
-use Rattle.monitor.specs.declared.Started.{Started}
 use Rattle.monitor.specs.declared.Started.the-variants.{Begun, Refused as refusedStart}
 use Rattle.monitor.specs.Answers.{numberOf, startAnswer, Goes, Verified, mainReduced}
 

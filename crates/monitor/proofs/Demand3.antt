@@ -3,7 +3,7 @@
 use mathlib.Core.Path.{_≡_, refl, sym, ap, ap₂, _∙_, subst}
 use mathlib.Core.Bool.{Bool, true, false}
 use mathlib.Core.List.{List, [], _∷_}
-use Prim.Native.Nat.{ℕ, _<_}
+use Prim.Native.Nat.{ℕ}
 use native.Mathlib.Omega.{arith}
 use borrow.Author.Tests.{eqb-true, eqb-false}
 use borrow.Fn.Kinds.{Dens, endedOf}
@@ -17,7 +17,7 @@ use Rattle.csl.specs.Decode.{agreementOf}
 use Rattle.csl.specs.Check.{checked, accepted}
 use Rattle.csl.specs.Run.{Run, started, step}
 use Rattle.csl.specs.Table.{tableOf}
-use Rattle.csl.specs.Entries.{Answer, startOf, readingOf}
+use Rattle.csl.specs.Entries.{startOf, readingOf}
 use Rattle.csl.specs.Demand3.{AllBytes, Agrees, Answers, Bytes, Delivered, Throughout, numbersBy, numbersOf, runAfter, tableAfter}
 use Rattle.bridge.proofs.Refusals.{from-check, start-refused, start-six}
 use Rattle.bridge.proofs.Entries.{delivered}

@@ -1,9 +1,9 @@
 -- Laws for a reading: what each part of the code learned, as csl's answer.
-use mathlib.Core.Path.{_≡_, refl, sym, ap, ap₂, _∙_, subst}
+use mathlib.Core.Path.{_≡_, refl, sym, ap, ap₂, _∙_}
 use mathlib.Core.Bool.{Bool, true, false, not, false≢true}
-use mathlib.Core.List.{List, [], _∷_, _++_}
-use mathlib.Core.Option.{Option, none, some}
-use Prim.Native.Nat.{ℕ, _+_, _-_, _*_, _≤_, _<_}
+use mathlib.Core.List.{List, [], _∷_}
+use mathlib.Core.Option.{none, some}
+use Prim.Native.Nat.{ℕ, _-_, _*_, _≤_, _<_}
 use native.Mathlib.Omega.{arith}
 use borrow.Author.Tests.{ltb-true, ltb-false}
 use mir.Syntax.{w64}
@@ -12,19 +12,18 @@ use mir.ValLaws.{toZ-pos}
 use lib.Dec.{ltb}
 use lib.IntN.{ℤ, pos}
 use lib.Signed.{ltZ}
-use lib.ListN.{length, getD, take, drop, set, replicate, length-drop, length-take}
+use lib.ListN.{length, getD, take, drop, set, length-drop, length-take}
 use lib.Seq.{take-all}
 use Rattle.arith.proofs.Ints.{small}
 use Rattle.csl.specs.Lists.{_>>=_}
-use Rattle.csl.specs.Parties.{bitsOf, members}
+use Rattle.csl.specs.Parties.{bitsOf}
 use Rattle.csl.specs.Syntax.{Agreement}
 use Rattle.csl.specs.Decode.{agreementOf}
 use Rattle.csl.specs.Check.{checked, accepted}
-use Rattle.csl.specs.Outcomes.{Residue, units, running, done, breach}
-use Rattle.csl.specs.Rules.{Reading}
-use Rattle.csl.specs.Run.{Run, Raw, rawReading, typedReading}
-use Rattle.csl.specs.Table.{runOf, tableOf, padded, headCells, natCells, cellsOf}
-use Rattle.csl.specs.Entries.{Answer, readingOf}
+use Rattle.csl.specs.Outcomes.{Residue, units, done}
+use Rattle.csl.specs.Run.{Run, rawReading}
+use Rattle.csl.specs.Table.{tableOf, padded, headCells, natCells, cellsOf}
+use Rattle.csl.specs.Entries.{readingOf}
 use Rattle.csl.specs.Demand3.{fitting}
 use Rattle.soundness.proofs.Readings.{reading-ok}
 use Rattle.soundness.proofs.Runs.{isFair, runAt}
@@ -32,9 +31,8 @@ use Rattle.soundness.proofs.ReadBack.{table-back}
 use Rattle.records.specs.Index.{Indexed}
 use Rattle.cells.specs.Reduce as cells
 use Rattle.cells.specs.Across as table
-use Rattle.cells.specs.Across.{natOf}
 use Rattle.places.specs.Locate.{Accepted, mainsOf, mainsIn}
-use Rattle.bridge.proofs.Across.{sightsOf, follow-across}
+use Rattle.bridge.proofs.Across.{follow-across}
 use Rattle.bridge.proofs.Tables as bridge
 use Rattle.bridge.proofs.Refusals.{answer, reading-refused, reading-six, reading-seven}
 use Rattle.bridge.proofs.Entries.{keptCells, reading-eight, reading-nine, reading-ten, reading-done, reading-breach, reading-running}
@@ -56,10 +54,9 @@ use Rattle.monitor.specs.declared.Checked.{Checked}
 use Rattle.monitor.specs.declared.Checked.the-variants.{Accepted as acceptedAgreement, Refused}
 use Rattle.monitor.specs.declared.Refusal.{Refusal}
 use Rattle.monitor.specs.declared.Refusal.the-variants.{TableLength, TableContent, ReadingForm, ReadingTyping, ReadingTime, Units as tooManyUnits}
-use Rattle.monitor.specs.declared.Taken.{Taken}
 use Rattle.monitor.specs.declared.Taken.the-variants.{Accepted as acceptedReading, Refused as refusedReading}
 use Rattle.monitor.specs.Answers.{numberOf, takenAnswer, Goes, Verified, Opened, Fitted, isDamaged}
-use Rattle.monitor.proofs.Begins.{goes-on, time-cell, kept-no, kept-yes}
+use Rattle.monitor.proofs.Begins.{goes-on, kept-no, kept-yes}
 use Rattle.monitor.proofs.Tabled.{founds, sighted, has-units}
 
 -- ---- the main clause's parties are those that check found

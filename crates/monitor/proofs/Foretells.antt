@@ -1,14 +1,13 @@
 -- Laws for a forecast.
 use mathlib.Core.Path.{_≡_, sym, ap, ap₂, subst, _∙_}
-use mathlib.Core.List.{List, [], _∷_, _++_}
-use mathlib.Core.Option.{some, none}
-use Prim.Native.Nat.{ℕ, _+_, _-_, _*_, _^_, _≤_, _<_}
+use mathlib.Core.List.{List, [], _∷_}
+use Prim.Native.Nat.{ℕ, _-_, _*_, _^_, _<_}
 use native.Mathlib.Omega.{arith}
 use lib.IntN.{ℤ, pos}
 use lib.Signed.{mag}
 use lib.ListN.{length, take, drop}
 use Rattle.arith.proofs.Ints.{seen, read! }
-use Rattle.csl.specs.Parties.{bitsOf, members}
+use Rattle.csl.specs.Parties.{members}
 use Rattle.csl.specs.Decode.{agreementOf}
 use Rattle.csl.specs.Check.{checked, accepted}
 use Rattle.csl.specs.Outcomes.{units}
@@ -27,7 +26,7 @@ use Rattle.rules.specs.Reduces.{Is}
 use Rattle.rules.specs.declared.Reduced.{Reduced}
 use Rattle.rules.specs.declared.Reduced.the-variants.{Done, Breach, Running}
 use Rattle.rules.proofs.Reduces.{is-done, is-breach, is-running}
-use Rattle.state.specs.Shown.{RunShows, RunningAs, BreachedAs, Shows, runIn}
+use Rattle.state.specs.Shown.{RunningAs, Shows, runIn}
 use Rattle.state.specs.declared.State.{State}
 use Rattle.state.specs.declared.State.the-variants.{Damaged, Fulfilled, Breached}
 use Rattle.monitor.specs.declared.Checked.{Checked}
@@ -35,7 +34,7 @@ use Rattle.monitor.specs.declared.Checked.the-variants.{Accepted, Refuse
 use Rattle.monitor.specs.declared.Refusal.{Refusal}
 use Rattle.monitor.specs.declared.Refusal.the-variants.{TableLength, TableContent}
 use Rattle.monitor.specs.declared.Foretold.the-variants.{Nothing, Breach as breachForetold, Refused as refusedForecast}
-use Rattle.monitor.specs.Answers.{numberOf, forecastAnswer, Goes, Verified, Opened}
+use Rattle.monitor.specs.Answers.{numberOf, forecastAnswer, Verified, Opened}
 use Rattle.monitor.proofs.Begins.{goes-on}
 use Rattle.monitor.proofs.Tabled.{founds, sighted}
 use Rattle.monitor.proofs.Follows.{accepts, behind-head, residue-sights, shown-done, shown-breached, shown-damaged}

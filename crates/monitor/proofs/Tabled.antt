@@ -1,9 +1,8 @@
 -- A table that shows a running run has the units that the rules ask for.
-use mathlib.Core.Path.{_≡_, refl, sym, ap, ap₂, _∙_, subst}
+use mathlib.Core.Path.{_≡_, refl, sym, ap, _∙_, subst}
 use mathlib.Core.Bool.{Bool, true, false}
-use mathlib.Core.List.{List, [], _∷_, _++_, append-nil}
-use mathlib.Core.Logic.{_⊎_, inl, inr}
-use mathlib.Core.Option.{Option, none, some}
+use mathlib.Core.List.{List, [], _∷_, _++_}
+use mathlib.Core.Option.{none, some}
 use Prim.Native.Nat.{ℕ, zero, suc, _+_, _-_, _*_, _^_, _≤_, _<_}
 use native.Mathlib.Omega.{arith}
 use borrow.Author.Tests.{leb-true, leb-false}
@@ -16,14 +15,12 @@ use Rattle.csl.specs.Bytes.{part, recordEnd, isRecord}
 use Rattle.csl.specs.Syntax.{Agreement, Clause, Join, and, or}
 use Rattle.csl.specs.Decode.{agreementOf, headsOf, clause, clauseHead, clauseBody, whole, wellFormed}
 use Rattle.csl.specs.Check.{checked, accepted}
-use Rattle.csl.specs.Outcomes.{Residue, Sight, Sort, anObligation, aChoice, unit, both, units, running}
-use Rattle.csl.specs.Places.{Found, clauseAt}
-use Rattle.csl.specs.Table.{runOf, tableOf, padded, headCells, natCells, cellsOf, residueCells, unitCells, joinCells, sortNumber, joinNumber}
+use Rattle.csl.specs.Outcomes.{Residue, Sight, Sort, unit, both, units, running}
+use Rattle.csl.specs.Table.{runOf, tableOf, padded, headCells, natCells, cellsOf, residueCells, unitCells, joinCells, joinNumber}
 use Rattle.csl.specs.Demand3.{needed}
 use Rattle.soundness.proofs.Checked.{passed}
 use Rattle.soundness.proofs.Decoding.{decode-is}
 use Rattle.soundness.proofs.Good.{Good, Ok, OkUnit}
-use Rattle.soundness.proofs.Walks.{Fair}
 use Rattle.soundness.proofs.RoundTrip.{++-assoc, units-length, join-length, len-padded, len-nats, len-cells, len-typed}
 use Rattle.soundness.proofs.Runs.{Since, isFair, runAt}
 use Rattle.soundness.proofs.ReadBack.{runOf-good, table-back}
