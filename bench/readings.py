@@ -45,7 +45,7 @@ def cost(name, before, one, n=20):
 
 
 def main():
-    large = agreement(owes(within=1000000), [template(tree(11, owes()))] * 32)
+    large = agreement(owes(within=1000000), [template(tree(14, owes()))] * 32)
     inst = rec(22, bytes([0]))
     doubling = agreement(inst, [template(owes(both(inst, inst), within=1000000))])
     grown = doubling + b"".join(reading(101 + i) for i in range(6))
