@@ -1,41 +1,12 @@
 #!/usr/bin/env python3
 """Counts the instructions that `check` takes on agreements of about 2,048 and 16,384 bytes, and the least stack that
 the program `trials` runs in on a valid and on a hostile agreement. Needs target/bin/trials (rt check trials) and valgrind."""
-import os
-import re
 import resource
-import struct
 import subprocess
-import sys
 
-sys.path.insert(0, os.path.join(os.path.dirname(os.path.abspath(__file__)), "..", "crates", "trials"))
-ROOT = os.path.join(os.path.dirname(os.path.abspath(__file__)), "..")
-TRIALS = os.path.join(ROOT, "target", "bin", "trials")
+from records import NIL, agreement, instructions, lit, owes, program, rec, template, tree, u2
 
-
-def u2(n): return struct.pack("<H", n)
-def rec(kind, body=b""): return u2(4 + len(body)) + u2(kind) + body
-def lit(z): return rec(32, struct.pack("<i", z))
-
-
-YES, NIL = rec(33, b"\x01"), rec(16)
-
-
-def owes(where=YES): return rec(17, bytes([0, 1]) + where + lit(0) + lit(60) + NIL)
-
-
-def tree(n, leaf):
-    """n leaves joined by `and`, in balance."""
-    if n == 1:
-        return leaf
-    return rec(20, tree(n // 2, leaf) + tree(n - n // 2, leaf))
-
-
-def agreement(main, templates=()):
-    return rec(1, struct.pack("<I", 100) + bytes([2, 1, len(templates)]) + rec(2, bytes([1, 1])) + b"".join(templates) + main)
-
-
-def template(body): return rec(3, bytes([0, 0]) + u2(1) + body)
+TRIALS = program("trials")
 
 
 def bodies(size, make):
@@ -54,7 +25,7 @@ def clauses(size):
 def expressions(size):
     """Large conditions: a sum of many numbers."""
     def total(n): return lit(1) if n == 1 else rec(37, total(n // 2) + total(n - n // 2))
-    return bodies(size, lambda n: owes(rec(42, total(n) + lit(5))))
+    return bodies(size, lambda n: owes(where=rec(42, total(n) + lit(5))))
 
 
 def hostile(n):
@@ -66,11 +37,6 @@ def hostile(n):
 
 
 def stream(*agreements): return b"".join(u2(len(a)) + a for a in agreements)
-
-
-def instructions(data):
-    out = subprocess.run(["valgrind", "--tool=callgrind", "--callgrind-out-file=/dev/null", TRIALS], input=data, capture_output=True)
-    return int(re.search(rb"Collected : (\d+)", out.stderr).group(1))
 
 
 def least_stack(data):
@@ -85,12 +51,12 @@ def least_stack(data):
 
 
 def main():
-    base = instructions(stream())
+    base = instructions(TRIALS, stream())
     for name, make in (("small clauses", clauses), ("expressions", expressions)):
         counts = []
         for size in (2048, 4096, 8192, 16384):
             a = make(size)
-            n = instructions(stream(a)) - base
+            n = instructions(TRIALS, stream(a)) - base
             counts.append(n)
             print(f"{name}: {len(a)} bytes, {n} instructions, {n / len(a):.0f} a byte, {n / counts[0]:.2f} times the first")
     print(f"stack of the program on no agreement: {least_stack(stream())} KB")

@@ -1,5 +1,5 @@
-//! The vectors: 200 streams of the program, byte for byte, and 800 calls of the entries. Their
-//! folder is taken from the environment variable VECTORS; without it the tests are skipped.
+//! The streams of this repository, byte for byte; and a file of calls of the entries with their
+//! results, one to a line, which is not part of it: `CALLS=file cargo test -- --ignored`.
 
 #[path = "common/json.rs"]
 mod json;
@@ -11,18 +11,9 @@ use program::watch;
 use reference::{check, forecast, reading, start};
 use std::path::PathBuf;
 
-fn folder() -> Option<PathBuf> {
-    let folder = std::env::var_os("VECTORS").map(PathBuf::from);
-    if folder.is_none() {
-        println!("skipped: VECTORS is not set");
-    }
-    folder
-}
-
 #[test]
 fn streams() {
-    let Some(folder) = folder() else { return };
-    let folder = folder.join("streams");
+    let folder = PathBuf::from(env!("CARGO_MANIFEST_DIR")).join("../streams");
     let mut inputs: Vec<PathBuf> = std::fs::read_dir(folder)
         .expect("the folder streams")
         .map(|entry| entry.expect("an entry").path())
@@ -40,9 +31,10 @@ fn streams() {
 }
 
 #[test]
+#[ignore = "needs a file of calls, named by CALLS"]
 fn calls() {
-    let Some(folder) = folder() else { return };
-    let text = std::fs::read_to_string(folder.join("calls.jsonl")).expect("the calls");
+    let file = std::env::var_os("CALLS").expect("CALLS names the file");
+    let text = std::fs::read_to_string(file).expect("the calls");
     for (index, line) in text.lines().enumerate() {
         let call = Json::parse(line);
         match call.get("entry") {

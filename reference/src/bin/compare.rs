@@ -8,11 +8,8 @@ use std::path::{Path, PathBuf};
 use std::process::{exit, Command, Stdio};
 
 fn written(program: &Path, input: &[u8]) -> Vec<u8> {
-    let mut child = Command::new(program)
-        .stdin(Stdio::piped())
-        .stdout(Stdio::piped())
-        .spawn()
-        .expect("the program starts");
+    let mut child =
+        Command::new(program).stdin(Stdio::piped()).stdout(Stdio::piped()).spawn().expect("the program starts");
     let mut stdin = child.stdin.take().expect("its input");
     let bytes = input.to_vec();
     // a program may end before it has read all of its input

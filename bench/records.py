@@ -1,0 +1,37 @@
+"""Records of paper 01 for the measurements, and the instructions that a program takes on an input (by valgrind)."""
+import os
+import re
+import struct
+import subprocess
+
+ROOT = os.path.join(os.path.dirname(os.path.abspath(__file__)), "..")
+
+
+def u2(n): return struct.pack("<H", n)
+def rec(kind, body=b""): return u2(4 + len(body)) + u2(kind) + body
+def lit(z): return rec(32, struct.pack("<i", z))
+
+
+YES, NIL = rec(33, b"\x01"), rec(16)
+
+
+def owes(then=NIL, within=60, where=YES): return rec(17, bytes([0, 1]) + where + lit(0) + lit(within) + then)
+def both(a, b): return rec(20, a + b)
+def template(body): return rec(3, bytes([0, 0]) + u2(1) + body)
+
+
+def tree(n, leaf):
+    """n leaves joined by `and`, in balance."""
+    return leaf if n == 1 else both(tree(n // 2, leaf), tree(n - n // 2, leaf))
+
+
+def agreement(main, templates=()):
+    return rec(1, struct.pack("<I", 100) + bytes([2, 1, len(templates)]) + rec(2, bytes([1, 1])) + b"".join(templates) + main)
+
+
+def program(name): return os.path.join(ROOT, "target", "bin", name)
+
+
+def instructions(path, data):
+    out = subprocess.run(["valgrind", "--tool=callgrind", "--callgrind-out-file=/dev/null", path], input=data, capture_output=True)
+    return int(re.search(rb"Collected : (\d+)", out.stderr).group(1))
