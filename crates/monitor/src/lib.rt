@@ -6,6 +6,7 @@ ghost use lib.ListN.{length};
 ghost use Rattle.csl.specs.Check.{checkOf};
 ghost use Rattle.csl.specs.Entries.{startOf, readingOf, forecastOf};
 ghost use Rattle.records.specs.Index.{Indexed};
+ghost use Rattle.cells.specs.Across.{natOf};
 ghost use Rattle.rules.specs.Reduces.{Is};
 ghost use Rattle.state.specs.Shown.{RunningAs, Shows, runIn};
 ghost use Rattle.monitor.specs.Answers.{numberOf, checkAnswer, startAnswer, takenAnswer, forecastAnswer, Goes, Verified, mainReduced, Opened, Fitted, isDamaged};
@@ -346,7 +347,7 @@ pub fn forecast(agreement: &[u8], table: &[i64]) -> Foretold
 }
 
 // The paper's number of a refusal.
-pub fn number(refusal: Refusal) -> usize
+pub fn number(refusal: Refusal) -> u32
     ensures { λ r. ⌜ r ≡ numberOf refusal ⌝ }
 {
     match refusal {
@@ -362,4 +363,14 @@ pub fn number(refusal: Refusal) -> usize
         Refusal::ReadingTime => 10,
         Refusal::Units => 11,
     }
+}
+
+// A time as the callers take it: an unsigned number.
+pub fn minutes(time: i64) -> u64
+    ensures { λ r. ⌜ r ≡ natOf time ⌝ }
+{
+    if time < 0 {
+        return 0;
+    }
+    time as u64
 }

@@ -17,7 +17,7 @@ struct Turn {
 
 // The answer's number and parties.
 struct Answer {
-    number: usize,
+    number: u32,
     parties: usize,
 }
 

@@ -6,6 +6,7 @@ use monitor::Foretold;
 use monitor::Refusal;
 use monitor::Started;
 use monitor::Taken;
+use monitor::minutes;
 use stream::flush;
 use stream::make_room;
 use stream::put;
@@ -31,14 +32,6 @@ fn take_record(buf: &mut [u8]) -> usize {
     if body < 65_536 { 2 + body } else { 2 }
 }
 
-// A number that is not negative; 0 otherwise.
-fn natural(x: i64) -> u64 {
-    if x < 0 {
-        return 0;
-    }
-    x as u64
-}
-
 // A line's number and its time.
 fn put_start(out: &mut [u8], at: usize, n: u64, time: usize) -> usize {
     let a = put_decimal(out, at, n);
@@ -52,7 +45,7 @@ fn put_timeless(out: &mut [u8], at: usize, n: u64) -> usize {
 }
 
 // The refusal's number.
-fn put_number(out: &mut [u8], at: usize, number: usize) -> usize {
+fn put_number(out: &mut [u8], at: usize, number: u32) -> usize {
     let a = put_all(out, at, b" REFUSED");
     let b = put_next(out, a, number as u64);
     put(out, b, b'\n')
@@ -62,7 +55,7 @@ fn put_number(out: &mut [u8], at: usize, number: usize) -> usize {
 fn put_forecast(out: &mut [u8], at: usize, agreement: &[u8], table: &[i64]) -> usize {
     match monitor::forecast(agreement, table) {
         Foretold::Breach(t, bits) => {
-            let a = put_next(out, at, natural(t));
+            let a = put_next(out, at, minutes(t));
             put_next(out, a, bits as u64)
         }
         Foretold::Nothing => put_all(out, at, b" NONE"),

@@ -1,0 +1,73 @@
+// The entries as C functions: a slice is a pointer and a length. include/givuntha.h declares and documents them.
+ghost use mathlib.Core.Path.{_≡_};
+ghost use Rattle.csl.specs.Check.{CheckAnswer, checkOf};
+ghost use Rattle.csl.specs.Entries.{Answer, startOf, readingOf, forecastOf};
+ghost use Rattle.monitor_c.specs.Numbers.{ForecastNumbers, forecastNumbers};
+use monitor::Checked;
+use monitor::Foretold;
+use monitor::Started;
+use monitor::Taken;
+
+#[no_mangle]
+pub extern "C" fn givuntha_check(agreement: &[u8], parties: &mut u64) -> u32
+    ensures { λ r. ⌜ record { number = r; parties = now (parties .exit) } ≡ checkOf (now (agreement .entry)) ⌝ }
+{
+    match monitor::check(agreement) {
+        Checked::Accepted(bits) => {
+            *parties = bits as u64;
+            0
+        }
+        Checked::Refused(why) => {
+            *parties = 0;
+            monitor::number(why)
+        }
+    }
+}
+
+#[no_mangle]
+pub extern "C" fn givuntha_start(agreement: &[u8], table: &mut [i64]) -> u32
+    ensures { λ r. ⌜ record { number = r; table = now (table .exit) } ≡ startOf (now (agreement .entry)) (now (table .entry)) ⌝ }
+{
+    match monitor::start(agreement, table) {
+        Started::Begun => 0,
+        Started::Refused(why) => monitor::number(why),
+    }
+}
+
+#[no_mangle]
+pub extern "C" fn givuntha_reading(agreement: &[u8], table: &mut [i64], reading: &[u8]) -> u32
+    ensures { λ r. ⌜ record { number = r; table = now (table .exit) } ≡ readingOf (now (agreement .entry)) (now (table .entry)) (now (reading .entry)) ⌝ }
+{
+    match monitor::reading(agreement, table, reading) {
+        Taken::Accepted => 0,
+        Taken::Refused(why) => monitor::number(why),
+    }
+}
+
+#[no_mangle]
+pub extern "C" fn givuntha_forecast(
+    agreement: &[u8],
+    table: &[i64],
+    time: &mut u64,
+    parties: &mut u64,
+) -> u32
+    ensures { λ r. ⌜ record { number = r; time = now (time .exit); parties = now (parties .exit) } ≡ forecastNumbers (forecastOf (now (agreement .entry)) (now (table .entry))) ⌝ }
+{
+    match monitor::forecast(agreement, table) {
+        Foretold::Nothing => {
+            *time = 0;
+            *parties = 0;
+            0
+        }
+        Foretold::Breach(t, bits) => {
+            *time = monitor::minutes(t);
+            *parties = bits as u64;
+            0
+        }
+        Foretold::Refused(why) => {
+            *time = 0;
+            *parties = 0;
+            monitor::number(why)
+        }
+    }
+}
