@@ -1,0 +1,68 @@
+//! The command `agreement`.
+
+use std::fmt::Display;
+use std::io::{self, Read, Write};
+use std::process::ExitCode;
+use tools::readings::readings;
+use tools::{assemble, Assembled};
+
+const USAGE: &str = "\
+usage: agreement assemble FILE                  text to an agreement record
+       agreement readings [--for TEXT] FILE     lines `TIME TYPE VALUE..` to reading records
+
+FILE may be - for standard input. Results go to standard output; what is wrong with an input goes to
+standard error as FILE:LINE:COLUMN, with exit status 1.
+
+This tool is not proved. What `assemble` writes is checked by the monitor's entry `check`, which alone
+decides whether an agreement is accepted.
+";
+
+fn main() -> ExitCode {
+    let arguments: Vec<String> = std::env::args().skip(1).collect();
+    let arguments: Vec<&str> = arguments.iter().map(String::as_str).collect();
+    let output = match arguments[..] {
+        ["assemble", file] => assembled(file).map(|assembled| assembled.bytes),
+        ["readings", file] => stream(file, None),
+        ["readings", "--for", text, file] => stream(file, Some(text)),
+        ["--help" | "-h" | "help"] => Ok(USAGE.as_bytes().to_vec()),
+        _ => {
+            eprint!("{USAGE}");
+            return ExitCode::from(2);
+        }
+    };
+    match output.and_then(|bytes| write(&bytes)) {
+        Ok(()) => ExitCode::SUCCESS,
+        Err(what) => {
+            eprintln!("{what}");
+            ExitCode::from(1)
+        }
+    }
+}
+
+fn assembled(file: &str) -> Result<Assembled, String> {
+    assemble(&read(file)?).map_err(|fault| told(file, fault))
+}
+
+fn stream(file: &str, text: Option<&str>) -> Result<Vec<u8>, String> {
+    let assembled = text.map(assembled).transpose()?;
+    let agreement = assembled.as_ref().map(|assembled| &assembled.agreement);
+    readings(&read(file)?, agreement).map_err(|fault| told(file, fault))
+}
+
+fn told(file: &str, fault: impl Display) -> String {
+    format!("{file}:{fault}")
+}
+
+fn read(file: &str) -> Result<Vec<u8>, String> {
+    let mut bytes = Vec::new();
+    let result = match file {
+        "-" => io::stdin().lock().read_to_end(&mut bytes).map(|_| bytes),
+        _ => std::fs::read(file),
+    };
+    result.map_err(|error| format!("{file}: {error}"))
+}
+
+fn write(bytes: &[u8]) -> Result<(), String> {
+    let mut output = io::stdout().lock();
+    output.write_all(bytes).and_then(|()| output.flush()).map_err(|error| format!("standard output: {error}"))
+}
