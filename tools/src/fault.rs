@@ -57,3 +57,23 @@ pub fn utf8(bytes: &[u8]) -> Result<&str, Fault> {
         Fault::new(good.chars().fold(Place::START, Place::after), "bytes that are no UTF-8 text")
     })
 }
+
+/// What is wrong with a record.
+#[derive(Clone, Debug, PartialEq, Eq)]
+pub struct ByteFault {
+    /// The byte place, counted from 0.
+    pub at: usize,
+    pub what: String,
+}
+
+impl ByteFault {
+    pub fn err<T>(at: usize, what: impl Into<String>) -> Result<T, ByteFault> {
+        Err(ByteFault { at, what: what.into() })
+    }
+}
+
+impl fmt::Display for ByteFault {
+    fn fmt(&self, f: &mut fmt::Formatter) -> fmt::Result {
+        write!(f, "byte {}: {}", self.at, self.what)
+    }
+}

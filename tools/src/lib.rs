@@ -1,22 +1,28 @@
 //! Agreements as text, for people.
 //!
 //! Text is cut into tokens ([`text`]), read as a tree ([`parse`], [`syntax`]), its names are made
-//! numbers ([`resolve`]), and records are written ([`assemble`]).
+//! numbers ([`resolve`], [`model`]), and records are written ([`assemble`](mod@assemble)). A record
+//! is read back ([`decode`]) and printed as text ([`print`]). Lines become reading records
+//! ([`readings`]).
 //!
 //! Nothing here is proved. What the assembler writes is checked by the library's entry `check`,
 //! which alone decides whether an agreement is accepted.
 
 pub mod assemble;
 pub mod dates;
+pub mod decode;
+pub mod disassemble;
 mod encode;
 pub mod fault;
 pub mod limits;
 pub mod model;
 mod numbers;
 pub mod parse;
+pub mod print;
 pub mod readings;
 pub mod resolve;
 pub mod syntax;
 pub mod text;
 
 pub use assemble::{assemble, Assembled};
+pub use disassemble::disassemble;

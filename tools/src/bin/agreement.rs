@@ -4,10 +4,11 @@ use std::fmt::Display;
 use std::io::{self, Read, Write};
 use std::process::ExitCode;
 use tools::readings::readings;
-use tools::{assemble, Assembled};
+use tools::{assemble, disassemble, Assembled};
 
 const USAGE: &str = "\
 usage: agreement assemble FILE                  text to an agreement record
+       agreement disassemble FILE               an agreement record to text with invented names
        agreement readings [--for TEXT] FILE     lines `TIME TYPE VALUE..` to reading records
 
 FILE may be - for standard input. Results go to standard output; what is wrong with an input goes to
@@ -22,6 +23,7 @@ fn main() -> ExitCode {
     let arguments: Vec<&str> = arguments.iter().map(String::as_str).collect();
     let output = match arguments[..] {
         ["assemble", file] => assembled(file).map(|assembled| assembled.bytes),
+        ["disassemble", file] => disassembled(file).map(String::into_bytes),
         ["readings", file] => stream(file, None),
         ["readings", "--for", text, file] => stream(file, Some(text)),
         ["--help" | "-h" | "help"] => Ok(USAGE.as_bytes().to_vec()),
@@ -41,6 +43,10 @@ fn main() -> ExitCode {
 
 fn assembled(file: &str) -> Result<Assembled, String> {
     assemble(&read(file)?).map_err(|fault| told(file, fault))
+}
+
+fn disassembled(file: &str) -> Result<String, String> {
+    disassemble(&read(file)?).map_err(|fault| format!("{file}: {fault}"))
 }
 
 fn stream(file: &str, text: Option<&str>) -> Result<Vec<u8>, String> {
