@@ -3,7 +3,7 @@
 //! Text is cut into tokens ([`text`]), read as a tree ([`parse`], [`syntax`]), its names are made
 //! numbers ([`resolve`], [`model`]), and records are written ([`assemble`](mod@assemble)). A record
 //! is read back ([`decode`]) and printed as text ([`print`]). Lines become reading records
-//! ([`readings`]).
+//! ([`readings`]), and a table is told in words ([`table`], [`explain`](mod@explain)).
 //!
 //! Nothing here is proved. What the assembler writes is checked by the library's entry `check`,
 //! which alone decides whether an agreement is accepted.
@@ -13,7 +13,9 @@ pub mod dates;
 pub mod decode;
 pub mod disassemble;
 mod encode;
+pub mod explain;
 pub mod fault;
+mod known;
 pub mod limits;
 pub mod model;
 mod numbers;
@@ -21,8 +23,11 @@ pub mod parse;
 pub mod print;
 pub mod readings;
 pub mod resolve;
+mod sites;
 pub mod syntax;
+pub mod table;
 pub mod text;
 
 pub use assemble::{assemble, Assembled};
 pub use disassemble::disassemble;
+pub use explain::explain;

@@ -3,7 +3,7 @@
 mod clauses;
 mod expressions;
 
-use crate::model::{Agreement, Head, Template, Value};
+use crate::model::{Agreement, Head, Template, Value, Wait};
 
 /// Lines are kept to this many columns where parts can be put on lines of their own.
 const WIDTH: usize = 100;
@@ -35,8 +35,18 @@ impl Sight {
         Sight { values: head.values.clone(), parameters: head.parameters.clone() }
     }
 
+    /// What `where` sees.
+    pub fn inside(&self, wait: &Wait) -> Sight {
+        self.with(&wait.bound)
+    }
+
+    /// What `then` sees.
+    pub fn after(&self, wait: &Wait) -> Sight {
+        self.inside(wait).with(std::slice::from_ref(&wait.remaining))
+    }
+
     /// The same with further values.
-    pub fn with(&self, bound: &[Value]) -> Sight {
+    fn with(&self, bound: &[Value]) -> Sight {
         let mut sight = self.clone();
         sight.values.extend_from_slice(bound);
         sight

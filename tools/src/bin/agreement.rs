@@ -3,13 +3,17 @@
 use std::fmt::Display;
 use std::io::{self, Read, Write};
 use std::process::ExitCode;
+use tools::decode::decode;
+use tools::explain::Context;
 use tools::readings::readings;
-use tools::{assemble, disassemble, Assembled};
+use tools::{assemble, disassemble, explain, Assembled};
 
 const USAGE: &str = "\
 usage: agreement assemble FILE                  text to an agreement record
        agreement disassemble FILE               an agreement record to text with invented names
        agreement readings [--for TEXT] FILE     lines `TIME TYPE VALUE..` to reading records
+       agreement explain [--for TEXT | --agreement RECORD] TABLE
+                                                a table of 24,640 bytes in words
 
 FILE may be - for standard input. Results go to standard output; what is wrong with an input goes to
 standard error as FILE:LINE:COLUMN, with exit status 1.
@@ -26,6 +30,9 @@ fn main() -> ExitCode {
         ["disassemble", file] => disassembled(file).map(String::into_bytes),
         ["readings", file] => stream(file, None),
         ["readings", "--for", text, file] => stream(file, Some(text)),
+        ["explain", table] => explained(table, None),
+        ["explain", "--for", text, table] => explained_for(table, text),
+        ["explain", "--agreement", record, table] => explained_by(table, record),
         ["--help" | "-h" | "help"] => Ok(USAGE.as_bytes().to_vec()),
         _ => {
             eprint!("{USAGE}");
@@ -53,6 +60,21 @@ fn stream(file: &str, text: Option<&str>) -> Result<Vec<u8>, String> {
     let assembled = text.map(assembled).transpose()?;
     let agreement = assembled.as_ref().map(|assembled| &assembled.agreement);
     readings(&read(file)?, agreement).map_err(|fault| told(file, fault))
+}
+
+fn explained(table: &str, context: Option<Context>) -> Result<Vec<u8>, String> {
+    let words = explain(&read(table)?, context).map_err(|what| format!("{table}: {what}"))?;
+    Ok(words.into_bytes())
+}
+
+fn explained_for(table: &str, text: &str) -> Result<Vec<u8>, String> {
+    let assembled = assembled(text)?;
+    explained(table, Some(Context { agreement: &assembled.agreement, dated: assembled.dated }))
+}
+
+fn explained_by(table: &str, record: &str) -> Result<Vec<u8>, String> {
+    let agreement = decode(&read(record)?).map_err(|fault| format!("{record}: {fault}"))?;
+    explained(table, Some(Context { agreement: &agreement, dated: false }))
 }
 
 fn told(file: &str, fault: impl Display) -> String {

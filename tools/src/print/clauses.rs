@@ -59,10 +59,10 @@ impl Printer<'_> {
     fn wait_line(&self, wait: &Wait, sight: &Sight) -> String {
         let mut line = self.reading(wait, sight);
         if wait.condition != Expression::TRUE {
-            line += &format!(" where {}", self.expression(&wait.condition, &inside(wait, sight)));
+            line += &format!(" where {}", self.expression(&wait.condition, &sight.inside(wait)));
         }
         line += &format!(" {}", self.deadline(wait, sight));
-        line += &self.optional_line("then", &wait.then, wait_closes(wait), &after_all(wait, sight));
+        line += &self.optional_line("then", &wait.then, wait_closes(wait), &sight.after(wait));
         match &wait.late {
             Late::Breach(_) => line,
             Late::Else(otherwise) => line + &self.optional_line("else", otherwise, false, sight),
@@ -74,10 +74,10 @@ impl Printer<'_> {
         lines.push(reading);
         if wait.condition != Expression::TRUE {
             let head = format!("{}where", margin(indent + 1));
-            self.condition_lines(head, &wait.condition, &inside(wait, sight), indent + 1, lines);
+            self.condition_lines(head, &wait.condition, &sight.inside(wait), indent + 1, lines);
         }
         lines.push(format!("{}{}", margin(indent + 1), self.deadline(wait, sight)));
-        self.optional_lines("then", &wait.then, wait_closes(wait), &after_all(wait, sight), indent, lines);
+        self.optional_lines("then", &wait.then, wait_closes(wait), &sight.after(wait), indent, lines);
         if let Late::Else(otherwise) = &wait.late {
             self.optional_lines("else", otherwise, false, sight, indent, lines);
         }
@@ -109,10 +109,9 @@ impl Printer<'_> {
             Expression::Number(0) if after.is_empty() => "immediately".to_string(),
             within => format!("within {}", self.sum(within, sight)),
         };
-        let inside = inside(wait, sight);
-        let remaining = inside.values.len();
+        let remaining = sight.values.len() + wait.bound.len();
         match uses(&wait.then, remaining) {
-            true => format!("due {after}{within} remaining {}", value_name(remaining, &after_all(wait, sight))),
+            true => format!("due {after}{within} remaining {}", value_name(remaining, &sight.after(wait))),
             false => format!("due {after}{within}"),
         }
     }
@@ -239,16 +238,6 @@ fn joining(clause: &Clause) -> &'static str {
     } else {
         "or"
     }
-}
-
-/// What `where` sees.
-fn inside(wait: &Wait, sight: &Sight) -> Sight {
-    sight.with(&wait.bound)
-}
-
-/// What `then` sees.
-fn after_all(wait: &Wait, sight: &Sight) -> Sight {
-    inside(wait, sight).with(std::slice::from_ref(&wait.remaining))
 }
 
 /// Whether a side of `and` or `or` needs parentheses. Joins group to the left; a clause with a
