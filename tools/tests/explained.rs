@@ -96,7 +96,7 @@ both of
     where s = Buyer && g = 1
     from 21564000 (2011-01-01) to 21584160 (2011-01-15)
     then <Seller> Payment(s, a) where s = Seller && a = 200 due within 7D
-    else at 21584160 (2011-01-15) fulfilment
+    else at 21584160 (2011-01-15): fulfilment
 ";
     assert_eq!(told(SALE, &[delivered, paid]), expected);
     let late = told(SALE, &[delivered, paid, (DAY + 45 * 1440, 0, &[])]);
@@ -152,7 +152,7 @@ all of
   N(_, _) may come
     from 10 to 71
     then fulfilment
-    else at 71 <A> N(x, _) where 0 <= x due within 90
+    else at 71: <A> N(x, _) where 0 <= x due within 90
 ";
     assert_eq!(told(text, &[]), expected);
 }

@@ -80,7 +80,7 @@ impl Teller<'_, '_> {
         lines.push(format!("  then {}", self.clause(&wait.then, unit, &unit.sight.after(wait))));
         lines.push(match &wait.late {
             Late::Breach(_) => format!("  else a breach at {late}"),
-            Late::Else(otherwise) => format!("  else at {late} {}", self.clause(otherwise, unit, &unit.sight)),
+            Late::Else(otherwise) => format!("  else at {late}: {}", self.clause(otherwise, unit, &unit.sight)),
         });
         Ok(lines)
     }
