@@ -2,8 +2,11 @@
 
 mod clauses;
 mod expressions;
+mod layout;
+mod parentheses;
 
-use crate::model::{Agreement, Head, Template, Value, Wait};
+use crate::model::{Agreement, Head, Value, Wait};
+use layout::Layout;
 
 /// Lines are kept to this many columns where parts can be put on lines of their own.
 const WIDTH: usize = 100;
@@ -56,33 +59,32 @@ impl Sight {
 /// The whole agreement, a line or more to each declaration and clause.
 pub fn print(agreement: &Agreement) -> String {
     let printer = Printer { agreement, spelling: Spelling::Exact };
-    let mut lines = vec![format!("parties {}", agreement.parties.join(", ")), "readings".to_string()];
+    let mut layout = Layout { printer: &printer, lines: Vec::new() };
+    layout.push(0, &format!("parties {}", agreement.parties.join(", ")));
+    layout.push(0, "readings");
     for reading in &agreement.readings {
-        lines.push(format!("  {}({})", reading.name, parameters(&reading.values)));
+        layout.push(1, &format!("{}({})", reading.name, parameters(&reading.values)));
     }
     if !agreement.templates.is_empty() {
-        lines.push("letrec".to_string());
-        agreement.templates.iter().for_each(|template| printer.template(template, &mut lines));
+        layout.push(0, "letrec");
     }
-    lines.push("in".to_string());
-    printer.clause(&agreement.main, &Sight::default(), 1, &mut lines);
-    lines.push(format!("starting {}", agreement.start));
-    lines.join("\n") + "\n"
+    for template in &agreement.templates {
+        layout.push(1, &printer.head(&template.head));
+        layout.clause(&template.body, &Sight::of_template(&template.head), 2);
+    }
+    layout.push(0, "in");
+    layout.clause(&agreement.main, &Sight::default(), 1);
+    layout.push(0, &format!("starting {}", agreement.start));
+    layout.lines.join("\n") + "\n"
 }
 
 impl Printer<'_> {
-    fn template(&self, template: &Template, lines: &mut Vec<String>) {
-        let head = &template.head;
-        let declared: Vec<&str> = (0..)
-            .zip(&self.agreement.parties)
-            .filter_map(|(n, party)| (head.declared >> n & 1 == 1).then_some(party.as_str()))
-            .collect();
-        let mut line = format!("  {}({}){}", head.name, parameters(&head.values), angles(&head.parameters));
-        if !declared.is_empty() {
-            line += &format!(" declares {}", declared.join(", "));
-        }
-        lines.push(line + " =");
-        self.clause(&template.body, &Sight::of_template(head), 2, lines);
+    fn head(&self, head: &Head) -> String {
+        let is_declared = |party: &usize| head.declared >> party & 1 == 1;
+        let declared: Vec<_> =
+            (0..self.agreement.parties.len()).filter(is_declared).map(|party| self.party(party)).collect();
+        let declares = if declared.is_empty() { String::new() } else { format!(" declares {}", declared.join(", ")) };
+        format!("{}({}){}{declares} =", head.name, parameters(&head.values), angles(&head.parameters))
     }
 }
 

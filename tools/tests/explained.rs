@@ -54,24 +54,7 @@ Keeper owes Salinity(level)
     assert_eq!(told(SAMPLE, &[(161, 0, &[])]), "breached at 160 by Keeper, last reading at 161\n");
 }
 
-const SALE: &str = "\
-parties Buyer, Seller
-readings
-  Deliver(sender: party, goods: number)
-  Payment(sender: party, amount: number)
-  Return(sender: party, goods: number)
-letrec
-  sale(deadline: number, goods: number, price: number)<buyer, seller> declares Buyer, Seller =
-    <seller> Deliver(s, g) where s = Seller && g = goods due within deadline then
-    <buyer> Payment(s, a) where s = Buyer && a = price / 2 due immediately then
-    (<buyer> Payment(s, a) where s = Buyer && a = price / 2 due within 30D or
-     <buyer> Payment(s, a) where s = Buyer && a = price / 2 * 110 / 100 due within 14D after 30D)
-    and
-    if Return(s, g) where s = Buyer && g = goods due within 14D then
-      <seller> Payment(s, a) where s = Seller && a = price due within 7D
-in sale(0, 1, 200)<Buyer, Seller>
-starting 2011-01-01
-";
+const SALE: &str = include_str!("sale.csl");
 const DAY: u32 = 21_564_000;
 
 #[test]
@@ -99,6 +82,7 @@ both of
     else at 21584160 (2011-01-15): fulfilment
 ";
     assert_eq!(told(SALE, &[delivered, paid]), expected);
+    assert!(include_str!("../README.md").contains(expected));
     let late = told(SALE, &[delivered, paid, (DAY + 45 * 1440, 0, &[])]);
     assert_eq!(late, "breached at 21627360 (2011-02-14) by Buyer, last reading at 21628800 (2011-02-15)\n");
 }

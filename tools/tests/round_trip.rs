@@ -65,11 +65,56 @@ fn any_bytes() {
     }
 }
 
-/// Every text of the examples, and the sample here.
+/// A text of a clause over many lines: every layout there is.
+#[test]
+fn layout() {
+    let text = "\
+parties P0, P1
+readings
+  R1(v0: number, v1: party)
+  R2()
+letrec
+  T0(v0: number, v1: number)<p0> declares P1 =
+    <p0> R1(v2, v3)
+      where v2 = 1000000000
+        && v3 = P1
+        && v2 < v0 + 1000000
+        && v2 < v1 - 1000000
+        && !(v2 < v0 * 2)
+        && !(v2 < v1 / 2)
+      due after v0 within 1440 remaining v4
+    then
+      T0(
+        v0 + v1 + v2 + v4 + 1000000 + 1000000 + 1000000,
+        v0 - (v1 - (v2 - (v4 - 1000000))) - 1000000 - 1000000
+      )<p0>
+  T1() =
+    if R2() due immediately then (if R2() due within 5) else fulfilment and fulfilment
+in
+  if 1000000000 < 1000000000 + 1000000000 + 1000000000 + 1000000000
+    && 1000000000 < 1000000000
+    && !(1 = -1)
+  then (
+    if R1(v0, v1) where v1 = P0 && !(v0 < 250) && v0 < 1000 due within 1000 then T0(100000, 200)<P0>
+  )
+  else
+    <P0> R2() due within 60 and T0(10000000, 20000000)<P1> and (T0(3000, 4000)<P0> or T1())
+    and
+    (
+      <P1> R2() due after -5 within 60 then <P0> R2() due within 60 or T0(100000, 20000000)<P0>
+    )
+starting 4294967295
+";
+    let bytes = assembled(text);
+    assert_eq!(disassembled(&bytes), text);
+}
+
+/// Every text of the examples, and those here.
 #[test]
 fn example_texts() {
     let root = Path::new(env!("CARGO_MANIFEST_DIR"));
-    let mut texts = vec![root.join("tests/sample.csl")];
+    let mut texts = Vec::new();
+    find(&root.join("tests"), &mut texts);
     find(&root.join("../examples"), &mut texts);
     for path in &texts {
         let text = std::fs::read_to_string(path).expect("a text");
@@ -77,7 +122,7 @@ fn example_texts() {
         assert_eq!(check(&bytes).number, 0, "{}", path.display());
         round_trip(&bytes);
     }
-    assert!(!texts.is_empty());
+    assert!(texts.contains(&root.join("tests/sample.csl")));
 }
 
 /// The texts in a directory and in those below it.

@@ -86,7 +86,7 @@ impl Teller<'_, '_> {
     }
 
     fn clause(&self, clause: &Clause, unit: &Unit, sight: &Sight) -> String {
-        let line = self.printer.line(&unit.known.clause(clause), sight);
+        let line = self.printer.clause(&unit.known.clause(clause), sight);
         match line.chars().count() {
             0..=SHORT => line,
             _ => "more than fits here".to_string(),
