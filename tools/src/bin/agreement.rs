@@ -23,7 +23,9 @@ decides whether an agreement is accepted.
 ";
 
 fn main() -> ExitCode {
-    let arguments: Vec<String> = std::env::args().skip(1).collect();
+    // Arguments that are no text are none that the command knows.
+    let arguments = std::env::args_os().skip(1).map(|argument| argument.into_string());
+    let arguments: Vec<String> = arguments.collect::<Result<_, _>>().unwrap_or_default();
     let arguments: Vec<&str> = arguments.iter().map(String::as_str).collect();
     let output = match arguments[..] {
         ["assemble", file] => assembled(file).map(|assembled| assembled.bytes),

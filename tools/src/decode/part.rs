@@ -38,7 +38,7 @@ impl<'a> Part<'a> {
         if index < bound {
             return Ok(index);
         }
-        ByteFault::err(at, format!("{what} {index} where there are {bound}"))
+        ByteFault::err(at, format!("{what} {index}, beyond the {bound} there are (counted from 0)"))
     }
 
     pub fn count(&mut self, least: usize, most: usize, what: &str) -> Result<usize, ByteFault> {
