@@ -73,15 +73,24 @@ fn head(tree: &syntax::Template, agreement: &syntax::Agreement, meter: &mut Mete
     limited(&tree.values, limits::TEMPLATE_VALUES, "values of a template", |value| &value.name)?;
     limited(&tree.parameters, limits::PARAMETERS, "party parameters", |name| name)?;
     distinct_values(&tree.values, &tree.parameters)?;
-    distinct(&tree.declared, "party")?;
     meter.record(tree.name.at, 2, 1 + tree.values.len() + 3)?;
-    let mut declared = 0;
-    for party in &tree.declared {
-        let bit = agreement.parties.iter().position(|known| known.text == party.text);
-        declared |= 1 << bit.ok_or_else(|| scope::unknown("party", party))?;
-    }
+    let declared = declared(tree, agreement)?;
     let parameters = tree.parameters.iter().map(|name| name.text.clone()).collect();
     Ok(Head { name: tree.name.text.clone(), values: values(&tree.values), parameters, declared })
+}
+
+/// The declared parties by bit.
+fn declared(tree: &syntax::Template, agreement: &syntax::Agreement) -> Result<u16, Fault> {
+    let mut declared = 0;
+    for party in &tree.declared {
+        let known = agreement.parties.iter().position(|known| known.text == party.text);
+        let bit = 1 << known.ok_or_else(|| scope::unknown("party", party))?;
+        if declared & bit != 0 {
+            return Fault::err(party.at, named_twice("party", party));
+        }
+        declared |= bit;
+    }
+    Ok(declared)
 }
 
 fn values(parameters: &[Parameter]) -> Vec<Value> {
@@ -105,11 +114,15 @@ fn distinct<'n>(names: impl IntoIterator<Item = &'n Name>, what: &str) -> Result
             return Fault::err(name.at, format!("`_` names no {what}"));
         }
         if known.contains(&name.text.as_str()) {
-            return Fault::err(name.at, format!("the {what} `{}` is named twice", name.text));
+            return Fault::err(name.at, named_twice(what, name));
         }
         known.push(&name.text);
     }
     Ok(())
+}
+
+fn named_twice(what: &str, name: &Name) -> String {
+    format!("the {what} `{}` is named twice", name.text)
 }
 
 /// The names bound at one place: each once, but for `_`.
