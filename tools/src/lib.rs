@@ -2,7 +2,7 @@
 //!
 //! Text is cut into tokens ([`text`]), read as a tree ([`parse`], [`syntax`]), its names are made
 //! numbers ([`resolve`], [`model`]), and records are written ([`assemble`](mod@assemble)). A record
-//! is read back ([`decode`]) and printed as text ([`print`]). Lines become reading records
+//! is read back ([`decode`]) and printed as text ([`print`](mod@print)). Lines become reading records
 //! ([`readings`]), and a table is told in words ([`table`], [`explain`](mod@explain)).
 //!
 //! Nothing here is proved. What the assembler writes is checked by the library's entry `check`,
