@@ -1,0 +1,73 @@
+//! The names in sight.
+
+use crate::fault::Fault;
+use crate::limits;
+use crate::model::{Blame, Expression, Head, Value};
+use crate::syntax::Name;
+
+#[derive(Clone)]
+pub struct Scope {
+    parties: Vec<String>,
+    parameters: Vec<String>,
+    /// "the template's, then those bound outside in"
+    values: Vec<Value>,
+}
+
+impl Scope {
+    /// What the main clause sees.
+    pub fn empty(parties: &[Name]) -> Scope {
+        let parties = parties.iter().map(|party| party.text.clone()).collect();
+        Scope { parties, parameters: Vec::new(), values: Vec::new() }
+    }
+
+    /// What a template's body sees.
+    pub fn of_template(&self, head: &Head) -> Scope {
+        Scope { parties: self.parties.clone(), parameters: head.parameters.clone(), values: head.values.clone() }
+    }
+
+    /// The same with further values; the reading that binds them is named for the message.
+    pub fn with(&self, bound: &[Value], reading: &Name) -> Result<Scope, Fault> {
+        let mut scope = self.clone();
+        scope.values.extend_from_slice(bound);
+        match scope.values.len() {
+            0..=limits::SIGHT => Ok(scope),
+            over => Fault::err(reading.at, format!("{over} values would be in sight: at most {}", limits::SIGHT)),
+        }
+    }
+
+    /// What a name stands for in an expression. An inner name hides an outer one.
+    pub fn value(&self, name: &Name) -> Result<Expression, Fault> {
+        if let Some(value) = self.values.iter().rposition(|value| is(&value.name, name)) {
+            return Ok(Expression::Value(value));
+        }
+        if self.parameters.iter().any(|parameter| is(parameter, name)) {
+            let what = format!("`{}` is a party parameter; those are no values, so no expression has them", name.text);
+            return Fault::err(name.at, what);
+        }
+        match self.parties.iter().position(|party| is(party, name)) {
+            Some(party) => Ok(Expression::Party(party)),
+            None => Err(unknown("value", name)),
+        }
+    }
+
+    /// "A blame byte is a party below the party count, or 128 to 131 for the template's party
+    /// parameter 0 to 3."
+    pub fn blame(&self, name: &Name) -> Result<Blame, Fault> {
+        if self.values.iter().any(|value| is(&value.name, name)) {
+            let what = format!("`{}` is a value here; to blame is a party or a party parameter", name.text);
+            return Fault::err(name.at, what);
+        }
+        let parameter = self.parameters.iter().position(|parameter| is(parameter, name)).map(Blame::Parameter);
+        let party = || self.parties.iter().position(|party| is(party, name)).map(Blame::Party);
+        parameter.or_else(party).ok_or_else(|| unknown("party", name))
+    }
+}
+
+/// `_` binds no name.
+fn is(known: &str, name: &Name) -> bool {
+    known == name.text && known != "_"
+}
+
+pub fn unknown(what: &str, name: &Name) -> Fault {
+    Fault::new(name.at, format!("unknown {what} `{}`", name.text))
+}

@@ -1,0 +1,40 @@
+//! What README.md shows is so.
+
+use tools::assemble;
+use tools::readings::readings;
+
+const README: &str = include_str!("../README.md");
+
+/// The blocks between lines of three backticks.
+fn blocks() -> Vec<&'static str> {
+    README.split("```\n").skip(1).step_by(2).collect()
+}
+
+fn block(beginning: &str) -> &'static str {
+    blocks().into_iter().find(|block| block.starts_with(beginning)).unwrap_or_else(|| panic!("{beginning}"))
+}
+
+#[test]
+fn its_agreements_are_those_of_the_tests() {
+    assert!(blocks().contains(&include_str!("sample.csl")));
+    assert!(blocks().contains(&include_str!("watch.csl")));
+}
+
+#[test]
+fn its_lines_are_readings() {
+    let sale = assemble(include_bytes!("sale.csl")).unwrap_or_else(|fault| panic!("{fault}"));
+    let stream = readings(block("-- TIME TYPE VALUE..").as_bytes(), Some(&sale.agreement));
+    let stream = stream.unwrap_or_else(|fault| panic!("{fault}"));
+    assert_eq!(stream.len(), 17 + 17 + 9 + 13);
+    assert_eq!(stream[..17], stream[17..34]);
+}
+
+#[test]
+fn its_commands_are_those_of_the_usage() {
+    let usage = include_str!("../src/bin/agreement.rs");
+    for line in block("agreement assemble").lines() {
+        let command = line.split("  ").next().unwrap_or(line);
+        let command = command.split(" TABLE").next().unwrap_or(command);
+        assert!(usage.contains(command), "{command}");
+    }
+}
