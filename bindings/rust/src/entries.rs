@@ -1,0 +1,108 @@
+//! The four entries on lent memory.
+//!
+//! Why the calls are right, for each of them alike: a slice's pointer is not null and aligned, also where the slice is
+//! empty, and the slice is as long as its length says; what is lent as `&mut` overlaps nothing else and nobody else
+//! uses it meanwhile; the library keeps no pointer and has no state; and `touch` sees to the stack. This is all that
+//! `include/givuntha.h` asks of a caller: every content is allowed, the contracts require nothing of it.
+
+use crate::parties::Parties;
+use crate::raw;
+use crate::refusal::Refusal;
+use crate::stack::touch;
+
+/// A breach: its time in minutes, and who is to blame.
+#[derive(Clone, Copy, Debug, PartialEq, Eq, Hash)]
+pub struct Breach {
+    /// A forecast time may exceed 32 bits.
+    pub time: u64,
+    pub parties: Parties,
+}
+
+/// Checks an agreement of any bytes, and answers the parties that it can blame.
+///
+/// ```
+/// assert_eq!(givuntha::check(&[4, 0, 1, 0]), Err(givuntha::Refusal::AgreementForm));
+/// ```
+pub fn check(agreement: &[u8]) -> Result<Parties, Refusal> {
+    let mut parties = 0;
+    touch();
+    // SAFETY: `agreement` and `parties` are borrowed for the call, apart from each other; see above.
+    let answer = unsafe { raw::givuntha_check(agreement.as_ptr(), agreement.len(), &mut parties) };
+    Refusal::answer(answer)?;
+    Ok(party_set(parties))
+}
+
+/// Starts a run in lent cells, whatever they held before. A refusal leaves them.
+///
+/// ```
+/// let agreement = [21, 0, 1, 0, 100, 0, 0, 0, 1, 1, 0, 5, 0, 2, 0, 0, 4, 0, 16, 0];
+/// assert_eq!(givuntha::start(&agreement, &mut [0; 3080]), Err(givuntha::Refusal::AgreementLength));
+/// ```
+pub fn start(agreement: &[u8], table: &mut [i64]) -> Result<(), Refusal> {
+    touch();
+    // SAFETY: `agreement` is borrowed for the call and `table` is so alone; see above.
+    let answer = unsafe { raw::givuntha_start(agreement.as_ptr(), agreement.len(), table.as_mut_ptr(), table.len()) };
+    Refusal::answer(answer)
+}
+
+/// Gives the run in lent cells a reading of any bytes. A refusal leaves the cells; once breached, so does an accepted
+/// reading.
+///
+/// ```
+/// use givuntha::{reading, record, start, State};
+///
+/// // Fulfilled from the start; there is one type of reading, without values.
+/// let agreement = [20, 0, 1, 0, 100, 0, 0, 0, 1, 1, 0, 5, 0, 2, 0, 0, 4, 0, 16, 0];
+/// let mut cells = vec![0; givuntha::CELLS];
+/// start(&agreement, &mut cells)?;
+/// reading(&agreement, &mut cells, &record::reading(120, 1, &[]))?;
+/// assert_eq!(State::of(&cells), Some(State::Fulfilled));
+/// assert_eq!(cells[1], 120);
+/// # Ok::<(), givuntha::Refusal>(())
+/// ```
+pub fn reading(agreement: &[u8], table: &mut [i64], reading: &[u8]) -> Result<(), Refusal> {
+    touch();
+    // SAFETY: `agreement` and `reading` are borrowed for the call and `table` is so alone; see above.
+    let answer = unsafe {
+        raw::givuntha_reading(
+            agreement.as_ptr(),
+            agreement.len(),
+            table.as_mut_ptr(),
+            table.len(),
+            reading.as_ptr(),
+            reading.len(),
+        )
+    };
+    Refusal::answer(answer)
+}
+
+/// What the run in lent cells comes to without further readings: a breach, or none. Of a breached run it is the
+/// verdict.
+///
+/// ```
+/// let short = givuntha::forecast(&[20, 0, 1, 0, 9, 0, 0, 0, 1, 1, 0, 5, 0, 2, 0, 0, 4, 0, 16, 0], &[0; 3079]);
+/// assert_eq!(short, Err(givuntha::Refusal::TableLength));
+/// ```
+pub fn forecast(agreement: &[u8], table: &[i64]) -> Result<Option<Breach>, Refusal> {
+    let (mut time, mut parties) = (0, 0);
+    touch();
+    // SAFETY: all four are borrowed for the call, the two results apart from all else; see above.
+    let answer = unsafe {
+        raw::givuntha_forecast(
+            agreement.as_ptr(),
+            agreement.len(),
+            table.as_ptr(),
+            table.len(),
+            &mut time,
+            &mut parties,
+        )
+    };
+    Refusal::answer(answer)?;
+    let parties = party_set(parties);
+    Ok((!parties.is_empty()).then_some(Breach { time, parties }))
+}
+
+/// An agreement has at most 16 parties, so more bits would break the entries' proved contracts.
+fn party_set(bits: u64) -> Parties {
+    Parties::from_bits(u16::try_from(bits).expect("parties below 16"))
+}

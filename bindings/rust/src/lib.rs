@@ -1,0 +1,50 @@
+//! The Givuntha monitor of timed agreements, for Rust.
+//!
+//! The four entries are the proved C functions of `include/givuntha.h`; this crate only lends them memory and gives
+//! their numbers names. An agreement is bytes, and so is a reading; the state of a run is a table of
+//! [`CELLS`] cells. [`Table`] owns one; the functions [`start`], [`reading`] and [`forecast`] work on any cells that
+//! are lent. Times are in minutes.
+//!
+//! Party 0 owes a salinity of at least 250 within 60 minutes of minute 100:
+//!
+//! ```
+//! use givuntha::{check, record, Refusal, State, Table};
+//!
+//! let agreement = [
+//!     0x40, 0, 1, 0, 100, 0, 0, 0, 2, 1, 0, 6, 0, 2, 0, 1, 1, 0x2F, 0, 17, 0, 0, 1, 0x15, 0, 36, 0, 17, 0, 42, 0, 5,
+//!     0, 35, 0, 0, 8, 0, 32, 0, 250, 0, 0, 0, 8, 0, 32, 0, 0, 0, 0, 0, 8, 0, 32, 0, 60, 0, 0, 0, 4, 0, 16, 0,
+//! ];
+//! assert!(check(&agreement)?.contains(0));
+//!
+//! let mut table = Table::start(&agreement)?;
+//! let ahead = table.forecast(&agreement)?.expect("a breach if nothing is read");
+//! assert_eq!((ahead.time, ahead.parties.bits()), (160, 1));
+//!
+//! table.reading(&agreement, &record::reading(110, 1, &[240]))?;
+//! assert_eq!(table.state(), Some(State::Running));
+//! let early = table.reading(&agreement, &record::reading(105, 1, &[250]));
+//! assert_eq!(early, Err(Refusal::ReadingTime));
+//! table.reading(&agreement, &record::reading(160, 1, &[250]))?;
+//! assert_eq!(table.state(), Some(State::Fulfilled));
+//! # Ok::<(), Refusal>(())
+//! ```
+//!
+//! A call takes up to 370 KB of stack, and [`STACK`] bytes are enough. The stacks of the main thread and of threads
+//! that the standard library makes are larger. Where the stack is too small the program is stopped, as at any
+//! overflow.
+
+mod entries;
+mod parties;
+mod raw;
+pub mod record;
+mod refusal;
+mod stack;
+mod state;
+mod table;
+
+pub use entries::{check, forecast, reading, start, Breach};
+pub use parties::Parties;
+pub use refusal::Refusal;
+pub use stack::STACK;
+pub use state::State;
+pub use table::{Table, CELLS};

@@ -1,0 +1,183 @@
+//! The paper's sample and its pond trials P1 to P15.
+
+#[path = "common/pond.rs"]
+mod pond;
+#[path = "common/sample.rs"]
+mod sample;
+
+use givuntha::{check, record, Breach, Refusal, State, Table};
+use pond::pond;
+use reference::agreement::Operator;
+use reference::build::{agreement, and, binary, instance, number, or, reading_type, simple, template, Wait};
+use sample::sample;
+
+/// An agreement under way.
+struct Run {
+    agreement: Vec<u8>,
+    table: Table,
+}
+
+impl Run {
+    fn of(agreement: Vec<u8>) -> Run {
+        let table = Table::start(&agreement).expect("a start");
+        Run { agreement, table }
+    }
+
+    fn salinity(&mut self, time: u32, value: i32) -> Result<(), Refusal> {
+        self.table.reading(&self.agreement, &record::reading(time, 1, &[value]))
+    }
+
+    fn mark(&mut self, time: u32) -> Result<(), Refusal> {
+        self.table.reading(&self.agreement, &record::mark(time))
+    }
+
+    /// Time and party bits of the breach ahead.
+    fn ahead(&self) -> Option<(u64, u16)> {
+        self.table.forecast(&self.agreement).expect("a forecast").map(pair)
+    }
+
+    fn is_running(&self) -> bool {
+        self.table.state() == Some(State::Running)
+    }
+
+    fn is_fulfilled(&self) -> bool {
+        self.table.state() == Some(State::Fulfilled)
+    }
+
+    /// Time and party bits of the breach that came.
+    fn breach(&self) -> Option<(u64, u16)> {
+        match self.table.state() {
+            Some(State::Breached(breach)) => Some(pair(breach)),
+            _ => None,
+        }
+    }
+}
+
+fn pair(breach: Breach) -> (u64, u16) {
+    (breach.time, breach.parties.bits())
+}
+
+/// Party n owes any reading from 100 on for so long.
+fn owed(party: u8, within: i32) -> Vec<u8> {
+    simple(within).obligation(party)
+}
+
+fn pond_of(main: &[u8]) -> Run {
+    Run::of(pond(&[], main))
+}
+
+#[test]
+fn the_sample_blames_party_0() {
+    assert_eq!(check(&sample()).unwrap().iter().collect::<Vec<_>>(), [0]);
+}
+
+#[test]
+fn p1_start_forecasts() {
+    assert_eq!(Run::of(sample()).ahead(), Some((160, 1)));
+}
+
+#[test]
+fn p2_and_p3_a_low_salinity_waits_and_a_high_one_fulfils() {
+    let mut run = Run::of(sample());
+    assert_eq!(run.salinity(110, 240), Ok(()));
+    assert!(run.is_running());
+    assert_eq!(run.ahead(), Some((160, 1)));
+    assert_eq!(run.salinity(160, 250), Ok(()));
+    assert!(run.is_fulfilled());
+    assert_eq!(run.ahead(), None);
+}
+
+#[test]
+fn p4_mark_160_is_live() {
+    let mut run = Run::of(sample());
+    assert_eq!(run.mark(160), Ok(()));
+    assert!(run.is_running());
+}
+
+#[test]
+fn p5_and_p6_mark_161_breaches_at_160_and_it_stays() {
+    let mut run = Run::of(sample());
+    assert_eq!(run.mark(161), Ok(()));
+    assert_eq!(run.breach(), Some((160, 1)));
+    let before = run.table.clone();
+    assert_eq!(run.salinity(161, 250), Ok(()));
+    assert_eq!(run.table, before);
+    assert_eq!(run.ahead(), Some((160, 1)));
+}
+
+#[test]
+fn p7_a_window_past_breaches_at_its_activation() {
+    let mut run = pond_of(&owed(0, -5));
+    assert_eq!(run.mark(100), Ok(()));
+    assert_eq!(run.breach(), Some((100, 1)));
+}
+
+#[test]
+fn p8_and_p9_the_earlier_breach_decides_an_and() {
+    let mut run = pond_of(&and(&owed(0, 60), &owed(1, 60)));
+    assert_eq!(run.mark(161), Ok(()));
+    assert_eq!(run.breach(), Some((160, 3)));
+    let mut run = pond_of(&and(&owed(0, 60), &owed(1, 50)));
+    assert_eq!(run.mark(161), Ok(()));
+    assert_eq!(run.breach(), Some((150, 2)));
+}
+
+#[test]
+fn p10_one_reading_fulfils_both_sides() {
+    let mut run = pond_of(&and(&owed(0, 60), &owed(1, 60)));
+    assert_eq!(run.salinity(120, 0), Ok(()));
+    assert!(run.is_fulfilled());
+}
+
+#[test]
+fn p11_the_later_breach_decides_an_or() {
+    let mut run = pond_of(&or(&owed(0, 50), &owed(0, 60)));
+    assert_eq!(run.mark(155), Ok(()));
+    assert!(run.is_running());
+    assert_eq!(run.mark(161), Ok(()));
+    assert_eq!(run.breach(), Some((160, 1)));
+}
+
+#[test]
+fn p12_an_else_counts_from_the_end_of_the_window() {
+    let main = simple(50).choice(&owed(0, 20));
+    let mut run = pond_of(&main);
+    assert_eq!(run.salinity(165, 0), Ok(()));
+    assert!(run.is_fulfilled());
+    let mut run = pond_of(&main);
+    assert_eq!(run.mark(171), Ok(()));
+    assert_eq!(run.breach(), Some((170, 1)));
+}
+
+#[test]
+fn p13_and_p14_quotients_drop_the_fraction_and_sums_are_held() {
+    let told = |value: Vec<u8>, expected| {
+        let condition = binary(Operator::Equal, &value, &number(expected));
+        let mut run = pond_of(&Wait { condition, ..simple(60) }.obligation(0));
+        run.salinity(110, 0).unwrap();
+        run.is_fulfilled()
+    };
+    assert!(told(binary(Operator::Quotient, &number(-7), &number(2)), -3));
+    assert!(told(binary(Operator::Plus, &number(1_000_000_000), &number(1)), 1_000_000_000));
+}
+
+#[test]
+fn p15_the_seventh_reading_is_refused_with_11() {
+    let again = instance(0, &[], &[]);
+    let doubling = Wait { then: and(&again, &again), ..simple(60) }.obligation(0);
+    let mut run = Run::of(pond(&[template(&[], 0, 1, &doubling)], &again));
+    for time in 101..107 {
+        assert_eq!(run.salinity(time, 0), Ok(()));
+    }
+    assert_eq!(run.table.cells()[4], 127);
+    let before = run.table.clone();
+    assert_eq!(run.salinity(107, 0), Err(Refusal::Units));
+    assert_eq!(run.table, before);
+}
+
+#[test]
+fn a_forecast_may_exceed_32_bits() {
+    let main = simple(1_000_000_000).obligation(1);
+    let run = Run::of(agreement(u32::MAX, 2, &[reading_type(&[])], &[], &main));
+    assert_eq!(run.ahead(), Some((5_294_967_295, 2)));
+}
