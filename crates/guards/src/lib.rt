@@ -26,11 +26,17 @@ fn guarded_in(s: &[u8], n: usize, depth: usize) -> bool
     ensures { λ r. ⌜ Answers (guardedIn n) depth (now (s .entry)) r ⌝ }
 {
     let k = kind(s);
-    let c = first_clause(s, k);
-    let f = record_end(s, c);
     match k {
-        18 => guarded_in(&s[f..], n, depth - 1),
-        19..=21 => guarded_in(&s[c..f], n, depth - 1) && guarded_in(&s[f..], n, depth - 1),
+        18 => {
+            let c = first_clause(s, k);
+            let f = record_end(s, c);
+            guarded_in(&s[f..], n, depth - 1)
+        }
+        19..=21 => {
+            let c = first_clause(s, k);
+            let f = record_end(s, c);
+            guarded_in(&s[c..f], n, depth - 1) && guarded_in(&s[f..], n, depth - 1)
+        }
         22 => byte(s, 4) < n,
         _ => true,
     }
@@ -61,14 +67,18 @@ fn width(s: &[u8], widths: &[usize], depth: usize) -> usize
     ensures { λ r. ⌜ Answers (counted (now (widths .entry))) depth (now (s .entry)) r × (r ≤ 257) ⌝ }
 {
     let k = kind(s);
-    let c = first_clause(s, k);
-    let f = record_end(s, c);
     match k {
-        18 => with_sides(0, width(&s[f..], widths, depth - 1)),
-        19..=21 => with_sides(
-            width(&s[c..f], widths, depth - 1),
-            width(&s[f..], widths, depth - 1),
-        ),
+        18 => {
+            let c = first_clause(s, k);
+            let f = record_end(s, c);
+            with_sides(0, width(&s[f..], widths, depth - 1))
+        }
+        19..=21 => {
+            let c = first_clause(s, k);
+            let f = record_end(s, c);
+            let left = width(&s[c..f], widths, depth - 1);
+            with_sides(left, width(&s[f..], widths, depth - 1))
+        }
         22 => with_sides(0, width_of(widths, byte(s, 4))),
         _ => 1,
     }
@@ -87,16 +97,21 @@ fn thens_narrow(s: &[u8], widths: &[usize], depth: usize) -> bool
     ensures { λ r. ⌜ Answers (thensNarrow (now (widths .entry))) depth (now (s .entry)) r ⌝ }
 {
     let k = kind(s);
-    let c = first_clause(s, k);
-    let f = record_end(s, c);
     match k {
-        17 => is_narrow(&s[c..], widths, depth - 1) && thens_narrow(&s[c..], widths, depth - 1),
+        17 => {
+            let c = first_clause(s, k);
+            is_narrow(&s[c..], widths, depth - 1) && thens_narrow(&s[c..], widths, depth - 1)
+        }
         18 => {
+            let c = first_clause(s, k);
+            let f = record_end(s, c);
             is_narrow(&s[c..f], widths, depth - 1)
                 && (thens_narrow(&s[c..f], widths, depth - 1)
                     && thens_narrow(&s[f..], widths, depth - 1))
         }
         19..=21 => {
+            let c = first_clause(s, k);
+            let f = record_end(s, c);
             thens_narrow(&s[c..f], widths, depth - 1) && thens_narrow(&s[f..], widths, depth - 1)
         }
         _ => true,

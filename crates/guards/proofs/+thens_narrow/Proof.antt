@@ -33,18 +33,18 @@ ruleset laws = (thens, sides, formed, parts, needs)
 
 -- what a member may assume of its callees
 abbrev claims : ℕ → thens-narrow-lts.Claims
-claims t = (kind-reads.Asked, kind-reads.Learnt, first-clause-reads.Asked, first-clause-reads.Learnt, record-end-reads.Asked, record-end-reads.Learnt, is-narrow-reads.Asked, is-narrow-reads.Learnt, thens-narrow-below t, thens-narrow.Post)
+claims t = (kind-reads.Asked, kind-reads.Learnt, first-clause-reads.Asked, first-clause-reads.Learnt, is-narrow-reads.Asked, is-narrow-reads.Learnt, thens-narrow-below t, thens-narrow.Post, record-end-reads.Asked, record-end-reads.Learnt)
 
 pub +thens-narrow-spec : {M : Type 1} → statement M
 +thens-narrow-spec = close μ-thens-narrow λ t. thens-narrow-lts.spec (claims t) (thens-narrow-at t)
     thens-narrow.Post
-    (λ c κs. search laws) (λ c κs. search laws) (λ c κs. search laws) (λ c. search laws) (λ c. search laws)
-    (λ c. search laws) (λ c. search laws) (λ c κs. search laws) (λ c. search laws) (λ c. search laws)
-    (λ c. search laws) (λ c. search laws) (λ c κs. search laws) (λ c. search laws) (λ c. search laws)
-    (λ c. search laws) (λ c. search laws) (λ c κs. search laws) (λ c. search laws) (λ c. search laws)
-    (λ c. search laws) (λ c. search laws) (λ c κs. search laws) (λ c. search laws) (λ c. search laws)
-    (λ c. search laws) (λ c. search laws) (λ c κs. search laws) (λ c. search laws) (λ c. search laws)
-    (λ c. search laws) (λ c. search laws) (λ c κs. search laws) (λ c. search laws) (λ c. search laws)
-    (λ c. search laws) (λ c. search laws) (λ c κs. search laws) (λ c. search laws) (λ c. search laws)
+    (λ c κs. search laws) (λ c κs. search laws) (λ c. search laws) (λ c. search laws) (λ c. search laws)
+    (λ c. search laws) (λ c κs. search laws) (λ c. search laws) (λ c. search laws) (λ c. search laws)
+    (λ c. search laws) (λ c κs. search laws) (λ c κs. search laws) (λ c κs. search laws) (λ c. search laws)
+    (λ c. search laws) (λ c. search laws) (λ c. search laws) (λ c κs. search laws) (λ c. search laws)
+    (λ c. search laws) (λ c. search laws) (λ c. search laws) (λ c κs. search laws) (λ c. search laws)
+    (λ c. search laws) (λ c. search laws) (λ c. search laws) (λ c κs. search laws) (λ c κs. search laws)
+    (λ c κs. search laws) (λ c. search laws) (λ c. search laws) (λ c. search laws) (λ c. search laws)
+    (λ c κs. search laws) (λ c. search laws) (λ c. search laws) (λ c. search laws) (λ c. search laws)
+    (λ c κs. search laws) (λ c. search laws) (λ c. search laws) (λ c. search laws) (λ c. search laws)
     (λ c. search laws) (λ c. search laws) (λ c. search laws) (λ c. search laws) (λ c. search laws)
-    (λ c. search laws) (λ c. search laws)
