@@ -1,13 +1,13 @@
 -- What a walk over the bytes of a clause is told and answers: neither speaks of the clause's place or of the templates' heads, which the bytes do not show.
 use mathlib.Core.Path.{_≡_}
-use mathlib.Core.Bool.{true}
+use mathlib.Core.Bool.{true, cond}
 use mathlib.Core.List.{List}
 use Prim.Native.Nat.{ℕ, _≤_, min}
 use lib.ListN.{length, getD}
 use Rattle.csl.specs.Bytes.{part}
 use Rattle.csl.specs.Syntax.{Head, Clause}
 use Rattle.csl.specs.Decode.{whole, clause, bodyPlace, headsOf, bodyOf}
-use Rattle.csl.specs.Widths.{width}
+use Rattle.csl.specs.Widths.{width, thensNarrow}
 use Rattle.records.specs.Index.{templatePlace, pieceAt}
 
 -- s is a whole clause, at most d deep
@@ -35,6 +35,10 @@ pub record Spans (s : List ℕ) (k from to : ℕ) : Type 0 where
 -- ---- a width above 256 counts as 257
 unfoldable pub counted : List ℕ → Clause → ℕ
 counted ws c = min (width ws c) 257
+
+-- the same, or 257 where some `then` within is not narrow
+unfoldable pub strictWidth : List ℕ → Clause → ℕ
+strictWidth ws c = cond (thensNarrow ws c) (counted ws c) 257
 
 -- ys are the widths ws, so counted; where there is none it is 0
 pub record AsWide (ws ys : List ℕ) : Type 0 where

@@ -8,10 +8,9 @@ ghost use Rattle.csl.specs.Bytes as bytes;
 ghost use Rattle.csl.specs.Lists.{all};
 ghost use Rattle.csl.specs.Decode.{wellFormed, agreementOf, mainOf};
 ghost use Rattle.csl.specs.Guards.{guardedIn, guardedFrom};
-ghost use Rattle.csl.specs.Widths as csl;
-ghost use Rattle.csl.specs.Widths.{thensNarrow, allNarrow, narrowAll, widthsFrom};
+ghost use Rattle.csl.specs.Widths.{allNarrow, narrowAll, widthsFrom};
 ghost use Rattle.records.specs.Index.{Indexed};
-ghost use Rattle.guards.specs.Walk.{Formed, Answers, Spans, bodyAt, counted, AsWide};
+ghost use Rattle.guards.specs.Walk.{Formed, Answers, Spans, bodyAt, counted, strictWidth, AsWide};
 use arith::byte;
 use arith::kind;
 use arith::record_end;
@@ -26,11 +25,17 @@ fn guarded_in(s: &[u8], n: usize, depth: usize) -> bool
     ensures { λ r. ⌜ Answers (guardedIn n) depth (now (s .entry)) r ⌝ }
 {
     let k = kind(s);
-    let c = first_clause(s, k);
-    let f = record_end(s, c);
     match k {
-        18 => guarded_in(&s[f..], n, depth - 1),
-        19..=21 => guarded_in(&s[c..f], n, depth - 1) && guarded_in(&s[f..], n, depth - 1),
+        18 => {
+            let c = first_clause(s, k);
+            let f = record_end(s, c);
+            guarded_in(&s[f..], n, depth - 1)
+        }
+        19..=21 => {
+            let c = first_clause(s, k);
+            let f = record_end(s, c);
+            guarded_in(&s[c..f], n, depth - 1) && guarded_in(&s[f..], n, depth - 1)
+        }
         22 => byte(s, 4) < n,
         _ => true,
     }
@@ -61,53 +66,64 @@ fn width(s: &[u8], widths: &[usize], depth: usize) -> usize
     ensures { λ r. ⌜ Answers (counted (now (widths .entry))) depth (now (s .entry)) r × (r ≤ 257) ⌝ }
 {
     let k = kind(s);
-    let c = first_clause(s, k);
-    let f = record_end(s, c);
     match k {
-        18 => with_sides(0, width(&s[f..], widths, depth - 1)),
-        19..=21 => with_sides(
-            width(&s[c..f], widths, depth - 1),
-            width(&s[f..], widths, depth - 1),
-        ),
+        18 => {
+            let c = first_clause(s, k);
+            let f = record_end(s, c);
+            with_sides(0, width(&s[f..], widths, depth - 1))
+        }
+        19..=21 => {
+            let c = first_clause(s, k);
+            let f = record_end(s, c);
+            let left = width(&s[c..f], widths, depth - 1);
+            with_sides(left, width(&s[f..], widths, depth - 1))
+        }
         22 => with_sides(0, width_of(widths, byte(s, 4))),
         _ => 1,
     }
 }
 
-fn is_narrow(s: &[u8], widths: &[usize], depth: usize) -> bool
+// The same, or 257 where some `then` within is wider than 256: such a side makes the whole too wide.
+fn strict_width(s: &[u8], widths: &[usize], depth: usize) -> usize
     requires { ⌜ Formed depth (now s) ⌝ }
-    ensures { λ r. ⌜ Answers (csl.narrow (now (widths .entry))) depth (now (s .entry)) r ⌝ }
-{
-    width(s, widths, depth) <= 256
-}
-
-// Each `then` within is narrow. A width ends at each `then`, so no record is counted twice.
-fn thens_narrow(s: &[u8], widths: &[usize], depth: usize) -> bool
-    requires { ⌜ Formed depth (now s) ⌝ }
-    ensures { λ r. ⌜ Answers (thensNarrow (now (widths .entry))) depth (now (s .entry)) r ⌝ }
+    ensures { λ r. ⌜ Answers (strictWidth (now (widths .entry))) depth (now (s .entry)) r × (r ≤ 257) ⌝ }
 {
     let k = kind(s);
-    let c = first_clause(s, k);
-    let f = record_end(s, c);
     match k {
-        17 => is_narrow(&s[c..], widths, depth - 1) && thens_narrow(&s[c..], widths, depth - 1),
+        17 => {
+            let c = first_clause(s, k);
+            if strict_width(&s[c..], widths, depth - 1) <= 256 {
+                1
+            } else {
+                257
+            }
+        }
         18 => {
-            is_narrow(&s[c..f], widths, depth - 1)
-                && (thens_narrow(&s[c..f], widths, depth - 1)
-                    && thens_narrow(&s[f..], widths, depth - 1))
+            let c = first_clause(s, k);
+            let f = record_end(s, c);
+            if strict_width(&s[c..f], widths, depth - 1) <= 256 {
+                with_sides(0, strict_width(&s[f..], widths, depth - 1))
+            } else {
+                257
+            }
         }
         19..=21 => {
-            thens_narrow(&s[c..f], widths, depth - 1) && thens_narrow(&s[f..], widths, depth - 1)
+            let c = first_clause(s, k);
+            let f = record_end(s, c);
+            let left = strict_width(&s[c..f], widths, depth - 1);
+            with_sides(left, strict_width(&s[f..], widths, depth - 1))
         }
-        _ => true,
+        22 => with_sides(0, width_of(widths, byte(s, 4))),
+        _ => 1,
     }
 }
 
+// The clause is narrow, and so is each `then` within.
 fn all_narrow(s: &[u8], widths: &[usize], depth: usize) -> bool
     requires { ⌜ Formed depth (now s) ⌝ }
     ensures { λ r. ⌜ Answers (allNarrow (now (widths .entry))) depth (now (s .entry)) r ⌝ }
 {
-    is_narrow(s, widths, depth) && thens_narrow(s, widths, depth)
+    strict_width(s, widths, depth) <= 256
 }
 
 // Where the body of a template begins and ends. A body may nest 22 deep, the main clause 23.

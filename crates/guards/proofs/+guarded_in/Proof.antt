@@ -1,6 +1,6 @@
 use borrow.Author.Needs.{needs}
 use Rattle.guards.proofs.Walks.{formed, parts, sides}
-use Rattle.guards.proofs.Guarding.{guards, guard-instance}
+use Rattle.guards.proofs.Guarding.{guards}
 use Prim.Native.Nat.{ℕ, _<_}
 use borrow.Fn.Kinds.{In}
 use borrow.Fn.PlainCycle.{Measures, is, falls, and}
@@ -31,17 +31,11 @@ ruleset laws = (guards, sides, formed, parts, needs)
 abbrev claims : ℕ → guarded-in-lts.Claims
 claims t = (kind-reads.Asked, kind-reads.Learnt, first-clause-reads.Asked, first-clause-reads.Learnt, record-end-reads.Asked, record-end-reads.Learnt, guarded-in-below t, guarded-in.Post, byte-reads.Asked, byte-reads.Learnt)
 
--- what an instance names
-instance-names : (t : ℕ) → guarded-in-lts.Need-returns-2 (claims t) (guarded-in-at t) guarded-in.Post
-instance-names t c =
-    let b = c .before .before .before .before .before .before in
-    guard-instance (b .args .n) (b .args .depth) (b .args .s .now) (c .before .before .before .before .kind .ensures) (c .before .match .keys2) (c .byte .ensures .0)
-
 pub +guarded-in-spec : {M : Type 1} → statement M
 +guarded-in-spec = close μ-guarded-in λ t. guarded-in-lts.spec (claims t) (guarded-in-at t) guarded-in.Post
     (λ c κs. search laws) (λ c κs. search laws) (λ c κs. search laws) (λ c. search laws) (λ c. search laws)
-    (λ c. search laws) (λ c. search laws) (λ c κs. search laws) (λ c κs. search laws) (λ c. search laws)
-    (λ c. search laws) (λ c. search laws) (λ c. search laws) (λ c κs. search laws) (λ c. search laws)
-    (λ c. search laws) (λ c. search laws) (λ c. search laws) (λ c κs. search laws) (λ c. search laws)
-    (instance-names t)
-    (λ c. search laws) (λ c. search laws) (λ c. search laws) (λ c. search laws)
+    (λ c. search laws) (λ c. search laws) (λ c κs. search laws) (λ c κs. search laws) (λ c κs. search laws)
+    (λ c κs. search laws) (λ c. search laws) (λ c. search laws) (λ c. search laws) (λ c. search laws)
+    (λ c κs. search laws) (λ c. search laws) (λ c. search laws) (λ c. search laws) (λ c. search laws)
+    (λ c κs. search laws) (λ c. search laws) (λ c. search laws) (λ c. search laws) (λ c. search laws)
+    (λ c. search laws) (λ c. search laws)

@@ -35,7 +35,7 @@ pub +width-spec : {M : Type 1} → statement M
 +width-spec = close μ-width λ t. width-lts.spec (claims t) (width-at t) width.Post
     (λ c κs. search laws) (λ c κs. search laws) (λ c κs. search laws) (λ c. search laws) (λ c. search laws)
     (λ c. search laws) (λ c. search laws) (λ c κs. search laws) (λ c κs. search laws) (λ c κs. search laws)
-    (λ c κs. search laws) (λ c κs. search laws) (λ c. search laws) (λ c. search laws) (λ c. search laws)
-    (λ c. search laws) (λ c κs. search laws) (λ c. search laws) (λ c. search laws) (λ c. search laws)
-    (λ c. search laws) (λ c κs. search laws) (λ c κs. search laws) (λ c. search laws) (λ c. search laws)
-    (λ c. search laws) (λ c. search laws) (λ c. search laws)
+    (λ c κs. search laws) (λ c κs. search laws) (λ c κs. search laws) (λ c κs. search laws) (λ c. search laws)
+    (λ c. search laws) (λ c. search laws) (λ c. search laws) (λ c κs. search laws) (λ c. search laws)
+    (λ c. search laws) (λ c. search laws) (λ c. search laws) (λ c κs. search laws) (λ c κs. search laws)
+    (λ c. search laws) (λ c. search laws) (λ c. search laws) (λ c. search laws) (λ c. search laws)
