@@ -35,7 +35,7 @@ impl Case {
 pub fn all() -> Vec<Case> {
     let mut cases = sample_cases();
     cases.push(small_clauses(32));
-    cases.push(expressions(512));
+    cases.push(expressions(768));
     cases.extend(unit_cases());
     cases.push(activations(63, 128));
     cases
@@ -66,7 +66,7 @@ pub fn small_clauses(templates: usize) -> Case {
     Case::after(&format!("small clauses, {} bytes", bytes.len()), bytes, &[], reading(110, 0, &[]))
 }
 
-/// One obligation whose condition adds up so many pairs of values, 16 KB where there are 512.
+/// One obligation whose condition adds up so many pairs of values, 16 KB where there are 768.
 pub fn expressions(pairs: usize) -> Case {
     let pair = binary(Operator::Times, &value(0), &number(3));
     let sum = sums(pairs, &pair);

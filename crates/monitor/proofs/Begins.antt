@@ -1,10 +1,10 @@
 -- Laws for start: the main clause is activated as csl says, and the table is written that the rules on cells give.
-use mathlib.Core.Path.{_≡_, refl, sym, _∙_}
+use mathlib.Core.Path.{_≡_, refl, sym, ap, _∙_}
 use mathlib.Core.Bool.{Bool, true, false, not}
 use mathlib.Core.List.{List, []}
 use Prim.Native.Nat.{ℕ, _*_, _/_, _≤_, _<_, min}
 use native.Mathlib.Omega.{arith}
-use borrow.Author.Tests.{not-true, not-false, leb-true, leb-false, lt-ltb, le-ltb}
+use borrow.Author.Tests.{not-true, not-false, leb-true, leb-false, le-leb, lt-ltb, le-ltb}
 use mir.Syntax.{w64}
 use mir.Val.{toZ}
 use mir.ValLaws.{toZ-pos}
@@ -126,6 +126,10 @@ module _ {now : ℕ} {r : Reduced} {out before after : List ℤ} {q : Bool} (set
       let f = not-false q e in
       rw (few-units out x r i (leb-true (unitsOf r) 128 (sym (settles .fits) ∙ f)), settles .wrote f x i, same-table now x) refl
 
+  -- so few units as a table has are written
+  pub written-few : unitsOf r ≤ 128 → not q ≡ false
+  written-few h = ap not (settles .fits ∙ le-leb (unitsOf r) 128 h)
+
 -- ---- start
 pub main-few : (s : List ℕ) (r : Reduced) (out : List ℤ) → Is (mainReduced s) r out → bitsIn r < 65_536
 unfolding mainReduced
@@ -141,6 +145,9 @@ module _ {s places : List ℕ} {p : ℕ} (g : Goes s places p) {before after : L
 
   pub start-yes : not q ≡ false → startAnswer Begun after ≡ startOf s before
   start-yes e = kept-yes settles (mainReduced s) i e ∙ sym started
+
+  pub start-few : unitsOf r ≤ 128 → startAnswer Begun after ≡ startOf s before
+  start-few h = start-yes (written-few settles (mainReduced s) i h)
 
 -- ---- refusals 1 to 6
 pub goes-on : (s places : List ℕ) {c : Checked} {p : ℕ} → Verified s places c → c ≡ Accepted p → Goes s places p

@@ -41,7 +41,7 @@ use Rattle.readings.specs.declared.Taken.{Taken as Fitting}
 use Rattle.readings.specs.declared.Taken.the-variants.{Malformed, Untyped, Fits}
 use Rattle.rules.specs.Parts.{modeAt}
 use Rattle.rules.specs.Reduces.{Is}
-use Rattle.rules.specs.Units.{Units, Settles, bitsIn}
+use Rattle.rules.specs.Units.{Units, Settles, unitsOf, bitsIn}
 use Rattle.rules.specs.declared.Event.{Event}
 use Rattle.rules.specs.declared.Step.the-variants.{Follow}
 use Rattle.rules.specs.declared.Reduced.{Reduced}
@@ -56,7 +56,7 @@ use Rattle.monitor.specs.declared.Refusal.{Refusal}
 use Rattle.monitor.specs.declared.Refusal.the-variants.{TableLength, TableContent, ReadingForm, ReadingTyping, ReadingTime, Units as tooManyUnits}
 use Rattle.monitor.specs.declared.Taken.the-variants.{Accepted as acceptedReading, Refused as refusedReading}
 use Rattle.monitor.specs.Answers.{numberOf, takenAnswer, Goes, Verified, Opened, Fitted, isDamaged}
-use Rattle.monitor.proofs.Begins.{goes-on, kept-no, kept-yes}
+use Rattle.monitor.proofs.Begins.{goes-on, kept-no, kept-yes, written-few}
 use Rattle.monitor.proofs.Tabled.{founds, sighted, has-units}
 
 -- ---- the main clause's parties are those that check found
@@ -148,6 +148,9 @@ module _ {s places : List ℕ} {us : List ℤ} {sights : List ℕ} (o : Opened s
 
         pub follow-yes : not q ≡ false → takenAnswer acceptedReading after ≡ readingOf s us bytes
         follow-yes p = let g = following bytes e rs f in kept-yes settles (g .given) (h (g .given) (g .is)) p ∙ reads-as g
+
+        pub follow-little : unitsOf r ≤ 128 → takenAnswer acceptedReading after ≡ readingOf s us bytes
+        follow-little k = let g = following bytes e rs f in follow-yes (written-few settles (g .given) (h (g .given) (g .is)) k)
 
   -- ---- by the state
   module _ {st : State} (v : Shows (runIn s us) us sights st) where

@@ -20,6 +20,7 @@ use rules::Reduced;
 use rules::Site;
 use rules::Step;
 use rules::across::across;
+use rules::across::units_of;
 use rules::activate;
 use rules::settle::settle;
 use state::State;
@@ -120,8 +121,8 @@ fn activated(agreement: &[u8], places: &[usize], out: &mut [i64]) -> Reduced
     activate(agreement, places, event, none, site, s, none, none, out)
 }
 
-// Start, for an accepted agreement and a table's cells.
-fn begin(agreement: &[u8], places: &[usize], table: &mut [i64]) -> Started
+// Start, for an accepted agreement and a table's cells, with room for as many units as a table has.
+fn begin_wide(agreement: &[u8], places: &[usize], table: &mut [i64]) -> Started
     requires { ⌜ ((parties : ℕ) × Goes (now agreement) (now places) parties) × (length (now table) ≡ 3080) ⌝ }
     ensures { λ r. ⌜ startAnswer r (now (table .exit)) ≡ startOf (now (agreement .entry)) (now (table .entry)) ⌝ }
 {
@@ -131,6 +132,21 @@ fn begin(agreement: &[u8], places: &[usize], table: &mut [i64]) -> Started
     if !settle(table, time, r, &out) {
         return Started::Refused(Refusal::Units);
     }
+    Started::Begun
+}
+
+// The same, with room for 16 units at first: to clear more room costs more than most starts do.
+fn begin(agreement: &[u8], places: &[usize], table: &mut [i64]) -> Started
+    requires { ⌜ ((parties : ℕ) × Goes (now agreement) (now places) parties) × (length (now table) ≡ 3080) ⌝ }
+    ensures { λ r. ⌜ startAnswer r (now (table .exit)) ≡ startOf (now (agreement .entry)) (now (table .entry)) ⌝ }
+{
+    let mut out = [0i64; 384];
+    let r = activated(agreement, places, &mut out);
+    if units_of(r) > 16 {
+        return begin_wide(agreement, places, table);
+    }
+    let time = unsigned32(agreement, 4) as i64;
+    settle(table, time, r, &out);
     Started::Begun
 }
 
@@ -150,8 +166,8 @@ pub fn start(agreement: &[u8], table: &mut [i64]) -> Started
     }
 }
 
-// A running run's units follow a reading.
-fn follow(
+// A running run's units follow a reading, with room for as many units as a table has.
+fn follow_wide(
     agreement: &[u8],
     places: &[usize],
     sights: &[usize],
@@ -179,6 +195,42 @@ fn follow(
     if !settle(table, time, r, &out) {
         return Taken::Refused(Refusal::Units);
     }
+    Taken::Accepted
+}
+
+// The same, with room for 16 units at first.
+fn follow(
+    agreement: &[u8],
+    places: &[usize],
+    sights: &[usize],
+    table: &mut [i64],
+    used: usize,
+    event: Event,
+    rs: &[i64],
+) -> Taken
+    requires { ⌜ Opened (now agreement) (now places) (now table) (now sights) ⌝ }
+    requires { ⌜ RunningAs (runIn (now agreement) (now table)) (now table) (now sights) used × ((bytes : List ℕ) × Fitted (now agreement) bytes (now table) event (now rs)) ⌝ }
+    ensures { λ r. ⌜ ((bytes : List ℕ) → Fitted (now (agreement .entry)) bytes (now (table .entry)) event (now (rs .entry)) → takenAnswer r (now (table .exit)) ≡ readingOf (now (agreement .entry)) (now (table .entry)) bytes) ⌝ }
+{
+    if used > 16 {
+        return follow_wide(agreement, places, sights, table, used, event, rs);
+    }
+    let mut out = [0i64; 384];
+    let r = across(
+        agreement,
+        places,
+        event,
+        rs,
+        sights,
+        &table[8..],
+        used,
+        &mut out,
+    );
+    if units_of(r) > 16 {
+        return follow_wide(agreement, places, sights, table, used, event, rs);
+    }
+    let time = event.time as i64;
+    settle(table, time, r, &out);
     Taken::Accepted
 }
 
@@ -284,7 +336,8 @@ fn breach_ahead(
     requires { ⌜ RunningAs (runIn (now agreement) (now table)) (now table) (now sights) used ⌝ }
     ensures { λ r. ⌜ forecastAnswer r ≡ forecastOf (now (agreement .entry)) (now (table .entry)) ⌝ }
 {
-    let mut out = [0i64; 3072];
+    // nothing waits on, so nothing needs room
+    let mut out = [0i64; 1];
     let none = [0i64; 1];
     let none = &none[..0];
     let event = Event {

@@ -7,7 +7,7 @@ use native.Mathlib.Omega.{arith}
 use native.Mathlib.Decide.{decLt}
 use lib.IntN.{ℤ, pos}
 use lib.ListN.{length, getD, take, drop, set, replicate, length-drop, length-append, length-take, length-replicate, getD-replicate, List·getD-append, List·getD-eq-default, length-set, drop-of-length-le}
-use lib.Seq.{set-at, take-suc, drop-cons, append-snoc, length-take-le, take-length, drop-length, take-at, getD-append-add, sets-eq, drop-drop}
+use lib.Seq.{set-at, take-suc, drop-cons, append-snoc, length-take-le, take-length, drop-length, take-at, drop-at, getD-append-add, sets-eq, drop-drop}
 use borrow.Rule.Slice.PartMut.{putMid}
 use Rattle.arith.proofs.Lists.{part-put}
 use mir.Syntax.{w64}
@@ -33,6 +33,10 @@ module _ {A : Type 0} where
 
   pub filled-all : (s d : List A) {i : ℕ} → i ≡ length s → length s ≡ length d → take i s ++ drop i d ≡ s
   filled-all s d e f = rw (e, take-length, f, drop-length, append-nil)
+
+  -- a copy goes on from what is copied so far
+  pub left-over : (s d : List A) {e : List A} {i : ℕ} → i ≤ length s → e ≡ take i s ++ drop i d → e ≡ take i s ++ drop i e
+  left-over s d {i = i} h q = q ∙ ap (λ x. take i s ++ x) (sym (ap (drop i) q ∙ drop-at (take i s) (drop i d) i (length-take-le i s h)))
 
 -- ---- with zeros behind
 pub length-padded : (n : ℕ) (xs : List ℤ) → length xs ≤ n → length (padded n xs) ≡ n

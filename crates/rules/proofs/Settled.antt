@@ -69,7 +69,7 @@ module _ (now : ℕ) (out before : List ℤ) {time : ℤ} (is-now : time ≡ pos
   pub settled-breach : {r : Reduced} (after : List ℤ) (t : ℤ) (b : ℕ) → r ≡ Breach t b → after ≡ padded 3080 (pos 3 ∷ time ∷ t ∷ pos b ∷ pos 0 ∷ pos 0 ∷ pos 0 ∷ pos 0 ∷ []) → Settles now r out before after true
   settled-breach after t b e f = rw e (settled (omega arith) (λ x h. let g = is-breach out x h in f ∙ breach-table b (g .2) ∙ ap (reducedTable now) (sym (g .1))))
 
-  module _ (n : ℕ) (few : n ≤ 128) (long : length out ≡ 3072) (t u : List ℤ)
+  module _ (n : ℕ) (few : n ≤ 128) (room : 24 * n ≤ length out) (t u : List ℤ)
       (head : t ≡ padded 3080 (pos 1 ∷ time ∷ pos 0 ∷ pos 0 ∷ pos n ∷ pos 0 ∷ pos 0 ∷ pos 0 ∷ []))
       (copied : u ≡ drop (length out - 24 * n) out ++ drop (length (drop (length out - 24 * n) out)) (take (length t - 8) (drop 8 t))) where
     running-table : (cs : List ℤ) → Stands cs n out → putMid 8 (length t - 8) t u ≡ reducedTable now (cells.running cs)
@@ -77,7 +77,7 @@ module _ (now : ℕ) (out before : List ℤ) {time : ℤ} (is-now : time ≡ pos
     running-table cs k =
         let size : length cs ≡ 24 * n = k .size ∙ ap (λ (v : ℕ). 24 * v) (sym (counted (k .count) few)) in
         let units : length cs / 24 ≡ n = rw size (omega arith) in
-        let is : drop (length out - 24 * n) out ≡ cs = rw size at (k .wrote (rw (size, long) (omega arith))) in
+        let is : drop (length out - 24 * n) out ≡ cs = rw size at (k .wrote (rw size room)) in
         rw units (filled (pos 1 ∷ pos now ∷ pos 0 ∷ pos 0 ∷ pos n ∷ pos 0 ∷ pos 0 ∷ pos 0 ∷ []) refl cs t u (rw is-now at head) (rw is at copied))
 
     pub settled-running : {r : Reduced} → r ≡ Running n → Settles now r out before (putMid 8 (length t - 8) t u) true

@@ -20,6 +20,10 @@ unitsOf Done = 0
 unitsOf (Breach t b) = 0
 unitsOf (Running n) = n
 
+-- a residue that a table can hold stands whole in `out`
+pub record Whole (r : Reduced) (out : List ℤ) : Type 0 where
+  pub room : unitsOf r ≤ 128 → 24 * unitsOf r ≤ length out
+
 -- a breach's parties by bit
 abbrev pub bitsIn : Reduced → ℕ
 bitsIn Done = 0

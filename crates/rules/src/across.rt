@@ -48,7 +48,7 @@ fn join_kind(table: &[i64]) -> usize
     if equal(sort, 20) { 20 } else { 21 }
 }
 
-fn units_of(r: Reduced) -> usize
+pub fn units_of(r: Reduced) -> usize
     ensures { λ n. ⌜ n ≡ unitsOf r ⌝ }
 {
     match r {

@@ -225,9 +225,13 @@ fn fill(dst: &mut [i64], src: &[i64])
     ensures { λ _. ⌜ now (dst .exit) ≡ padded (length (now (dst .entry))) (now (src .entry)) ⌝ }
 {
     let mut i = 0;
-    while i < dst.len() {
-        let x = cell(src, i);
+    while i < src.len() {
+        let x = src[i];
         dst[i] = x;
+        i += 1;
+    }
+    while i < dst.len() {
+        dst[i] = 0;
         i += 1;
     }
 }

@@ -6,7 +6,7 @@ ghost use lib.IntN.{pos};
 ghost use lib.ListN.{length};
 ghost use Rattle.csl.specs.Table.{padded};
 ghost use Rattle.cells.specs.Across.{natOf};
-ghost use Rattle.rules.specs.Units.{Settles, bitsIn};
+ghost use Rattle.rules.specs.Units.{Settles, Whole, bitsIn};
 use crate::Reduced;
 use crate::copy;
 use crate::fill;
@@ -22,9 +22,9 @@ fn put_head(table: &mut [i64], state: i64, time: i64, breach: i64, parties: usiz
     fill(table, &head);
 }
 
-// Writes the table of a run at `time`, whose residue stands at the end of `out`, unless it has more than 128 units.
+// Writes the table of a run at `time`, whose residue stands whole at the end of `out`, unless it has more than 128 units.
 pub fn settle(table: &mut [i64], time: i64, r: Reduced, out: &[i64]) -> bool
-    requires { ⌜ (length (now table) ≡ 3080) × (length (now out) ≡ 3072) × (time ≡ pos (natOf time)) × (bitsIn r < 65_536) ⌝ }
+    requires { ⌜ (length (now table) ≡ 3080) × Whole r (now out) × (time ≡ pos (natOf time)) × (bitsIn r < 65_536) ⌝ }
     ensures { λ settled. ⌜ Settles (natOf time) r (now (out .entry)) (now (table .entry)) (now (table .exit)) settled ⌝ }
 {
     match r {

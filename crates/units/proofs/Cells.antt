@@ -1,9 +1,9 @@
 -- Cells read as numbers, parties and values.
 use mathlib.Core.Path.{_≡_, refl, sym, ap, ap₂, subst, _∙_}
-use mathlib.Core.Bool.{Bool, true, false, cond, not, _&&_}
+use mathlib.Core.Bool.{Bool, true, false, cond, not, _&&_, and-true}
 use mathlib.Core.List.{List, [], _∷_, _++_, append-nil, append-assoc}
 use mathlib.Core.Option.{Option, none, some}
-use Prim.Native.Nat.{ℕ, zero, suc, _+_, _-_, _≤_, _<_, min}
+use Prim.Native.Nat.{ℕ, zero, suc, _+_, _-_, _^_, _≤_, _<_, min}
 use native.Mathlib.Decide.{decLe}
 use native.Mathlib.Numerals.{add-one}
 use native.Mathlib.Omega.{arith}
@@ -12,9 +12,10 @@ use lib.Dec.{T, leb, ltb, eqb}
 use lib.IntN.{ℤ, pos, negsuc, natAbs}
 use lib.ListN.{length, getD, take, drop, set}
 use lib.Seq.{drop-cons, take-suc-set, drop-length, take-length}
-use lib.Signed.{ltZ, nonNeg, _≤ℤ_}
+use lib.Bits.{bitOr, or-zero-l, or-add-and, and-le-r}
+use lib.Signed.{mag, ltZ, nonNeg, _≤ℤ_}
 use mir.Syntax.{w64}
-use mir.Val.{Fits, SFits}
+use mir.Val.{Fits, SFits, ofZ}
 use Rattle.arith.proofs.Ints.{seen, read, index-asked, index-given}
 use Rattle.arith.proofs.Linear.{ints, parts, up, dn}
 use Rattle.csl.specs.Lists.{_>>=_, need, all}
@@ -69,34 +70,33 @@ unfolding numberBelow
 below-not end n z h e = let g = rw e at h in omega arith
 
 -- ---- zeros
-is-zero : {r : ℕ} (z : ℤ) → r ≡ numberBelow 1 z → r ≡ 0 → isZero z ≡ true
-unfolding numberBelow isZero
-is-zero (pos n) e h = eq-eqb n 0 (omega arith)
-is-zero (negsuc n) e h = absurd (omega arith)
+-- a cell is zero if it has no ones, and so are two cells if they have none together
+no-ones : (z : ℤ) → mag z < 2 ^ 63 → eqb (ofZ w64 z) 0 ≡ isZero z
+unfolding isZero
+no-ones (pos n) h = refl
+no-ones (negsuc n) h = ne-eqb (2 ^ 64 - suc n) 0 (λ e. omega arith)
 
-not-zero : {r : ℕ} (z : ℤ) → r ≡ numberBelow 1 z → (r ≡ 0 → ⊥) → isZero z ≡ false
-unfolding numberBelow isZero
-not-zero (pos n) e h = ne-eqb n 0 (λ g. h (omega arith))
-not-zero (negsuc n) e h = refl
+or-none : (a b : ℕ) → eqb (bitOr a b) 0 ≡ (eqb a 0 && eqb b 0)
+or-none zero b = ap (λ (n : ℕ). eqb n 0) (or-zero-l b)
+or-none (suc a) b = rw (ne-eqb (suc a) 0 (λ e. omega arith)) (ne-eqb (bitOr (suc a) b) 0 (λ e. omega (arith, or-add-and (suc a) b, and-le-r (suc a) b)))
+
+and-assoc : (a b c : Bool) → ((a && b) && c) ≡ (a && (b && c))
+and-assoc true b c = refl
+and-assoc false b c = refl
 
 module _ (zs : List ℤ) where
-  abbrev From : ℕ → Type 0
-  From i = (i ≤ length zs) × (all isZero zs ≡ all isZero (drop i zs))
+  abbrev From : ℕ → ℕ → Type 0
+  From ones i = (i ≤ length zs) × (all isZero zs ≡ (eqb ones 0 && all isZero (drop i zs)))
 
-  pub zeros-first : From 0
-  zeros-first = (omega arith, refl)
-
-  pub zeros-more : {i r : ℕ} → i < length zs → r ≡ numberBelow 1 (getD zs i (pos 0)) → r ≡ 0 → From i → From (i + 1)
+  pub zeros-more : (ones : ℕ) {i : ℕ} → i < length zs → mag (getD zs i (pos 0)) < 2 ^ 63 → From ones i → From (bitOr ones (ofZ w64 (getD zs i (pos 0)))) (i + 1)
   unfolding all
-  zeros-more {i} l e h f = (omega arith, f .1 ∙ rw (drop-cons zs i (pos 0) l, is-zero (getD zs i (pos 0)) e h, add-one i))
+  zeros-more ones {i} l h f =
+      let x = getD zs i (pos 0) in
+      (omega arith, f .1 ∙ rw (drop-cons zs i (pos 0) l, add-one i, or-none ones (ofZ w64 x), no-ones x h, and-assoc (eqb ones 0) (isZero x) (all isZero (drop (suc i) zs))))
 
-  pub zeros-not : {i r : ℕ} → i < length zs → r ≡ numberBelow 1 (getD zs i (pos 0)) → (r ≡ 0 → ⊥) → From i → false ≡ all isZero zs
+  pub zeros-last : (ones : ℕ) {i : ℕ} → length zs ≤ i → From ones i → eqb ones 0 ≡ all isZero zs
   unfolding all
-  zeros-not {i} l e h f = sym (f .1 ∙ rw (drop-cons zs i (pos 0) l, not-zero (getD zs i (pos 0)) e h))
-
-  pub zeros-last : {i : ℕ} → length zs ≤ i → From i → true ≡ all isZero zs
-  unfolding all
-  zeros-last {i} l f = let e : i ≡ length zs = omega arith in sym (f .1 ∙ rw (e, drop-length zs))
+  zeros-last ones {i} l f = let e : i ≡ length zs = omega arith in sym (f .1 ∙ rw (e, drop-length zs, and-true (eqb ones 0)))
 
 -- ---- parties
 party-is : {r : ℕ} (ps : ℕ) (z : ℤ) (rest : List ℤ) → r ≡ numberBelow ps z → r ≤ ps → (r ≡ ps → ⊥) → partiesIn ps (z ∷ rest) ≡ (partiesIn ps rest >>= λ ns. some (r ∷ ns))

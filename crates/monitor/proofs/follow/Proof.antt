@@ -1,24 +1,22 @@
 use borrow.Author.Needs.{needs}
 use native.Mathlib.Omega.{arith}
 use Rattle.monitor.proofs.Begins.{short, time-cell}
-use Rattle.monitor.proofs.Follows.{units-ready, follow-few, follow-no, follow-yes}
+use Rattle.monitor.proofs.Follows.{units-ready, follow-few, follow-little}
 use Rattle.monitor.proofs.follow.Statement.{statement}
 use Rattle.monitor.proofs.follow.Tie as tie
 
 across-requires : tie.Need-across-requires
-across-requires c κs = ((c .before .before .before .before .before .before .pre .0 .goes .indexed, c .before .before .before .before .before .before .pre .1 .1 .1 .few, omega (arith, c .before .before .before .before .before .before .pre .1 .1 .1 .fits), omega arith, omega (arith, short (c .before .before .before .before .before .before .pre .0 .goes))), units-ready (c .before .before .before .before .before .before .pre .0) (c .before .before .before .before .before .before .pre .1 .0))
+across-requires c κs = let s = c .before .before .before .before .before .before .before in ((s .pre .0 .goes .indexed, s .pre .1 .1 .1 .few, omega (arith, s .pre .1 .1 .1 .fits), omega arith, omega (arith, short (s .pre .0 .goes))), units-ready (s .pre .0) (s .pre .1 .0))
 
 settle-requires : tie.Need-settle-requires
-settle-requires c κs = (c .before .before .before .before .before .before .before .before .before .before .before .pre .0 .isTable, c .before .before .before .out2 .given, (time-cell (c .before .before .before .before .before .before .before .before .before .before .before .pre .1 .1 .1 .fits)) .0, follow-few (c .before .before .before .before .before .before .before .before .before .before .before .pre .0) (c .before .before .before .before .before .before .before .before .before .before .before .pre .1 .0) _ _ _ _ (c .before .before .before .before .across .ensures) (c .before .before .before .before .before .before .before .before .before .before .before .pre .1 .1))
+settle-requires c κs = let s = c .before .before .before .before .before .before .before .before .before .before .before .before .before .before in (s .pre .0 .isTable, record { room = λ h. omega (arith, c .before .before .before .before .before .out2 .given, c .before .before .before .before .units-of .ensures, c .before .before .before .if2 .left) }, (time-cell (s .pre .1 .1 .1 .fits)) .0, follow-few (s .pre .0) (s .pre .1 .0) _ _ _ _ (c .before .before .before .before .before .before .across .ensures) (s .pre .1 .1))
 
-returns : tie.Need-returns
-returns c = λ bytes f. follow-no (c .before .before .before .before .before .before .before .before .before .before .before .before .before .before .pre .0) (c .before .before .before .before .before .before .before .before .before .before .before .before .before .before .pre .1 .0) _ _ _ _ (c .before .before .before .before .before .before .before .across .ensures) ((time-cell (c .before .before .before .before .before .before .before .before .before .before .before .before .before .before .pre .1 .1 .1 .fits)) .1) (c .before .before .settle .ensures) bytes f (c .if1 .taken)
-
-returns-2 : tie.Need-returns-2
-returns-2 c = λ bytes f. follow-yes (c .before .before .before .before .before .before .before .before .before .before .before .before .before .before .pre .0) (c .before .before .before .before .before .before .before .before .before .before .before .before .before .before .pre .1 .0) _ _ _ _ (c .before .before .before .before .before .before .before .across .ensures) ((time-cell (c .before .before .before .before .before .before .before .before .before .before .before .before .before .before .pre .1 .1 .1 .fits)) .1) (c .before .before .settle .ensures) bytes f (c .if1 .left)
+returns-3 : tie.Need-returns-3
+returns-3 c = let s = c .before .before .before .before .before .before .before .before .before .before .before .before .before .before .before .before in λ bytes f. follow-little (s .pre .0) (s .pre .1 .0) _ _ _ _ (c .before .before .before .before .before .before .before .before .across .ensures) ((time-cell (s .pre .1 .1 .1 .fits)) .1) (c .before .settle .ensures) bytes f (omega (arith, c .before .before .before .before .before .before .units-of .ensures, c .before .before .before .before .before .if2 .left))
 
 pub follow-spec : {M : Type 1} → statement M
 follow-spec = tie.close (tie.spec
-    (λ c. search needs) (λ c. search needs) (λ c. search needs) (λ c. search needs) across-requires
-    (λ c. search needs) (λ c. search needs) settle-requires (λ c. search needs) returns (λ c. search needs)
-    returns-2)
+    (λ c κs. search needs) (λ c. search needs) (λ c. search needs) (λ c. search needs) (λ c. search needs)
+    (λ c. search needs) (λ c. search needs) across-requires (λ c κs. search needs) (λ c κs. search needs)
+    (λ c. search needs) (λ c. search needs) (λ c. search needs) (λ c. search needs) settle-requires
+    (λ c. search needs) returns-3)

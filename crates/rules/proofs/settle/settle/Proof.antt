@@ -1,6 +1,6 @@
 use borrow.Author.Needs.{needs}
 use mathlib.Core.Path.{refl, _∙_}
-use Prim.Native.Nat.{ℕ, _-_, _*_}
+use Prim.Native.Nat.{ℕ, _-_, _*_, _≤_}
 use native.Mathlib.Omega.{arith}
 use lib.ListN.{length, drop, length-drop}
 use lib.Seq.{take-all}
@@ -29,14 +29,26 @@ returns-3 c =
     let t = read! {z = r .0 .0} (c .before .before .before .known-told .given .0 .1) in
     settled-breach _ (s .args .out .now) (s .args .table .now) (read (s .fits .time) ∙ s .pre .2) (c .before .put-head2 .last .0) (r .0 .0) (r .0 .1 .0) (r .1) (rw t at (c .before .put-head2 .ensures))
 
+-- what the test leaves of the units stands in out
+fits : (c : tie.After-table3) → 24 * (c .before .before .before .before .before .r2 .given .0 .0) ≤ length (c .before .before .before .before .before .before .before .args .out .now)
+fits c = (rw (c .before .before .before .before .before .r2 .given .1) at (c .before .before .before .before .before .before .before .pre .1 .room)) (omega (arith, c .before .before .before .if1 .left))
+
+sub-from : tie.Need-sub-from
+sub-from c = omega (arith, fits c)
+
 returns-4 : tie.Need-returns-4
 returns-4 c =
     let s = c .before .before .before .before .before .before .before .before .before .before .before in
     let r = c .before .before .before .before .before .before .before .before .before .r2 .given in
     let n : ℕ = r .0 .0 in
+    let room = fits (c .before .before .before .before) in
     let from : ℕ = length (s .args .out .now) - 24 * n in
     let part = take-all (length (s .args .out .now) - from) (drop from (s .args .out .now)) (rw (length-drop from (s .args .out .now)) (omega arith)) in
-    settled-running _ (s .args .out .now) (s .args .table .now) (read (s .fits .time) ∙ s .pre .2) n (omega (arith, c .before .before .before .before .before .before .before .if1 .left)) (s .pre .1) (c .before .before .before .before .before .put-head3 .last .0) (c .before .copy .last .0) (c .before .before .before .before .before .put-head3 .ensures) (rw part at (c .before .copy .ensures)) (r .1)
+    settled-running _ (s .args .out .now) (s .args .table .now) (read (s .fits .time) ∙ s .pre .2) n (omega (arith, c .before .before .before .before .before .before .before .if1 .left)) room (c .before .before .before .before .before .put-head3 .last .0) (c .before .copy .last .0) (c .before .before .before .before .before .put-head3 .ensures) (rw part at (c .before .copy .ensures)) (r .1)
 
 pub settle-spec : {M : Type 1} → statement M
-settle-spec = tie.close (tie.spec (λ c. search needs) (λ c κs. search needs) (λ c. search needs) put-head-requires-2 (λ c. search needs) returns (λ c κs. search needs) (λ c. search needs) (λ c. search needs) (λ c. search needs) (λ c. search needs) (λ c. search needs) (λ c. search needs) (λ c. search needs) (λ c. search needs) (λ c. search needs) (λ c κs. search needs) (λ c. search needs) returns-2 (λ c. search needs) returns-3 (λ c. search needs) returns-4)
+settle-spec = tie.close (tie.spec
+    (λ c. search needs) (λ c κs. search needs) (λ c. search needs) put-head-requires-2 (λ c. search needs) returns
+    (λ c κs. search needs) (λ c. search needs) sub-from (λ c. search needs) (λ c. search needs) (λ c. search needs)
+    (λ c. search needs) (λ c. search needs) (λ c. search needs) (λ c. search needs) (λ c κs. search needs)
+    (λ c. search needs) returns-2 (λ c. search needs) returns-3 (λ c. search needs) returns-4)
