@@ -67,11 +67,13 @@ fn keep_smaller(smallest: &mut Option<Difference>, found: Difference) {
     }
 }
 
-/// Prints what was never reached and the answers that cannot be right; true if there is neither.
+/// Prints what was never reached and the first answer that cannot be right; true if there is neither.
 fn report(coverage: &Coverage) -> bool {
     let missing = coverage.missing();
     missing.iter().for_each(|name| println!("never reached: {name}"));
-    coverage.faults.iter().for_each(|fault| println!("fault: {fault}"));
+    if let Some(fault) = coverage.faults.first() {
+        println!("{} answers cannot be right; the first: {fault}", coverage.faults.len());
+    }
     missing.is_empty() && coverage.faults.is_empty()
 }
 

@@ -10,7 +10,7 @@ use native.Mathlib.Omega.{arith}
 use lib.Dec.{T, leb, eqb, leb→le, eqb→eq}
 use lib.ListN.{length, length-map}
 use Rattle.arith.proofs.Lists.{length-part}
-use Rattle.arith.proofs.Bytes.{record-end-within, record-end-after}
+use Rattle.arith.proofs.Bytes.{byte-part, le16-part, record-end-within, record-end-after}
 use Rattle.csl.specs.Lists.{all, at}
 use Rattle.csl.specs.Bytes.{byte, le16, part, isRecord, kindNumber, recordEnd}
 use Rattle.csl.specs.Syntax.{Head}
@@ -273,20 +273,34 @@ module _ {places s : List ℕ} (x : Indexed places s) where
 pub part-piece : (s : List ℕ) {a e t : ℕ} → a ≡ t → e ≡ recordEnd s a → part s a e ≡ pieceAt s t
 part-piece s p q = rw (q, p)
 
-module _ {places s : List ℕ} {k a e r : ℕ} (x : Indexed places s × (k < byte s 10)) (p : a ≡ templatePlace s k) (q : e ≡ recordEnd s a) where
-  pub count-read : r ≡ byte (part s a e) 4 → (r ≡ byte (pieceAt s (templatePlace s k)) 4) × (r ≡ length (headAt s k .values)) × (r ≤ 8)
+-- a template's head, read where it stands in the agreement
+module _ {places s : List ℕ} {k a : ℕ} (x : Indexed places s × (k < byte s 10)) (p : a ≡ templatePlace s k) where
+  abbrev head : List ℕ
+  head = pieceAt s (templatePlace s k)
+
+  inside : templatePlace s k + (8 + byte head 4) ≤ recordEnd s (templatePlace s k)
+  unfolding bodyPlace
+  inside = body-within (x .0) k (x .1)
+
+  at-byte : (i : ℕ) → i < 8 + byte head 4 → byte s (a + i) ≡ byte head i
+  at-byte i h = ap (λ (b : ℕ). byte s (b + i)) p ∙ sym (byte-part s (templatePlace s k) (recordEnd s (templatePlace s k)) i (omega (arith, inside)))
+
+  pub count-read : {r : ℕ} → r ≡ byte s (a + 4) → (r ≡ byte head 4) × (r ≡ length (headAt s k .values)) × (r ≤ 8)
   count-read h =
-      let g = h ∙ ap (λ u. byte u 4) (part-piece s p q) in
+      let g = h ∙ at-byte 4 (omega arith) in
       (g, g ∙ sym (value-count (x .0) k (x .1)), omega (arith, template-facts (x .0) k (x .1) .few))
 
-  pub params-read : {n : ℕ} → n ≡ byte (pieceAt s (templatePlace s k)) 4 → r ≡ byte (part s a e) (5 + n) → (r ≡ headAt s k .params) × (r ≤ 4)
-  params-read {n} m h =
-      let t = pieceAt s (templatePlace s k) in
-      let g = h ∙ ap (λ u. byte u (5 + n)) (part-piece s p q) ∙ ap (λ i. byte t (5 + i)) m ∙ sym (params-is t) in
-      (g, omega (arith, few-params (x .0) k (x .1)))
+  module _ {n : ℕ} (m : n ≡ byte head 4) where
+    pub params-read : {r : ℕ} → r ≡ byte s (a + (5 + n)) → (r ≡ headAt s k .params) × (r ≤ 4)
+    params-read h =
+        let g = h ∙ at-byte (5 + n) (omega arith) ∙ ap (λ (i : ℕ). byte head (5 + i)) m ∙ sym (params-is head) in
+        (g, omega (arith, few-params (x .0) k (x .1)))
 
-  pub declared-read : {n : ℕ} → n ≡ byte (pieceAt s (templatePlace s k)) 4 → r ≡ le16 (part s a e) (6 + n) → r ≡ le16 (pieceAt s (templatePlace s k)) (6 + byte (pieceAt s (templatePlace s k)) 4)
-  declared-read {n} m h = h ∙ ap (λ u. le16 u (6 + n)) (part-piece s p q) ∙ ap (λ i. le16 (pieceAt s (templatePlace s k)) (6 + i)) m
+    pub declared-read : {r : ℕ} → r ≡ le16 s (a + (6 + n)) → r ≡ le16 head (6 + byte head 4)
+    declared-read h =
+        h ∙ ap (λ (b : ℕ). le16 s (b + (6 + n))) p
+        ∙ sym (le16-part s (templatePlace s k) (recordEnd s (templatePlace s k)) (6 + n) (omega (arith, inside)))
+        ∙ ap (λ (i : ℕ). le16 head (6 + i)) m
 
 -- ---- where the first clause part begins
 pub first-within : (k : ℕ) (s : List ℕ) → 4 ≤ length s → firstClause k s ≤ length s

@@ -27,7 +27,7 @@ pub fn wait_end(s: &[u8], i: usize) -> usize
 }
 
 // Where the first clause part of a clause of kind 17 to 21 begins.
-pub fn first_clause(s: &[u8], kind: usize) -> usize
+fn clause_part(s: &[u8], kind: usize) -> usize
     requires { ⌜ 4 ≤ length (now s) ⌝ }
     ensures { λ r. ⌜ (r ≡ firstClause kind (now (s .entry))) × (r ≤ length (now (s .entry))) × (4 ≤ r) ⌝ }
 {
@@ -37,6 +37,14 @@ pub fn first_clause(s: &[u8], kind: usize) -> usize
         19 => record_end(s, 4),
         _ => 4,
     }
+}
+
+// The same, asked of a slice made for it: a walker whose own slice is lent to no function keeps it in registers.
+pub fn first_clause(s: &[u8], kind: usize) -> usize
+    requires { ⌜ 4 ≤ length (now s) ⌝ }
+    ensures { λ r. ⌜ (r ≡ firstClause kind (now (s .entry))) × (r ≤ length (now (s .entry))) × (4 ≤ r) ⌝ }
+{
+    clause_part(&s[0..], kind)
 }
 
 // Where reading type k + 1, template k and the main clause begin.
@@ -66,9 +74,7 @@ pub fn value_count(agreement: &[u8], places: &[usize], k: usize) -> usize
     requires { ⌜ Indexed (now places) (now agreement) × (k < bytes.byte (now agreement) 10) ⌝ }
     ensures { λ r. ⌜ (r ≡ bytes.byte (pieceAt (now (agreement .entry)) (templatePlace (now (agreement .entry)) k)) 4) × (r ≡ length (headAt (now (agreement .entry)) k .values)) × (r ≤ 8) ⌝ }
 {
-    let a = template_place(agreement, places, k);
-    let e = record_end(agreement, a);
-    byte(&agreement[a..e], 4)
+    byte(agreement, template_place(agreement, places, k) + 4)
 }
 
 pub fn param_count(agreement: &[u8], places: &[usize], k: usize) -> usize
@@ -76,9 +82,7 @@ pub fn param_count(agreement: &[u8], places: &[usize], k: usize) -> usize
     ensures { λ r. ⌜ (r ≡ headAt (now (agreement .entry)) k .params) × (r ≤ 4) ⌝ }
 {
     let n = value_count(agreement, places, k);
-    let a = template_place(agreement, places, k);
-    let e = record_end(agreement, a);
-    byte(&agreement[a..e], 5 + n)
+    byte(agreement, template_place(agreement, places, k) + (5 + n))
 }
 
 pub fn declared_bits(agreement: &[u8], places: &[usize], k: usize) -> usize
@@ -86,9 +90,7 @@ pub fn declared_bits(agreement: &[u8], places: &[usize], k: usize) -> usize
     ensures { λ r. ⌜ (r ≡ le16 (pieceAt (now (agreement .entry)) (templatePlace (now (agreement .entry)) k)) (6 + bytes.byte (pieceAt (now (agreement .entry)) (templatePlace (now (agreement .entry)) k)) 4)) × (r < 65_536) ⌝ }
 {
     let n = value_count(agreement, places, k);
-    let a = template_place(agreement, places, k);
-    let e = record_end(agreement, a);
-    unsigned16(&agreement[a..e], 6 + n)
+    unsigned16(agreement, template_place(agreement, places, k) + (6 + n))
 }
 
 fn in_range(low: usize, high: usize, n: usize) -> bool

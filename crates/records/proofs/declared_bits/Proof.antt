@@ -4,10 +4,7 @@ use Rattle.records.proofs.declared_bits.Statement.{statement}
 use Rattle.records.proofs.declared_bits.Tie as tie
 
 returns : tie.Need-returns
-returns c =
-    let b = c .before .before in
-    let v = b .before .before in
-    (declared-read (v .before .before .before .pre) (b .before .template-place .ensures .0) (b .record-end .ensures .0) (v .value-count .ensures .0) (c .unsigned16 .ensures .0), c .unsigned16 .ensures .1)
+returns c = (declared-read (c .before .before .before .before .before .pre) (c .before .template-place .ensures .0) (c .before .before .value-count .ensures .0) (c .unsigned16 .ensures .0), c .unsigned16 .ensures .1)
 
 pub declared-bits-spec : {M : Type 1} → statement M
-declared-bits-spec = tie.close (tie.spec (λ c κs. search needs) (λ c κs. search needs) (λ c κs. search needs) (λ c. search needs) (λ c. search needs) (λ c. search needs) (λ c. search needs) (λ c κs. search needs) returns)
+declared-bits-spec = tie.close (tie.spec (λ c κs. search needs) (λ c κs. search needs) (λ c. search needs) (λ c. search needs) (λ c κs. search needs) returns)

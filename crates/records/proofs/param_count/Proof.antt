@@ -4,10 +4,7 @@ use Rattle.records.proofs.param_count.Statement.{statement}
 use Rattle.records.proofs.param_count.Tie as tie
 
 returns : tie.Need-returns
-returns c =
-    let b = c .before .before in
-    let v = b .before .before in
-    params-read (v .before .before .before .pre) (b .before .template-place .ensures .0) (b .record-end .ensures .0) (v .value-count .ensures .0) (c .byte .ensures .0)
+returns c = params-read (c .before .before .before .before .before .pre) (c .before .template-place .ensures .0) (c .before .before .value-count .ensures .0) (c .byte .ensures .0)
 
 pub param-count-spec : {M : Type 1} → statement M
-param-count-spec = tie.close (tie.spec (λ c κs. search needs) (λ c κs. search needs) (λ c κs. search needs) (λ c. search needs) (λ c. search needs) (λ c. search needs) (λ c. search needs) (λ c κs. search needs) returns)
+param-count-spec = tie.close (tie.spec (λ c κs. search needs) (λ c κs. search needs) (λ c. search needs) (λ c. search needs) (λ c κs. search needs) returns)

@@ -4,9 +4,7 @@ use Rattle.records.proofs.value_count.Statement.{statement}
 use Rattle.records.proofs.value_count.Tie as tie
 
 returns : tie.Need-returns
-returns c =
-    let b = c .before .before in
-    count-read (b .before .before .before .before .pre) (b .before .template-place .ensures .0) (b .record-end .ensures .0) (c .byte .ensures .0)
+returns c = count-read (c .before .before .before .before .pre) (c .before .template-place .ensures .0) (c .byte .ensures .0)
 
 pub value-count-spec : {M : Type 1} → statement M
-value-count-spec = tie.close (tie.spec (λ c κs. search needs) (λ c κs. search needs) (λ c. search needs) (λ c. search needs) (λ c. search needs) (λ c κs. search needs) returns)
+value-count-spec = tie.close (tie.spec (λ c κs. search needs) (λ c. search needs) (λ c κs. search needs) returns)
