@@ -383,15 +383,26 @@ fn join_either(l: Reduced, r: Reduced, out: &mut [i64]) -> Reduced
     }
 }
 
+// An answer made anew of its parts: one that is handed on whole is copied with the bytes between its parts.
+fn same(r: Reduced) -> Reduced
+    ensures { λ a. ⌜ a ≡ r ⌝ }
+{
+    match r {
+        Reduced::Done => Reduced::Done,
+        Reduced::Breach(t, b) => Reduced::Breach(t, b),
+        Reduced::Running(n) => Reduced::Running(n),
+    }
+}
+
 // The answer for an `and` or `or` from its sides' answers.
 fn join(kind: usize, l: Reduced, r: Reduced, out: &mut [i64]) -> Reduced
     requires { ⌜ (20 ≤ kind) × (kind < 22) × Counted l × Counted r × (length (now out) ≤ 3072) ⌝ }
     ensures { λ a. ⌜ JoinIs (joinOf kind) l r (now (out .entry)) a (now (out .exit)) ⌝ }
 {
     if kind == 20 {
-        return join_both(l, r, out);
+        return same(join_both(l, r, out));
     }
-    join_either(l, r, out)
+    same(join_either(l, r, out))
 }
 
 // Where a part begins that would begin at i: not beyond the end.
