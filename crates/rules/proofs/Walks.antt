@@ -1,7 +1,7 @@
 -- Laws of the rules as the code knows things: what each clause leads to.
 use mathlib.Core.Path.{_≡_, refl, sym, ap, _∙_, subst}
 use mathlib.Core.Bool.{Bool, true, false, cond, not}
-use mathlib.Core.List.{List, _++_}
+use mathlib.Core.List.{List, [], _++_}
 use mathlib.Core.Option.{Option, none, some}
 use Prim.Native.Nat.{ℕ, zero, suc, _+_, _-_, _≤_, _<_}
 use native.Mathlib.Nat.{not-suc-le-zero}
@@ -23,8 +23,8 @@ use Rattle.records.proofs.Index.{piece, heads-at, templates-at, templates-lengt
 use Rattle.csl.specs.Lists.{at}
 use Rattle.csl.specs.Numbers.{Held, laterOf}
 use Rattle.csl.specs.Bytes.{byte, part, isRecord, kindNumber, recordEnd}
-use Rattle.csl.specs.Syntax.{Expr, Clause, badClause, Wait, Template, Head}
-use Rattle.csl.specs.Decode.{ClauseKind, clauseKind, expr, waitAt, waitEnd, clause, clauseBody, instanceOf, headsOf, arguments, argumentsEnd, ifKind, obligationKind, choiceKind, instanceKind, bodyPlace, bodyOf, templateOf}
+use Rattle.csl.specs.Syntax.{Expr, Join, and, or, Clause, badClause, Wait, Template, Head}
+use Rattle.csl.specs.Decode.{ClauseKind, clauseKind, expr, waitAt, waitEnd, clause, clauseBody, instanceOf, headsOf, arguments, argumentsEnd, ifKind, obligationKind, choiceKind, joinOf, instanceKind, bodyPlace, bodyOf, templateOf}
 use Rattle.cells.specs.Evaluate.{evalCells, evalsCells, isTrue}
 use Rattle.cells.specs.Reduce as cells
 use Rattle.cells.specs.Reduce.{Mode, activating, fate, waits, late, taken, lastOf, thenValues, blamedCells, blameBits}
@@ -32,14 +32,16 @@ use Rattle.records.proofs.Trees.{clause-zero, clause-none, clause-at, kind-no-c
 use Rattle.rules.proofs.Evaluates.{is-one, is-none}
 use Rattle.rules.specs.Reduces.{modeOf}
 use Rattle.rules.specs.Parts.{modeAt, FateIs}
-use Rattle.rules.specs.Leads.{Leads, reduceBelow, bodyIn, templatesOf, bodyFrom, bodyTo}
+use Rattle.rules.specs.Leads.{Leads, Shaped, Acting, Ended, reduceAt, reduceBelow, bodyIn, templatesOf, bodyFrom, bodyTo}
 use Rattle.rules.specs.declared.Event.{Event}
+use Rattle.rules.specs.declared.Site.{Site}
 use Rattle.rules.specs.declared.Step.{Step}
 use Rattle.rules.specs.declared.Step.the-variants.{Activate, Forecast, Follow}
 use Rattle.rules.specs.declared.Fate.{Fate}
 use Rattle.rules.specs.declared.Fate.the-variants.{Waits as WaitsOn, Late, Taken}
 use Rattle.rules.specs.declared.Next.{Next}
-use Rattle.rules.specs.declared.Next.the-variants.{Ends, Breaks, Waits, Goes, Takes, Joins, Unfolds}
+use Rattle.rules.specs.declared.Next.the-variants.{Ends, Breaks, Waits, Goes, Takes, Unfolds}
+use Rattle.rules.specs.declared.Shape.{Shape}
 
 -- ---- what a wait is known to become
 module _ (m : Mode) (vs : List ℤ) (a : ℕ) (w : Wait) {f : Fate} (h : FateIs m vs a w f) where
@@ -241,51 +243,132 @@ then-is ag c ps vs a =
     ∙ ap (λ n. cells.walk activating (cells.activate ts) (cells.unfoldBelow activating (cells.activate ts) ts n) c ps vs a) (templates-length ag)
 
 -- ---- by the record's kind
-module _ (e : Event) (rs : List ℤ) (ag : List ℕ) (below : ℕ) (s : List ℕ) (place : ℕ) (ps vs : List ℤ) (a depth : ℕ) (written : List ℤ) where
-  abbrev LeadsFrom : Clause → Next → Type 0
-  LeadsFrom c r = Leads e rs ag below s place ps vs a depth c written r
+module _ (e : Event) (rs : List ℤ) (ag : List ℕ) (below : ℕ) (s : List ℕ) (place : ℕ) (ps vs : List ℤ) (a depth : ℕ) where
+  abbrev does : Clause → cells.Reduced
+  does c = reduceBelow (modeAt e rs) ag below c ps vs a
 
-  abbrev ends : Clause → cells.Reduced
-  ends c = reduceBelow (modeAt e rs) ag below c ps vs a
+  abbrev here : Clause
+  here = clause (headsOf ag) depth place s
 
-  ends-bad : cells.done ≡ ends badClause
+  does-bad : cells.done ≡ does badClause
   unfolding reduceBelow cells.walk
-  ends-bad = refl
+  does-bad = refl
 
-  pub leads-zero : depth ≡ 0 → LeadsFrom (clause (headsOf ag) depth place s) Ends
-  unfolding Leads
-  leads-zero h = sym (clause-zero ends (headsOf ag) depth place s h ends-bad)
+  pub ends-zero : depth ≡ 0 → does here ≡ cells.done
+  ends-zero h = sym (clause-zero does (headsOf ag) depth place s h does-bad)
 
-  pub leads-none : {b : Bool} → (depth ≡ 0 → ⊥) → b ≡ isRecord s → not b ≡ true → LeadsFrom (clause (headsOf ag) depth place s) Ends
-  unfolding Leads
-  leads-none n g h = sym (clause-none ends (headsOf ag) depth place s n g (is-none h) ends-bad)
+  pub ends-none : {b : Bool} → (depth ≡ 0 → ⊥) → b ≡ isRecord s → not b ≡ true → does here ≡ cells.done
+  ends-none n g h = sym (clause-none does (headsOf ag) depth place s n g (is-none h) does-bad)
 
   module _ {b : Bool} {m : ℕ} (n : depth ≡ 0 → ⊥) (g : b ≡ isRecord s) (h : not b ≡ false) (em : m ≡ kindNumber s) where
-    clause-is : {k : ClauseKind} → clauseKind m ≡ k → bodyIn ag (depth - 1) place s k ≡ clause (headsOf ag) depth place s
+    clause-is : {k : ClauseKind} → clauseKind m ≡ k → bodyIn ag (depth - 1) place s k ≡ here
     clause-is {k} q = clause-at (λ c. c) (headsOf ag) depth place s n g (is-one h) em (ap (bodyIn ag (depth - 1) place s) (sym q))
 
-    pub leads-body : {k : ClauseKind} → clauseKind m ≡ k → (r : Next) → LeadsFrom (bodyIn ag (depth - 1) place s k) r → LeadsFrom (clause (headsOf ag) depth place s) r
-    leads-body q r x = subst (λ c. LeadsFrom c r) (clause-is q) x
-
-    pub leads-low : m ≤ 16 → LeadsFrom (clause (headsOf ag) depth place s) Ends
-    unfolding Leads reduceBelow cells.walk clauseBody
-    leads-low l = by-number (decLe m 15)
+    ends-low : m ≤ 16 → does here ≡ cells.done
+    unfolding reduceBelow cells.walk clauseBody
+    ends-low l = by-number (decLe m 15)
       where
-        by-length : (t : Bool) → reduceBelow (modeAt e rs) ag below (cond t Clause.fulfilled badClause) ps vs a ≡ cells.done
+        by-length : (t : Bool) → does (cond t Clause.fulfilled badClause) ≡ cells.done
         by-length true = refl
         by-length false = refl
 
-        by-number : Dec (m ≤ 15) → LeadsFrom (clause (headsOf ag) depth place s) Ends
-        by-number (yes p) = leads-body (kind-no-clause-low m (omega arith)) Ends refl
-        by-number (no p) = leads-body (kind-fulfilled {k = m} (omega arith)) Ends (by-length (eqb (length s) 4))
+        by-number : Dec (m ≤ 15) → does here ≡ cells.done
+        by-number (yes p) = ap does (sym (clause-is (kind-no-clause-low m (omega arith))))
+        by-number (no p) = ap does (sym (clause-is (kind-fulfilled {k = m} (omega arith)))) ∙ by-length (eqb (length s) 4)
 
-    pub leads-high : 23 ≤ m → LeadsFrom (clause (headsOf ag) depth place s) Ends
-    unfolding Leads reduceBelow cells.walk clauseBody
-    leads-high l = leads-body (kind-no-clause-high m l) Ends refl
+    ends-high : 23 ≤ m → does here ≡ cells.done
+    unfolding reduceBelow cells.walk clauseBody
+    ends-high l = ap does (sym (clause-is (kind-no-clause-high m l)))
 
-    pub leads-join : {f : ℕ} → 20 ≤ m → m < 22 → 1 ≤ depth → f ≡ recordEnd s 4 → 4 ≤ f → f ≤ length s → LeadsFrom (clause (headsOf ag) depth place s) (Joins m f)
-    unfolding Leads reduceBelow cells.walk clauseBody
-    leads-join {f} l u d ef o i = leads-body (kind-join m l u) (Joins m f) (record { is = rw ef; from = l; to = u; order = o; inside = i; deep = d })
+    pub shaped-acts : 17 ≤ m → m < 23 → (20 ≤ m → m < 22 → ⊥) → Shaped e rs ag below s place ps vs a depth here Shape.Acts
+    unfolding Shaped
+    shaped-acts l u f = record { deep = omega (arith, n); whole = sym g ∙ is-one h; from = omega arith; to = omega arith; single = λ x y. f (omega arith) (omega arith) }
+
+  pub leads-body : Acting depth s → {m : ℕ} → m ≡ kindNumber s → {k : ClauseKind} → clauseKind m ≡ k → (written : List ℤ) (r : Next) → Leads e rs ag below s place ps vs a depth (bodyIn ag (depth - 1) place s k) written r → Leads e rs ag below s place ps vs a depth here written r
+  leads-body t em q written r x = subst (λ c. Leads e rs ag below s place ps vs a depth c written r) (clause-is (λ z. omega (arith, t .deep)) (sym (t .whole)) refl em q) x
+
+-- the last kind of a clause that acts
+pub acting-last : {depth : ℕ} {s : List ℕ} → Acting depth s → {m : ℕ} → m ≡ kindNumber s → (m ≡ 17 → ⊥) → (m ≡ 18 → ⊥) → (m ≡ 19 → ⊥) → m ≡ 22
+acting-last {s = s} t {m} em f g h = by-number (decLe m 21)
+  where
+    by-number : Dec (m ≤ 21) → m ≡ 22
+    by-number (yes p) = absurd (t .single (omega (arith, t .from)) (omega arith))
+    by-number (no p) = omega (arith, t .to)
+
+-- a record of no kind that does anything, at any depth and of any length
+pub ended : (s : List ℕ) {m : ℕ} → m ≡ kindNumber s → (17 ≤ m → m < 23 → ⊥) → Ended s
+ended s {m} em f = record { is = λ e rs ag t ps vs. by-depth e rs ag t ps vs (t .depth) refl }
+  where
+    by-record : (e : Event) (rs : List ℤ) (ag : List ℕ) (t : Site) (ps vs : List ℤ) → (t .depth ≡ 0 → ⊥) → (b : Bool) → b ≡ isRecord s → reduceAt e rs ag t s ps vs ≡ cells.done
+    by-record e rs ag t ps vs n false g = ends-none e rs ag (t .below) s (t .place) ps vs (t .a) (t .depth) n g refl
+    by-record e rs ag t ps vs n true g = by-number (decLe m 16) (decLe 23 m)
+      where
+        by-number : Dec (m ≤ 16) → Dec (23 ≤ m) → reduceAt e rs ag t s ps vs ≡ cells.done
+        by-number (yes p) q = ends-low e rs ag (t .below) s (t .place) ps vs (t .a) (t .depth) n g refl em p
+        by-number (no p) (yes q) = ends-high e rs ag (t .below) s (t .place) ps vs (t .a) (t .depth) n g refl em q
+        by-number (no p) (no q) = absurd (f (omega arith) (omega arith))
+
+    by-depth : (e : Event) (rs : List ℤ) (ag : List ℕ) (t : Site) (ps vs : List ℤ) (d : ℕ) → t .depth ≡ d → reduceAt e rs ag t s ps vs ≡ cells.done
+    by-depth e rs ag t ps vs zero h = ends-zero e rs ag (t .below) s (t .place) ps vs (t .a) (t .depth) h
+    by-depth e rs ag t ps vs (suc d) h = by-record e rs ag t ps vs (λ z. omega arith) (isRecord s) refl
+
+-- ---- the two sides of a join
+join-done : (j : Join) → cells.joined j cells.done cells.done ≡ cells.done
+unfolding cells.joined cells.joinBoth cells.joinEither
+join-done and = refl
+join-done or = refl
+
+and-done : (x : cells.Reduced) → cells.joined and x cells.done ≡ x
+unfolding cells.joined cells.joinBoth
+and-done cells.done = refl
+and-done (cells.breach t b) = refl
+and-done (cells.running r) = refl
+
+or-done : (x : cells.Reduced) → cells.joined or x cells.done ≡ cells.done
+unfolding cells.joined cells.joinEither
+or-done cells.done = refl
+or-done (cells.breach t b) = refl
+or-done (cells.running r) = refl
+
+module _ (e : Event) (rs : List ℤ) (ag : List ℕ) (below : ℕ) (s : List ℕ) (place : ℕ) (ps vs : List ℤ) (a depth : ℕ) {b : Bool} {k f : ℕ} (n : depth ≡ 0 → ⊥) (g : b ≡ isRecord s) (h : not b ≡ false) (em : k ≡ kindNumber s) (l : 20 ≤ k) (u : k < 22) (ef : f ≡ recordEnd s 4) (i : f ≤ length s) (o : 4 ≤ f) where
+  abbrev SidesAre : Shape → Type 0
+  SidesAre r = Shaped e rs ag below s place ps vs a depth (clause (headsOf ag) depth place s) r
+
+  abbrev sideSite : ℕ → Site
+  sideSite x = record { below = below; place = place + x; a = a; depth = depth - 1 }
+
+  abbrev side : ℕ → ℕ → cells.Reduced
+  side x y = reduceAt e rs ag (sideSite x) (part s x y) ps vs
+
+  two : reduceBelow (modeAt e rs) ag below (clause (headsOf ag) depth place s) ps vs a ≡ cells.joined (joinOf k) (side 4 f) (side f (length s))
+  unfolding reduceBelow cells.walk clauseBody
+  two = ap (λ c. reduceBelow (modeAt e rs) ag below c ps vs a) (sym (clause-is e rs ag below s place ps vs a depth n g h em (kind-join k l u))) ∙ rw ef
+
+  pub sides-joined : SidesAre (Shape.Joins k f)
+  unfolding Shaped
+  sides-joined = record { is = two; from = l; to = u; order = o; inside = i; deep = omega (arith, n) }
+
+  module _ (p : Ended (part s 4 f)) where
+    pub sides-ended : Ended (part s f (length s)) → SidesAre Shape.Ends
+    unfolding Shaped
+    sides-ended q = two ∙ rw (p .is e rs ag (sideSite 4) ps vs, q .is e rs ag (sideSite f) ps vs) (join-done (joinOf k))
+
+    pub right-goes : k ≡ 20 → SidesAre (Shape.Goes f (length s))
+    unfolding Shaped joinOf cells.joined cells.joinBoth
+    right-goes x = record { is = two ∙ rw (x, p .is e rs ag (sideSite 4) ps vs); order = i; inside = omega arith; deep = omega (arith, n); soon = omega arith }
+
+    pub left-ends : (k ≡ 20 → ⊥) → SidesAre Shape.Ends
+    unfolding Shaped joinOf cells.joined cells.joinEither
+    left-ends x = two ∙ rw (ne-eqb k 20 x, p .is e rs ag (sideSite 4) ps vs)
+
+  module _ (q : Ended (part s f (length s))) where
+    pub left-goes : k ≡ 20 → SidesAre (Shape.Goes 4 f)
+    unfolding Shaped joinOf
+    left-goes x = record { is = two ∙ rw (x, q .is e rs ag (sideSite f) ps vs) (and-done (side 4 f)); order = o; inside = i; deep = omega (arith, n); soon = omega arith }
+
+    pub right-ends : (k ≡ 20 → ⊥) → SidesAre Shape.Ends
+    unfolding Shaped joinOf
+    right-ends x = two ∙ rw (ne-eqb k 20 x, q .is e rs ag (sideSite f) ps vs) (or-done (side 4 f))
 
 pub body-from : (ag : List ℕ) (k : ℕ) {t n : ℕ} → t ≡ templatePlace ag k → n ≡ byte (pieceAt ag (templatePlace ag k)) 4 → t + (8 + n) ≡ bodyFrom ag k
 unfolding bodyPlace

@@ -1,10 +1,11 @@
 -- What a clause leads to, as the code says it before it recurs.
 use mathlib.Core.Path.{_≡_}
+use mathlib.Core.Bool.{true}
 use mathlib.Core.List.{List}
 use Prim.Native.Nat.{ℕ, _+_, _-_, _*_, _≤_, _<_}
 use lib.IntN.{ℤ, pos}
 use lib.ListN.{length, take, drop}
-use Rattle.csl.specs.Bytes.{byte, part, recordEnd}
+use Rattle.csl.specs.Bytes.{byte, part, isRecord, kindNumber, recordEnd}
 use Rattle.csl.specs.Syntax.{Clause, Template}
 use Rattle.csl.specs.Decode.{ClauseKind, clauseBody, clause, expr, headsOf, agreementOf, joinOf, bodyPlace}
 use Rattle.records.specs.Index.{Indexed, templatePlace, pieceAt, headAt}
@@ -17,7 +18,8 @@ use Rattle.rules.specs.declared.Step.the-variants.{Activate, Forecast, F
 use Rattle.rules.specs.declared.Site.{Site}
 use Rattle.rules.specs.declared.Event.{Event}
 use Rattle.rules.specs.declared.Next.{Next}
-use Rattle.rules.specs.declared.Next.the-variants.{Ends, Breaks, Waits, Goes, Takes, Joins, Unfolds}
+use Rattle.rules.specs.declared.Next.the-variants.{Ends, Breaks, Waits, Goes, Takes, Unfolds}
+use Rattle.rules.specs.declared.Shape.{Shape}
 
 abbrev pub templatesOf : List ℕ → List Template
 templatesOf ag = agreementOf ag .templates
@@ -37,8 +39,16 @@ bodyFrom ag k = templatePlace ag k + bodyPlace (pieceAt ag (templatePlace ag k))
 abbrev pub bodyTo : List ℕ → ℕ → ℕ
 bodyTo ag k = recordEnd ag (templatePlace ag k)
 
--- what the clause c does, which stands in the record s; `cells` has what an arm has written
-module _ (e : Event) (rs : List ℤ) (ag : List ℕ) (below : ℕ) (s : List ℕ) (place : ℕ) (ps vs : List ℤ) (a depth : ℕ) (c : Clause) (written : List ℤ) where
+-- a record of a clause that acts: an obligation, a choice, an `if` or an instance
+pub record Acting (depth : ℕ) (s : List ℕ) : Type 0 where
+  pub deep : 1 ≤ depth
+  pub whole : isRecord s ≡ true
+  pub from : 17 ≤ kindNumber s
+  pub to : kindNumber s < 23
+  pub single : 20 ≤ kindNumber s → kindNumber s < 22 → ⊥
+
+-- what the clause c does, which stands in the record s
+module _ (e : Event) (rs : List ℤ) (ag : List ℕ) (below : ℕ) (s : List ℕ) (place : ℕ) (ps vs : List ℤ) (a depth : ℕ) (c : Clause) where
   abbrev reduced : Clause → ℕ → cells.Reduced
   reduced x b = reduceBelow (modeAt e rs) ag below x ps vs b
 
@@ -52,14 +62,6 @@ module _ (e : Event) (rs : List ℤ) (ag : List ℕ) (below : ℕ) (s : List ℕ
     pub deep : 1 ≤ depth
     pub soon : b ≤ a + 2_000_000_000
 
-  pub record IsTaken (x y n : ℕ) : Type 0 where
-    pub is : reduced c a ≡ cells.activate (templatesOf ag) (inner x y) ps (take n written) (e .time)
-    pub order : x ≤ y
-    pub inside : y ≤ length s
-    pub deep : 1 ≤ depth
-    pub few : n ≤ 16
-    pub follows : e .step ≡ Follow
-
   pub record HasSides (k f : ℕ) : Type 0 where
     pub is : reduced c a ≡ joined (joinOf k) (reduced (inner 4 f) a) (reduced (inner f (length s)) a)
     pub from : 20 ≤ k
@@ -68,18 +70,34 @@ module _ (e : Event) (rs : List ℤ) (ag : List ℕ) (below : ℕ) (s : List ℕ
     pub inside : f ≤ length s
     pub deep : 1 ≤ depth
 
-  pub record IsInstance (k : ℕ) : Type 0 where
-    pub is : reduced c a ≡ reduceBelow (modeAt e rs) ag k (clause (headsOf ag) 22 (bodyFrom ag k) (part ag (bodyFrom ag k) (bodyTo ag k))) (take (headAt ag k .params) (drop 16 written)) (take (length (headAt ag k .values)) written) a
-    pub less : k < below
+  -- as its record shows it
+  unfoldable pub Shaped : Shape → Type 0
+  Shaped Shape.Ends = reduced c a ≡ cells.done
+  Shaped (Shape.Goes x y) = GoesOn x y a
+  Shaped (Shape.Joins k f) = HasSides k f
+  Shaped Shape.Acts = Acting depth s
 
-  unfoldable pub Leads : Next → Type 0
-  Leads Ends = reduced c a ≡ cells.done
-  Leads (Breaks t b) = (u : ℕ) × (reduced c a ≡ cells.breach u b) × (t ≡ pos u)
-  Leads (Waits k) = (reduced c a ≡ cells.running (unitOf k place a ps vs)) × (k ≤ 18)
-  Leads (Goes x y b) = GoesOn x y b
-  Leads (Takes x y n) = IsTaken x y n
-  Leads (Joins k f) = HasSides k f
-  Leads (Unfolds k) = IsInstance k
+  -- `written` is what an arm has written
+  module _ (written : List ℤ) where
+    pub record IsTaken (x y n : ℕ) : Type 0 where
+      pub is : reduced c a ≡ cells.activate (templatesOf ag) (inner x y) ps (take n written) (e .time)
+      pub order : x ≤ y
+      pub inside : y ≤ length s
+      pub deep : 1 ≤ depth
+      pub few : n ≤ 16
+      pub follows : e .step ≡ Follow
+
+    pub record IsInstance (k : ℕ) : Type 0 where
+      pub is : reduced c a ≡ reduceBelow (modeAt e rs) ag k (clause (headsOf ag) 22 (bodyFrom ag k) (part ag (bodyFrom ag k) (bodyTo ag k))) (take (headAt ag k .params) (drop 16 written)) (take (length (headAt ag k .values)) written) a
+      pub less : k < below
+
+    unfoldable pub Leads : Next → Type 0
+    Leads Ends = reduced c a ≡ cells.done
+    Leads (Breaks t b) = (u : ℕ) × (reduced c a ≡ cells.breach u b) × (t ≡ pos u)
+    Leads (Waits k) = (reduced c a ≡ cells.running (unitOf k place a ps vs)) × (k ≤ 18)
+    Leads (Goes x y b) = GoesOn x y b
+    Leads (Takes x y n) = IsTaken x y n
+    Leads (Unfolds k) = IsInstance k
 
 -- ---- what the code is promised: an indexed agreement, few values, and a time so near that no window within is far
 pub record Ready (places ag : List ℕ) (e : Event) (rs : List ℤ) (t : Site) (ps vs : List ℤ) : Type 0 where
@@ -116,6 +134,10 @@ bodySite ag t k = record { below = k; place = bodyFrom ag k; a = t .a; depth = 2
 -- what a clause in the record s at a site does
 abbrev pub reduceAt : Event → List ℤ → List ℕ → Site → List ℕ → List ℤ → List ℤ → cells.Reduced
 reduceAt e rs ag t s ps vs = reduceBelow (modeAt e rs) ag (t .below) (clause (headsOf ag) (t .depth) (t .place) s) ps vs (t .a)
+
+-- there is nothing to do in the record s, wherever it stands
+pub record Ended (s : List ℕ) : Type 0 where
+  pub is : (e : Event) (rs : List ℤ) (ag : List ℕ) (t : Site) (ps vs : List ℤ) → reduceAt e rs ag t s ps vs ≡ cells.done
 
 -- a step that takes readings before one that takes none
 abbrev pub rank : Step → ℕ

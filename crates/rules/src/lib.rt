@@ -3,6 +3,7 @@ pub mod across;
 pub mod settle;
 
 ghost use mathlib.Core.Path.{_≡_};
+ghost use mathlib.Core.Bool.{true};
 ghost use mathlib.Core.List.{List, _++_, _∷_, []};
 ghost use Prim.Native.Nat.{ℕ, _+_, _-_, _*_, _≤_, _<_, min};
 ghost use lib.IntN.{ℤ, pos, _-ℤ_};
@@ -20,7 +21,7 @@ ghost use Rattle.csl.specs.Table.{padded};
 ghost use Rattle.cells.specs.Reduce.{unitOf, joined, running, earlier, later, following, thenValues, blamedCell, blamedCells, blameBits};
 ghost use Rattle.rules.specs.Reduces.{Is, farthest, roomLeft, Counted, JoinIs, BreachIs};
 ghost use Rattle.records.specs.Index.{Indexed, headAt};
-ghost use Rattle.rules.specs.Leads.{Leads, Ready, Fits, Sided, reduceAt, innerSite, bodySite, bodyIn, bodyFrom, bodyTo};
+ghost use Rattle.rules.specs.Leads.{Leads, Ready, Fits, Sided, Shaped, Acting, Ended, reduceAt, innerSite, bodySite, bodyIn, bodyFrom, bodyTo};
 ghost use Rattle.rules.specs.Parts.{leafOf, negatedCell, modeAt, FateIs, WindowIs, conditionOf};
 use arith::byte;
 use arith::difference;
@@ -90,14 +91,21 @@ enum Fate {
     Taken(i64),
 }
 
-// What a clause leads to: an end, a breach, a waiting unit of a sort; a part of its bytes at a time; a `then` in a part of its bytes, with so many values; the kind of a join and where its right side begins; a template.
+// What a record shows by kinds alone: that there is nothing to do; a part of its bytes that does the same; the kind of a join and where its right side begins; a clause that acts.
+enum Shape {
+    Ends,
+    Goes(usize, usize),
+    Joins(usize, usize),
+    Acts,
+}
+
+// What a clause that acts leads to: an end, a breach, a waiting unit of a sort; a part of its bytes at a time; a `then` in a part of its bytes, with so many values; a template.
 enum Next {
     Ends,
     Breaks(i64, usize),
     Waits(usize),
     Goes(usize, usize, usize),
     Takes(usize, usize, usize),
-    Joins(usize, usize),
     Unfolds(usize),
 }
 
@@ -702,7 +710,7 @@ fn instance(
     Next::Unfolds(k)
 }
 
-// What the clause in the record s does at a site, before anything within it is activated.
+// What the clause that acts in the record s does at a site, before anything within it is activated.
 fn leads_to(
     agreement: &[u8],
     places: &[usize],
@@ -714,26 +722,64 @@ fn leads_to(
     vs: &[i64],
     cells: &mut [i64],
 ) -> Next
-    requires { ⌜ Ready (now places) (now agreement) event (now rs) site (now ps) (now vs) × (length (now cells) ≡ 24) ⌝ }
+    requires { ⌜ Ready (now places) (now agreement) event (now rs) site (now ps) (now vs) × Acting (site .depth) (now s) × (length (now cells) ≡ 24) ⌝ }
     ensures { λ r. ⌜ Leads event (now (rs .entry)) (now (agreement .entry)) (site .below) (now (s .entry)) (site .place) (now (ps .entry)) (now (vs .entry)) (site .a) (site .depth) (clause (headsOf (now (agreement .entry))) (site .depth) (site .place) (now (s .entry))) (now (cells .exit)) r ⌝ }
 {
     let below = site.below;
     let a = site.a;
     let depth = site.depth;
-    if depth == 0 {
-        return Next::Ends;
-    }
-    if !is_record(s) {
-        return Next::Ends;
-    }
-    let k = kind(s);
-    match k {
+    match kind(s) {
         17 => obligation(event, s, ps, vs, rs, a, depth, cells),
         18 => choice(event, s, ps, vs, rs, a, depth, cells),
         19 => chosen(s, vs, a, depth),
-        22 => instance(agreement, places, below, s, ps, vs, depth - 1, cells),
-        20..=21 => Next::Joins(k, record_end(s, 4)),
-        _ => Next::Ends,
+        _ => instance(agreement, places, below, s, ps, vs, depth - 1, cells),
+    }
+}
+
+// Only clauses of kinds 17 to 22 do anything: any other record is as good as fulfilled, at any depth and of any length.
+fn ends(s: &[u8]) -> bool
+    ensures { λ r. ⌜ (r ≡ true → Ended (now (s .entry))) ⌝ }
+{
+    match kind(s) {
+        17..=22 => false,
+        _ => true,
+    }
+}
+
+// What the record s shows. Beside a side with nothing to do an `and` does what its other side does, and an `or` is fulfilled.
+fn outline(s: &[u8], depth: usize) -> Shape
+    ensures { λ r. ⌜ ((e : Event) (rs : List ℤ) (ag : List ℕ) (below place : ℕ) (ps vs : List ℤ) (a : ℕ) → Shaped e rs ag below (now (s .entry)) place ps vs a depth (clause (headsOf ag) depth place (now (s .entry))) r) ⌝ }
+{
+    if depth == 0 {
+        return Shape::Ends;
+    }
+    if !is_record(s) {
+        return Shape::Ends;
+    }
+    let k = kind(s);
+    match k {
+        20..=21 => {
+            let f = record_end(s, 4);
+            let right = ends(&s[f..]);
+            if ends(&s[4..f]) {
+                if right {
+                    return Shape::Ends;
+                }
+                if k == 20 {
+                    return Shape::Goes(f, s.len());
+                }
+                return Shape::Ends;
+            }
+            if right {
+                if k == 20 {
+                    return Shape::Goes(4, f);
+                }
+                return Shape::Ends;
+            }
+            Shape::Joins(k, f)
+        }
+        17..=22 => Shape::Acts,
+        _ => Shape::Ends,
     }
 }
 
@@ -813,14 +859,39 @@ pub fn activate(
     requires { ⌜ Ready (now places) (now agreement) event (now rs) site (now ps) (now vs) × Fits (now agreement) site (now s) (now out) ⌝ }
     ensures { λ r. ⌜ Is (reduceAt event (now (rs .entry)) (now (agreement .entry)) site (now (s .entry)) (now (ps .entry)) (now (vs .entry))) r (now (out .exit)) ⌝ }
 {
+    match outline(s, site.depth) {
+        Shape::Ends => Reduced::Done,
+        Shape::Goes(x, y) => {
+            let a = site.a;
+            inside(agreement, places, event, rs, site, s, x, y, a, ps, vs, out)
+        }
+        Shape::Joins(k, f) => both(agreement, places, event, rs, site, s, k, f, ps, vs, out),
+        Shape::Acts => act(agreement, places, event, rs, site, s, ps, vs, out),
+    }
+}
+
+// The same of a clause that acts. It alone needs cells, which ends and joins, being many, are spared.
+fn act(
+    agreement: &[u8],
+    places: &[usize],
+    event: Event,
+    rs: &[i64],
+    site: Site,
+    s: &[u8],
+    ps: &[i64],
+    vs: &[i64],
+    out: &mut [i64],
+) -> Reduced
+    requires { ⌜ Ready (now places) (now agreement) event (now rs) site (now ps) (now vs) × Fits (now agreement) site (now s) (now out) × Acting (site .depth) (now s) ⌝ }
+    ensures { λ r. ⌜ Is (reduceAt event (now (rs .entry)) (now (agreement .entry)) site (now (s .entry)) (now (ps .entry)) (now (vs .entry))) r (now (out .exit)) ⌝ }
+{
     let mut cells = [0i64; 24];
     match leads_to(agreement, places, event, rs, site, s, ps, vs, &mut cells) {
         Next::Ends => Reduced::Done,
         Next::Breaks(t, b) => Reduced::Breach(t, b),
         Next::Waits(sort) => put_unit(out, sort, site.place, site.a, ps, vs),
         Next::Goes(x, y, a) => {
-            let inner = within(site, x, a);
-            activate(agreement, places, event, rs, inner, &s[x..y], ps, vs, out)
+            inside(agreement, places, event, rs, site, s, x, y, a, ps, vs, out)
         }
         Next::Takes(x, y, n) => {
             let first = activated(event);
@@ -828,9 +899,31 @@ pub fn activate(
             let us = &cells[..n];
             activate(agreement, places, first, rs, then, &s[x..y], ps, us, out)
         }
-        Next::Joins(k, f) => both(agreement, places, event, rs, site, s, k, f, ps, vs, out),
         Next::Unfolds(k) => unfold(agreement, places, event, rs, site, k, &cells, out),
     }
+}
+
+// The clause in a part of the record s, at the time a. It stands apart so that `activate` copies no arguments before it knows the shape.
+fn inside(
+    agreement: &[u8],
+    places: &[usize],
+    event: Event,
+    rs: &[i64],
+    site: Site,
+    s: &[u8],
+    from: usize,
+    to: usize,
+    a: usize,
+    ps: &[i64],
+    vs: &[i64],
+    out: &mut [i64],
+) -> Reduced
+    requires { ⌜ Ready (now places) (now agreement) event (now rs) site (now ps) (now vs) × Fits (now agreement) site (now s) (now out) × (1 ≤ site .depth) × (from ≤ to) × (to ≤ length (now s)) × (a ≤ site .a + 2_000_000_000) ⌝ }
+    ensures { λ r. ⌜ Is (reduceAt event (now (rs .entry)) (now (agreement .entry)) (innerSite site from a) (part (now (s .entry)) from to) (now (ps .entry)) (now (vs .entry))) r (now (out .exit)) ⌝ }
+{
+    let inner = within(site, from, a);
+    let t = &s[from..to];
+    activate(agreement, places, event, rs, inner, t, ps, vs, out)
 }
 
 // A clause with two sides, of which the right one begins at f: the right side first, the left side into the cells that are left, the join's unit below both.

@@ -1,0 +1,18 @@
+use borrow.Author.Needs.{needs}
+use mathlib.Core.Bool.{false≢true}
+use native.Mathlib.Omega.{arith}
+use Rattle.rules.proofs.Walks.{ended}
+use Rattle.rules.proofs.ends.Statement.{statement}
+use Rattle.rules.proofs.ends.Tie as tie
+
+returns : tie.Need-returns
+returns c = λ h. absurd (false≢true h)
+
+returns-2 : tie.Need-returns-2
+returns-2 c = λ h. ended (c .before .before .before .args .s .now) (c .before .kind .ensures) (λ l u. omega (arith, c .if1 .taken))
+
+returns-3 : tie.Need-returns-3
+returns-3 c = λ h. ended (c .before .before .before .before .args .s .now) (c .before .before .kind .ensures) (λ l u. omega (arith, c .if2 .left))
+
+pub ends-spec : {M : Type 1} → statement M
+ends-spec = tie.close (tie.spec (λ c κs. search needs) returns returns-2 returns-3)
