@@ -37,7 +37,7 @@ pub fn all() -> Vec<Case> {
     cases.push(small_clauses(32));
     cases.push(expressions(768));
     cases.extend(unit_cases());
-    cases.push(activations(63, 128));
+    cases.push(activations(127, 128));
     cases
 }
 
@@ -98,18 +98,17 @@ fn wide() -> Case {
 }
 
 /// 64 units at choices that a reading finds late: each activates an else of so many obligations, and each of
-/// these takes the same reading and activates so many fulfilled clauses.
+/// these takes the same reading and activates so many fulfilled clauses under joins. No width allows more than
+/// 127 and 128.
 pub fn activations(obligations: usize, fulfilments: usize) -> Case {
     let settled = template(&[], 0, 0, &tree(fulfilments, &fulfilled()));
     let prompt = Wait { reading: 2, then: instance(0, &[], &[]), ..simple(LONG) }.obligation(0);
-    let again = instance(1, &[], &[]);
-    let wait = Wait { then: and(&again, &again), ..simple(60) };
-    let growing = template(&[], 0, 1, &wait.choice(&tree(obligations, &prompt)));
+    let late = template(&[], 0, 1, &simple(60).choice(&tree(obligations, &prompt)));
+    let first = Wait { then: instance(1, &[], &[]), ..simple(LONG) }.obligation(0);
     let types = [reading_type(&[]), reading_type(&[])];
-    let bytes = agreement(100, 1, &types, &[settled, growing], &instance(1, &[], &[]));
-    let before: Vec<Vec<u8>> = (0..6).map(|_| reading(105, 1, &[])).collect();
+    let bytes = agreement(100, 1, &types, &[settled, late], &tree(64, &first));
     let clauses = 64 * (2 * obligations - 1 + obligations * 2 * fulfilments);
-    Case::after(&format!("{clauses} activations"), bytes, &before, reading(1000, 2, &[]))
+    Case::after(&format!("{clauses} activations"), bytes, &[reading(105, 1, &[])], reading(1000, 2, &[]))
 }
 
 /// So many leaves joined by `and`, in balance.
