@@ -15,8 +15,8 @@
  * - The table and the single results are aligned to 8 bytes.
  * - What is written (table, time, parties) overlaps nothing else that is lent, and during the call nobody else reads
  *   or writes it. What is only read may be shared, but nobody writes it during the call.
- * - The thread has GIVUNTHA_STACK_BYTES of stack left. Less is enough for most agreements, but an overflow is not
- *   sure to stop at the guard page, since a function here may take 30 KB of stack at once.
+ * - The thread has GIVUNTHA_STACK_BYTES of stack left. Less is enough for most agreements; an overflow meets the
+ *   guard page, since each page of stack is touched as it is taken.
  *
  * There is no global state and nothing is allocated or kept: calls on different tables may run in parallel threads,
  * and so may forecasts of one table that nobody writes.
@@ -108,7 +108,7 @@ enum givuntha_unit {
     GIVUNTHA_UNIT_VALUES = 8      /* to 23: values in sight */
 };
 
-/* Stack for a call. The worst call that we could build, a reading, runs in 390 KB on x86-64. */
+/* Stack for a call. The worst call that we could build, a reading, runs in 325 KB on x86-64. */
 #define GIVUNTHA_STACK_BYTES 524288
 
 /* Checks an agreement. *parties becomes the parties that it can blame. */

@@ -2,13 +2,13 @@
 //!
 //! Why the calls are right, for each of them alike: a slice's pointer is not null and aligned, also where the slice is
 //! empty, and the slice is as long as its length says; what is lent as `&mut` overlaps nothing else and nobody else
-//! uses it meanwhile; the library keeps no pointer and has no state; and `touch` sees to the stack. This is all that
-//! `include/givuntha.h` asks of a caller: every content is allowed, the contracts require nothing of it.
+//! uses it meanwhile; the library keeps no pointer and has no state. Too small a stack stops the program, since the
+//! library touches each page that it takes. This is all that `include/givuntha.h` asks of a caller: every content is
+//! allowed, the contracts require nothing of it.
 
 use crate::parties::Parties;
 use crate::raw;
 use crate::refusal::Refusal;
-use crate::stack::touch;
 
 /// A breach: its time in minutes, and who is to blame.
 #[derive(Clone, Copy, Debug, PartialEq, Eq, Hash)]
@@ -25,7 +25,6 @@ pub struct Breach {
 /// ```
 pub fn check(agreement: &[u8]) -> Result<Parties, Refusal> {
     let mut parties = 0;
-    touch();
     // SAFETY: `agreement` and `parties` are borrowed for the call, apart from each other; see above.
     let answer = unsafe { raw::givuntha_check(agreement.as_ptr(), agreement.len(), &mut parties) };
     Refusal::answer(answer)?;
@@ -39,7 +38,6 @@ pub fn check(agreement: &[u8]) -> Result<Parties, Refusal> {
 /// assert_eq!(givuntha::start(&agreement, &mut [0; 3080]), Err(givuntha::Refusal::AgreementLength));
 /// ```
 pub fn start(agreement: &[u8], table: &mut [i64]) -> Result<(), Refusal> {
-    touch();
     // SAFETY: `agreement` is borrowed for the call and `table` is so alone; see above.
     let answer = unsafe { raw::givuntha_start(agreement.as_ptr(), agreement.len(), table.as_mut_ptr(), table.len()) };
     Refusal::answer(answer)
@@ -61,7 +59,6 @@ pub fn start(agreement: &[u8], table: &mut [i64]) -> Result<(), Refusal> {
 /// # Ok::<(), givuntha::Refusal>(())
 /// ```
 pub fn reading(agreement: &[u8], table: &mut [i64], reading: &[u8]) -> Result<(), Refusal> {
-    touch();
     // SAFETY: `agreement` and `reading` are borrowed for the call and `table` is so alone; see above.
     let answer = unsafe {
         raw::givuntha_reading(
@@ -85,7 +82,6 @@ pub fn reading(agreement: &[u8], table: &mut [i64], reading: &[u8]) -> Result<()
 /// ```
 pub fn forecast(agreement: &[u8], table: &[i64]) -> Result<Option<Breach>, Refusal> {
     let (mut time, mut parties) = (0, 0);
-    touch();
     // SAFETY: all four are borrowed for the call, the two results apart from all else; see above.
     let answer = unsafe {
         raw::givuntha_forecast(

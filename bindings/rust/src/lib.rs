@@ -29,7 +29,7 @@
 //! # Ok::<(), Refusal>(())
 //! ```
 //!
-//! A call takes up to 390 KB of stack, and [`STACK`] bytes are enough. The stacks of the main thread and of threads
+//! A call takes up to 325 KB of stack, and [`STACK`] bytes are enough. The stacks of the main thread and of threads
 //! that the standard library makes are larger. Where the stack is too small the program is stopped, as at any
 //! overflow.
 

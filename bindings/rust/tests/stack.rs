@@ -84,7 +84,7 @@ fn overflow() {
 #[cfg(target_os = "linux")]
 #[test]
 fn too_small_a_stack_stops_the_program() {
-    for bytes in [16_384, 32_768, 49_152, 65_536, 131_072, 262_144, 327_680] {
+    for bytes in [16_384, 32_768, 49_152, 65_536, 131_072, 262_144] {
         let output = Command::new(std::env::current_exe().unwrap())
             .args(["--exact", "overflow", "--ignored", "--nocapture"])
             .env("STACK", bytes.to_string())

@@ -129,10 +129,10 @@ fn begin_wide(agreement: &[u8], places: &[usize], table: &mut [i64]) -> Started
     let mut out = [0i64; 3072];
     let r = activated(agreement, places, &mut out);
     let time = unsigned32(agreement, 4) as i64;
-    if !settle(table, time, r, &out) {
-        return Started::Refused(Refusal::Units);
+    if settle(table, time, r, &out) {
+        return Started::Begun;
     }
-    Started::Begun
+    Started::Refused(Refusal::Units)
 }
 
 // The same, with room for 16 units at first: to clear more room costs more than most starts do.

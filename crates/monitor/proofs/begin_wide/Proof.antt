@@ -1,5 +1,6 @@
 use borrow.Author.Needs.{needs}
-use mathlib.Core.Path.{_∙_}
+use mathlib.Core.Path.{ap, _∙_}
+use mathlib.Core.Bool.{not}
 use native.Mathlib.Omega.{arith}
 use Rattle.monitor.proofs.Begins.{short, time-cell, main-few, start-no, start-yes}
 use Rattle.monitor.proofs.begin_wide.Statement.{statement}
@@ -12,10 +13,10 @@ settle-requires : tie.Need-settle-requires
 settle-requires c κs = (c .before .before .before .before .before .before .before .before .pre .1, record { room = λ h. omega (arith, c .before .before .before .out2 .given) }, (time-cell (c .before .before .unsigned32 .ensures .1)) .0, main-few _ _ _ (c .before .before .before .before .activated .ensures))
 
 returns : tie.Need-returns
-returns c = start-no (c .before .before .before .before .before .before .before .before .before .before .before .pre .0 .1) (c .before .before .before .before .before .before .before .before .before .before .before .pre .1) (c .before .before .before .before .before .before .before .activated .ensures) ((time-cell (c .before .before .before .before .before .unsigned32 .ensures .1)) .1 ∙ c .before .before .before .before .before .unsigned32 .ensures .0) (c .before .before .settle .ensures) (c .if1 .taken)
+returns c = start-yes (c .before .before .before .before .before .before .before .before .before .before .before .pre .0 .1) (c .before .before .before .before .before .before .before .before .before .before .before .pre .1) (c .before .before .before .before .before .before .before .activated .ensures) ((time-cell (c .before .before .before .before .before .unsigned32 .ensures .1)) .1 ∙ c .before .before .before .before .before .unsigned32 .ensures .0) (c .before .before .settle .ensures) (ap not (c .if1 .taken))
 
 returns-2 : tie.Need-returns-2
-returns-2 c = start-yes (c .before .before .before .before .before .before .before .before .before .before .before .pre .0 .1) (c .before .before .before .before .before .before .before .before .before .before .before .pre .1) (c .before .before .before .before .before .before .before .activated .ensures) ((time-cell (c .before .before .before .before .before .unsigned32 .ensures .1)) .1 ∙ c .before .before .before .before .before .unsigned32 .ensures .0) (c .before .before .settle .ensures) (c .if1 .left)
+returns-2 c = start-no (c .before .before .before .before .before .before .before .before .before .before .before .pre .0 .1) (c .before .before .before .before .before .before .before .before .before .before .before .pre .1) (c .before .before .before .before .before .before .before .activated .ensures) ((time-cell (c .before .before .before .before .before .unsigned32 .ensures .1)) .1 ∙ c .before .before .before .before .before .unsigned32 .ensures .0) (c .before .before .settle .ensures) (ap not (c .if1 .left))
 
 pub begin-wide-spec : {M : Type 1} → statement M
 begin-wide-spec = tie.close (tie.spec
