@@ -5,7 +5,9 @@ use Rattle.arith.proofs.byte.Statement.{statement}
 use Rattle.arith.proofs.byte.Tie as tie
 
 returns-2 : tie.Need-returns-2
-returns-2 c = omega (arith, byte-past (c .before .before .args .s .now) (c .before .before .args .i) (c .if1 .left))
+returns-2 c =
+    let at-start = c .before .before in
+    omega (arith, byte-past (at-start .args .s .now) (at-start .args .i) (c .if1 .left))
 
 pub byte-spec : {M : Type 1} → statement M
 byte-spec = tie.close (tie.spec (λ c. search needs) (λ c κs. search needs) (λ c. search needs) returns-2)

@@ -4,10 +4,14 @@ use Rattle.arith.proofs.is_record.Statement.{statement}
 use Rattle.arith.proofs.is_record.Tie as tie
 
 returns : tie.Need-returns
-returns c = record-yes (c .before .before .before .args .s .now) (c .before .if1 .taken) (c .unsigned16 .ensures .0)
+returns c =
+    let at-start = c .before .before .before in
+    record-yes (at-start .args .s .now) (c .before .if1 .taken) (c .unsigned16 .ensures .0)
 
 returns-2 : tie.Need-returns-2
-returns-2 c = record-no (c .before .before .args .s .now) (c .if1 .left)
+returns-2 c =
+    let at-start = c .before .before in
+    record-no (at-start .args .s .now) (c .if1 .left)
 
 pub is-record-spec : {M : Type 1} → statement M
 is-record-spec = tie.close (tie.spec (λ c κs. search needs) returns returns-2)

@@ -4,7 +4,12 @@ use Rattle.formed.proofs.body_formed.Statement.{statement}
 use Rattle.formed.proofs.body_formed.Tie as tie
 
 returns : tie.Need-returns
-returns c = body-is (c .before .before .before .before .before .before .before .before .pre) (c .before .before .before .before .before .template-place .ensures .0) (c .before .before .before .before .record-end .ensures .0) (c .before .before .value-count .ensures .0) (c .clause-formed .ensures)
+returns c =
+    let at-record-end = c .before .before .before .before in
+    let at-start = at-record-end .before .before .before .before in
+    body-is (at-start .pre) (at-record-end .before .template-place .ensures .0)
+    (at-record-end .record-end .ensures .0) (c .before .before .value-count .ensures .0)
+    (c .clause-formed .ensures)
 
 pub body-formed-spec : {M : Type 1} → statement M
 body-formed-spec = tie.close (tie.spec

@@ -7,17 +7,19 @@ use Rattle.formed.proofs.well_formed.Tie as tie
 
 returns : tie.Need-returns
 returns c =
-    let f = c .before .before .before .fill-index in
-    let e = not-true (f .result) (c .if1 .taken) in
+    let at-fill-index = c .before .before .before in
+    let f = at-fill-index .fill-index in let e = not-true (f .result) (c .if1 .taken) in
     (not-listed _ (f .ensures .0) e refl, (f .ensures .1 .0, λ h. f .ensures .1 .1 (e ∙ h)))
 
 clauses-formed-requires : tie.Need-clauses-formed-requires
-clauses-formed-requires c κs = let f = c .before .before .before .before .fill-index in f .ensures .1 .1 (not-false (f .result) (c .before .if1 .left))
+clauses-formed-requires c κs =
+    let at-fill-index = c .before .before .before .before in
+    let f = at-fill-index .fill-index in f .ensures .1 .1 (not-false (f .result) (c .before .if1 .left))
 
 returns-2 : tie.Need-returns-2
 returns-2 c =
-    let f = c .before .before .before .before .before .fill-index in
-    let e = not-false (f .result) (c .before .before .if1 .left) in
+    let at-fill-index = c .before .before .before .before .before in
+    let f = at-fill-index .fill-index in let e = not-false (f .result) (c .before .before .if1 .left) in
     (is-listed _ (f .ensures .0) e (c .clauses-formed .ensures), (f .ensures .1 .0, λ h. f .ensures .1 .1 e))
 
 pub well-formed-spec : {M : Type 1} → statement M

@@ -18,33 +18,38 @@ abbrev μ-loop : tie.MeasureT-loop
 μ-loop agreement places widths k₀ k-end k = k-end - k
 
 loop-holds : tie.Need-loop-holds Inv-loop μ-loop
-loop-holds c = let b = c .before .before .before .before in (omega arith, ap (all (λ t. allNarrow (b .args .widths .now) (t .body))) (from-first (b .args .agreement .now)))
+loop-holds c =
+    let b = c .before .before .before .before in (
+      omega arith,
+      ap (all (λ t. allNarrow (b .args .widths .now) (t .body)))
+          (from-first (b .args .agreement .now)),
+    )
 
 returns : tie.Need-returns Inv-loop μ-loop
 returns c =
-    let b = c .before .before .before .before .before .before .before .before in
-    let s = b .args .agreement .now in
-    let p = allNarrow (b .args .widths .now) in
-    let k = c .before .before .before .loop .k in
-    let l : k < byte s 10 = omega arith in
-    loop-stops (p (bodyAt s k)) _ (c .before .before .before .loop .inv .1 ∙ all-next s k l p) (c .before .body-narrow .ensures) (c .if1 .taken)
+    let at-loop = c .before .before .before in
+    let b = c .before .before .before .before .before .before .before .before in let s = b .args .agreement .now in
+    let p = allNarrow (b .args .widths .now) in let k = at-loop .loop .k in let l : k < byte s 10 = omega arith
+    in loop-stops (p (bodyAt s k)) _ (at-loop .loop .inv .1 ∙ all-next s k l p)
+    (c .before .body-narrow .ensures) (c .if1 .taken)
 
 loop-again : tie.Need-loop-again Inv-loop μ-loop
 loop-again c =
-    let b = c .before .before .before .before .before .before .before .before in
-    let s = b .args .agreement .now in
-    let p = allNarrow (b .args .widths .now) in
-    let k = c .before .before .before .loop .k in
-    let l : k < byte s 10 = omega arith in
-    (omega arith, loop-goes (p (bodyAt s k)) _ (c .before .before .before .loop .inv .1 ∙ all-next s k l p) (c .before .body-narrow .ensures) (c .if1 .left))
+    let at-loop = c .before .before .before in
+    let b = c .before .before .before .before .before .before .before .before in let s = b .args .agreement .now in
+    let p = allNarrow (b .args .widths .now) in let k = at-loop .loop .k in let l : k < byte s 10 = omega arith
+    in (
+      omega arith,
+      loop-goes (p (bodyAt s k)) _ (at-loop .loop .inv .1 ∙ all-next s k l p)
+          (c .before .body-narrow .ensures) (c .if1 .left),
+    )
 
 returns-2 : tie.Need-returns-2 Inv-loop μ-loop
 returns-2 c =
-    let b = c .before .before .before .before .before .before in
-    let s = b .args .agreement .now in
-    let k = c .before .loop .k in
-    let l : byte s 10 ≤ k = omega arith in
-    sym (c .before .loop .inv .1 ∙ all-last s k l (allNarrow (b .args .widths .now)))
+    let loop = c .before .loop in
+    let b = c .before .before .before .before .before .before in let s = b .args .agreement .now in let k = loop .k
+    in let l : byte s 10 ≤ k = omega arith in sym
+    (loop .inv .1 ∙ all-last s k l (allNarrow (b .args .widths .now)))
 
 pub bodies-narrow-spec : {M : Type 1} → statement M
 bodies-narrow-spec = tie.close (tie.spec Inv-loop μ-loop

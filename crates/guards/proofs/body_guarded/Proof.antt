@@ -5,10 +5,14 @@ use Rattle.guards.proofs.body_guarded.Statement.{statement}
 use Rattle.guards.proofs.body_guarded.Tie as tie
 
 guarded-in-requires : tie.Need-guarded-in-requires
-guarded-in-requires c κs = let b = c .before .before .before .before in body-formed (b .args .agreement .now) (b .pre .1) (b .pre .0 .1) (c .before .body-span .ensures)
+guarded-in-requires c κs =
+    let b = c .before .before .before .before in body-formed (b .args .agreement .now) (b .pre .1) (b .pre .0 .1)
+    (c .before .body-span .ensures)
 
 returns : tie.Need-returns
-returns c = let b = c .before .before .before .before .before in body-answers (b .args .agreement .now) (b .pre .1) (b .pre .0 .1) (c .before .before .body-span .ensures) (guardedIn (b .args .k)) (c .guarded-in .ensures)
+returns c =
+    let b = c .before .before .before .before .before in body-answers (b .args .agreement .now) (b .pre .1)
+    (b .pre .0 .1) (c .before .before .body-span .ensures) (guardedIn (b .args .k)) (c .guarded-in .ensures)
 
 pub body-guarded-spec : {M : Type 1} → statement M
 body-guarded-spec = tie.close (tie.spec

@@ -5,10 +5,15 @@ use Rattle.guards.proofs.body_narrow.Statement.{statement}
 use Rattle.guards.proofs.body_narrow.Tie as tie
 
 all-narrow-requires : tie.Need-all-narrow-requires
-all-narrow-requires c κs = let b = c .before .before .before .before .before in body-formed (b .args .agreement .now) (b .pre .1) (b .pre .0 .1) (c .before .body-span .ensures)
+all-narrow-requires c κs =
+    let b = c .before .before .before .before .before in body-formed (b .args .agreement .now) (b .pre .1)
+    (b .pre .0 .1) (c .before .body-span .ensures)
 
 returns : tie.Need-returns
-returns c = let b = c .before .before .before .before .before .before in body-answers (b .args .agreement .now) (b .pre .1) (b .pre .0 .1) (c .before .before .body-span .ensures) (allNarrow (b .args .widths .now)) (c .all-narrow .ensures)
+returns c =
+    let b = c .before .before .before .before .before .before in body-answers (b .args .agreement .now) (b .pre .1)
+    (b .pre .0 .1) (c .before .before .body-span .ensures) (allNarrow (b .args .widths .now))
+    (c .all-narrow .ensures)
 
 pub body-narrow-spec : {M : Type 1} → statement M
 body-narrow-spec = tie.close (tie.spec

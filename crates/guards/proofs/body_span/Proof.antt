@@ -4,7 +4,10 @@ use Rattle.guards.proofs.body_span.Statement.{statement}
 use Rattle.guards.proofs.body_span.Tie as tie
 
 returns : tie.Need-returns
-returns c = body-spans (c .before .before .before .before .before .pre) (c .before .before .template-place .ensures .0) (c .before .value-count .ensures .0) (c .record-end .ensures .0)
+returns c =
+    let at-start = c .before .before .before .before .before in
+    body-spans (at-start .pre) (c .before .before .template-place .ensures .0) (c .before .value-count .ensures .0)
+    (c .record-end .ensures .0)
 
 pub body-span-spec : {M : Type 1} → statement M
 body-span-spec = tie.close (tie.spec

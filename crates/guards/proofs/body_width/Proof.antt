@@ -5,10 +5,15 @@ use Rattle.guards.proofs.body_width.Statement.{statement}
 use Rattle.guards.proofs.body_width.Tie as tie
 
 width-requires : tie.Need-width-requires
-width-requires c κs = let b = c .before .before .before .before .before in body-formed (b .args .agreement .now) (b .pre .1) (b .pre .0 .1) (c .before .body-span .ensures)
+width-requires c κs =
+    let b = c .before .before .before .before .before in body-formed (b .args .agreement .now) (b .pre .1)
+    (b .pre .0 .1) (c .before .body-span .ensures)
 
 returns : tie.Need-returns
-returns c = let b = c .before .before .before .before .before .before in body-answers (b .args .agreement .now) (b .pre .1) (b .pre .0 .1) (c .before .before .body-span .ensures) (counted (b .args .widths .now)) (c .width .ensures .0)
+returns c =
+    let b = c .before .before .before .before .before .before in body-answers (b .args .agreement .now) (b .pre .1)
+    (b .pre .0 .1) (c .before .before .body-span .ensures) (counted (b .args .widths .now))
+    (c .width .ensures .0)
 
 pub body-width-spec : {M : Type 1} → statement M
 body-width-spec = tie.close (tie.spec

@@ -21,13 +21,15 @@ loop-holds c =
 
 loop-again : tie.Need-loop-again Inv-loop μ-loop
 loop-again c =
-    let b = c .before .before .before .before .before .before .before .before in
-    let i = c .before .before .before .loop .inv in
-    let x = more-filled (b .args .agreement .now) _ (omega arith) (b .pre .0 .fewTemplates) (i .2) (c .body-width .ensures) in
-    (omega arith, x .room, x)
+    let at-loop = c .before .before .before in
+    let b = c .before .before .before .before .before .before .before .before in let i = at-loop .loop .inv in let x
+    = more-filled (b .args .agreement .now) _ (omega arith) (b .pre .0 .fewTemplates) (i .2)
+    (c .body-width .ensures) in (omega arith, x .room, x)
 
 returns : tie.Need-returns Inv-loop μ-loop
-returns c = all-filled (c .before .before .before .before .before .before .args .agreement .now) _ (omega arith) (c .before .loop .inv .2)
+returns c =
+    let at-start = c .before .before .before .before .before .before in
+    all-filled (at-start .args .agreement .now) _ (omega arith) (c .before .loop .inv .2)
 
 pub fill-widths-spec : {M : Type 1} → statement M
 fill-widths-spec = tie.close (tie.spec Inv-loop μ-loop

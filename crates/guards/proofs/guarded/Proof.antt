@@ -17,28 +17,34 @@ abbrev μ-loop : tie.MeasureT-loop
 μ-loop agreement places k₀ k-end k = k-end - k
 
 loop-holds : tie.Need-loop-holds Inv-loop μ-loop
-loop-holds c = (omega arith, ap (guardedFrom 0) (from-first (c .before .before .before .args .agreement .now)))
+loop-holds c =
+    let at-start = c .before .before .before in
+    (omega arith, ap (guardedFrom 0) (from-first (at-start .args .agreement .now)))
 
 returns : tie.Need-returns Inv-loop μ-loop
 returns c =
-    let s = c .before .before .before .before .before .before .before .args .agreement .now in
-    let k = c .before .before .before .loop .k in
-    let l : k < byte s 10 = omega arith in
-    loop-stops (guardedIn k (bodyAt s k)) _ (c .before .before .before .loop .inv .1 ∙ guarded-next s k l) (c .before .body-guarded .ensures) (c .if1 .taken)
+    let at-loop = c .before .before .before in
+    let at-start = at-loop .before .before .before .before in
+    let s = at-start .args .agreement .now in let k = at-loop .loop .k in let l : k < byte s 10 = omega arith in
+    loop-stops (guardedIn k (bodyAt s k)) _ (at-loop .loop .inv .1 ∙ guarded-next s k l)
+    (c .before .body-guarded .ensures) (c .if1 .taken)
 
 loop-again : tie.Need-loop-again Inv-loop μ-loop
 loop-again c =
-    let s = c .before .before .before .before .before .before .before .args .agreement .now in
-    let k = c .before .before .before .loop .k in
-    let l : k < byte s 10 = omega arith in
-    (omega arith, loop-goes (guardedIn k (bodyAt s k)) _ (c .before .before .before .loop .inv .1 ∙ guarded-next s k l) (c .before .body-guarded .ensures) (c .if1 .left))
+    let at-loop = c .before .before .before in
+    let at-start = at-loop .before .before .before .before in
+    let s = at-start .args .agreement .now in let k = at-loop .loop .k in let l : k < byte s 10 = omega arith in (
+      omega arith,
+      loop-goes (guardedIn k (bodyAt s k)) _ (at-loop .loop .inv .1 ∙ guarded-next s k l)
+          (c .before .body-guarded .ensures) (c .if1 .left),
+    )
 
 returns-2 : tie.Need-returns-2 Inv-loop μ-loop
 returns-2 c =
-    let s = c .before .before .before .before .before .args .agreement .now in
-    let k = c .before .loop .k in
-    let l : byte s 10 ≤ k = omega arith in
-    sym (c .before .loop .inv .1 ∙ guarded-last s k l)
+    let loop = c .before .loop in
+    let at-start = c .before .before .before .before .before in
+    let s = at-start .args .agreement .now in let k = loop .k in let l : byte s 10 ≤ k = omega arith in sym
+    (loop .inv .1 ∙ guarded-last s k l)
 
 pub guarded-spec : {M : Type 1} → statement M
 guarded-spec = tie.close (tie.spec Inv-loop μ-loop

@@ -8,7 +8,9 @@ all-narrow-requires : tie.Need-all-narrow-requires
 all-narrow-requires c κs = search (main-formed, needs)
 
 returns : tie.Need-returns
-returns c = let b = c .before .before .before .before .before .before in main-answers (b .args .agreement .now) (b .pre .1) (allNarrow (b .args .widths .now)) (c .before .before .main-place .ensures .0) (c .all-narrow .ensures)
+returns c =
+    let b = c .before .before .before .before .before .before in main-answers (b .args .agreement .now) (b .pre .1)
+    (allNarrow (b .args .widths .now)) (c .before .before .main-place .ensures .0) (c .all-narrow .ensures)
 
 pub main-narrow-spec : {M : Type 1} → statement M
 main-narrow-spec = tie.close (tie.spec

@@ -4,10 +4,16 @@ use Rattle.guards.proofs.narrow.Statement.{statement}
 use Rattle.guards.proofs.narrow.Tie as tie
 
 returns : tie.Need-returns
-returns c = let b = c .before .before .before in narrow-on (b .before .before .before .before .before .before .before .args .agreement .now) _ (b .before .before .before .fill-widths .ensures) (b .main-narrow .ensures) (c .before .before .if1 .taken) (c .bodies-narrow .ensures)
+returns c =
+    let b = c .before .before .before in narrow-on
+    (b .before .before .before .before .before .before .before .args .agreement .now) _
+    (b .before .before .before .fill-widths .ensures) (b .main-narrow .ensures) (c .before .before .if1 .taken)
+    (c .bodies-narrow .ensures)
 
 returns-2 : tie.Need-returns-2
-returns-2 c = let b = c .before in narrow-off (b .before .before .before .before .before .before .before .args .agreement .now) _ (b .before .before .before .fill-widths .ensures) (b .main-narrow .ensures) (c .if1 .left)
+returns-2 c =
+    let b = c .before in narrow-off (b .before .before .before .before .before .before .before .args .agreement
+    .now) _ (b .before .before .before .fill-widths .ensures) (b .main-narrow .ensures) (c .if1 .left)
 
 pub narrow-spec : {M : Type 1} → statement M
 narrow-spec = tie.close (tie.spec

@@ -17,7 +17,9 @@ loop-holds : tie.Need-loop-holds Inv-loop μ-loop
 loop-holds c = omega arith
 
 add-count : tie.Need-add-count Inv-loop μ-loop
-add-count c = omega (arith, ones-step (c .before .loop .left), ones-le 20 (c .before .before .args .a) (c .before .before .pre))
+add-count c =
+    let at-start = c .before .before in
+    omega (arith, ones-step (c .before .loop .left), ones-le 20 (at-start .args .a) (at-start .pre))
 
 loop-less : tie.Need-loop-less Inv-loop μ-loop
 loop-less c = omega arith
@@ -27,8 +29,10 @@ loop-again c = omega (arith, ones-step (c .before .loop .left))
 
 returns : tie.Need-returns Inv-loop μ-loop
 returns c =
-    let all-counted : c .before .loop .count ≡ ones (c .before .before .args .a) = omega (arith, ones-le 0 (c .before .loop .left) (omega arith)) in
-    (all-counted, λ ps v e. all-counted ∙ ap ones e ∙ mask-count ps v)
+    let loop = c .before .loop in
+    let at-start = c .before .before in
+    let all-counted : loop .count ≡ ones (at-start .args .a) = omega (arith, ones-le 0 (loop .left) (omega arith))
+    in (all-counted, λ ps v e. all-counted ∙ ap ones e ∙ mask-count ps v)
 
 pub member-count-spec : {M : Type 1} → statement M
 member-count-spec = tie.close (tie.spec Inv-loop μ-loop loop-holds add-count loop-less loop-again returns)

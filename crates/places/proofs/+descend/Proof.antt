@@ -28,23 +28,54 @@ abbrev claims : ℕ → descend-lts.Claims
 claims t = (step-down-reads.Asked, step-down-reads.Learnt, descend-below t, descend.Post)
 
 descend-add-descend : (t : ℕ) → descend-lts.Need-add-descend (claims t) (descend-at t) descend.Post
-descend-add-descend t c = omega (arith, into-room (c .before .before .before .before .before .before .step-down .ensures) (c .before .before .a .given .1) (c .before .before .before .before .before .before .before .before .before .before .before .before .pre .1 .3))
+descend-add-descend t c =
+    let at-step-down = c .before .before .before .before .before .before in
+    let at-start = at-step-down .before .before .before .before .before .before in
+    omega (
+      arith,
+      into-room (at-step-down .step-down .ensures) (c .before .before .a .given .1)
+          (at-start .pre .1 .3),
+    )
 
 descend-descend-requires : (t : ℕ) → descend-lts.Need-descend-requires (claims t) (descend-at t) descend.Post
 descend-descend-requires t c κs =
-    let s = c .before .before .before .before .before .before .before .before .before .before .before .before .before in
-    let r = into-room (c .before .before .before .before .before .before .before .step-down .ensures) (c .before .before .before .a .given .1) (c .before .before .before .before .before .before .before .before .before .before .before .before .before .pre .1 .3) in
-    let l = length-part (s .args .s .now) (c .before .before .before .a .given .0 .0) (c .before .before .before .a .given .0 .1 .0) (r .2) in
-    (omega (arith, s .pre .0, typed-room (s .pre .1 .3)), (s .pre .1 .0, omega (arith, s .pre .1 .1, c .before .before .before .before .before .before .before .step-down .kept .1 .1 .1 .1 .1 .1 .0), r .3, into-typed (c .before .before .before .before .before .before .before .step-down .ensures) (c .before .before .before .a .given .1) (s .pre .1 .3), omega (arith, s .pre .1 .4)))
+    let at-a = c .before .before .before in
+    let at-step-down = at-a .before .before .before .before in
+    let at-start = at-step-down .before .before .before .before .before .before in
+    let s = c .before .before .before .before .before .before .before .before .before .before .before .before
+    .before in let r = into-room (at-step-down .step-down .ensures) (at-a .a .given .1) (at-start .pre .1 .3) in
+    let l = length-part (s .args .s .now) (at-a .a .given .0 .0) (at-a .a .given .0 .1 .0) (r .2) in (
+      omega (arith, s .pre .0, typed-room (s .pre .1 .3)),
+      (
+        s .pre .1 .0,
+        omega (arith, s .pre .1 .1, at-step-down .step-down .kept .1 .1 .1 .1 .1 .1 .0),
+        r .3,
+        into-typed (at-step-down .step-down .ensures) (at-a .a .given .1) (s .pre .1 .3),
+        omega
+            (arith, s .pre .1 .4),
+      ),
+    )
 
 descend-returns : (t : ℕ) → descend-lts.Need-returns (claims t) (descend-at t) descend.Post
-descend-returns t c = descent-absent (c .before .before .before .before .step-down .ensures) (c .before .before .before .before .before .before .before .before .before .before .args .params) (c .enum-told .given .1)
+descend-returns t c =
+    let at-step-down = c .before .before .before .before in
+    let at-start = at-step-down .before .before .before .before .before .before in
+    descent-absent (at-step-down .step-down .ensures) (at-start .args .params) (c .enum-told .given .1)
 
 descend-returns-2 : (t : ℕ) → descend-lts.Need-returns-2 (claims t) (descend-at t) descend.Post
-descend-returns-2 t c = descent-here (c .before .before .before .before .before .step-down .ensures) (c .before .before .before .before .before .before .before .before .before .before .before .args .params) (c .before .before .before .before .before .before .before .before .before .before .before .pre .1 .2) (c .before .k .given .1)
+descend-returns-2 t c =
+    let at-step-down = c .before .before .before .before .before in
+    let at-start = at-step-down .before .before .before .before .before .before in
+    descent-here (at-step-down .step-down .ensures) (at-start .args .params) (at-start .pre .1 .2)
+    (c .before .k .given .1)
 
 descend-returns-3 : (t : ℕ) → descend-lts.Need-returns-3 (claims t) (descend-at t) descend.Post
-descend-returns-3 t c = descent-into (c .before .before .before .before .before .before .before .before .before .before .step-down .ensures) (c .before .before .before .before .before .before .a .given .1) (c .before .before .before .before .before .before .before .before .before .before .before .before .before .before .before .before .args .params) (c .before .before .descend .ensures)
+descend-returns-3 t c =
+    let at-a = c .before .before .before .before .before .before in
+    let at-step-down = at-a .before .before .before .before in
+    let at-start = at-step-down .before .before .before .before .before .before in
+    descent-into (at-step-down .step-down .ensures) (at-a .a .given .1) (at-start .args .params)
+    (c .before .before .descend .ensures)
 
 pub +descend-spec : {M : Type 1} → statement M
 +descend-spec = close μ-descend λ t. descend-lts.spec (claims t) (descend-at t) descend.Post

@@ -18,11 +18,18 @@ loop-holds c = (search needs, refl, append-first (c .args .out .now) (c .args .n
 
 loop-again : tie.Need-loop-again Inv-loop μ-loop
 loop-again c =
-    let l = c .before .before in
-    (search needs, simp length-set (l .loop .inv .1), append-more (l .before .args .out .now) (l .before .args .n) (l .before .args .from .now) (l .loop .i) (l .loop .out) (c .before .loop-test .taken) (search needs) (l .loop .inv .2))
+    let l = c .before .before in (
+      search needs,
+      simp length-set (l .loop .inv .1),
+      append-more
+          (l .before .args .out .now) (l .before .args .n) (l .before .args .from .now) (l .loop .i) (l .loop .out)
+          (c .before .loop-test .taken) (search needs) (l .loop .inv .2),
+    )
 
 returns : tie.Need-returns Inv-loop μ-loop
-returns c = let l = c .before in append-last (l .before .args .out .now) (l .before .args .n) (l .before .args .from .now) (l .loop .i) (l .loop .out) (l .loop .inv .0) (c .loop-test .left) (l .loop .inv .2)
+returns c =
+    let l = c .before in append-last (l .before .args .out .now) (l .before .args .n) (l .before .args .from .now)
+    (l .loop .i) (l .loop .out) (l .loop .inv .0) (c .loop-test .left) (l .loop .inv .2)
 
 pub append-spec : {M : Type 1} → statement M
 append-spec = tie.close (tie.spec Inv-loop μ-loop

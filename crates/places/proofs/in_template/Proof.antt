@@ -8,19 +8,46 @@ use Rattle.places.proofs.in_template.Tie as tie
 
 descend-requires : tie.Need-descend-requires
 descend-requires c κs =
-    let s = c .before .before .before .before .before .before .before .before .before .before .before .before .before .before in
-    let a = c .before .before .before .before .before .before .before .before .before .before .template-place .result in
-    let e = c .before .before .before .before .before .before .before .before .before .record-end .result in
-    let n = c .before .before .before .before .before .before .before .before .value-count .result in
-    let r = template-room (c .before .before .before .before .before .before .before .before .before .before .before .before .before .before .pre .0) (c .before .before .before .before .before .before .before .before .before .before .before .before .before .before .pre .1) (c .before .before .before .before .before .before .before .before .before .before .template-place .ensures .0) (c .before .before .before .before .before .before .before .before .before .record-end .ensures .0) (c .before .before .before .before .before .before .before .before .value-count .ensures .0) in
-    let v = values-are (c .before .before .before .before .before .before .before .before .before .before .before .before .before .before .pre .0) (c .before .before .before .before .before .before .before .before .before .before .before .before .before .before .pre .1) (c .before .before .before .before .before .before .before .before .before .before .template-place .ensures .0) (c .before .before .before .before .before .before .before .before .before .record-end .ensures .0) (c .before .before .before .before .before .before .before .before .value-count .ensures .0) (s .args .types .now) (c .before .before .before .before .append .last .0) (c .before .before .before .before .append .ensures) in
-    (s .pre .0, omega (arith, s .pre .3, c .before .before .before .before .append .kept .0), omega arith, record { depth = 22; at = body-typed (c .before .before .before .before .before .before .before .before .before .before .before .before .before .before .pre .0) (c .before .before .before .before .before .before .before .before .before .before .before .before .before .before .pre .1) (c .before .before .before .before .before .before .before .before .before .before .template-place .ensures .0) (c .before .before .before .before .before .before .before .before .before .record-end .ensures .0) (c .before .before .before .before .before .before .before .before .value-count .ensures .0) (s .pre .2) v }, omega (arith, length-part (s .args .agreement .now) (a + (8 + n)) e (r .1)))
+    let at-append = c .before .before .before .before in
+    let at-value-count = at-append .before .before .before .before in
+    let record-end = at-value-count .before .record-end in
+    let template-place = at-value-count .before .before .template-place in
+    let at-start = at-value-count .before .before .before .before .before .before in
+    let s = c .before .before .before .before .before .before .before .before .before .before .before .before
+    .before .before in let a = template-place .result in let e = record-end .result in let n =
+    at-value-count .value-count .result in let r = template-room (at-start .pre .0) (at-start .pre .1)
+    (template-place .ensures .0) (record-end .ensures .0) (at-value-count .value-count .ensures .0) in let v =
+    values-are (at-start .pre .0) (at-start .pre .1) (template-place .ensures .0) (record-end .ensures .0)
+    (at-value-count .value-count .ensures .0) (s .args .types .now) (at-append .append .last .0)
+    (at-append .append .ensures) in (
+      s .pre .0,
+      omega (arith, s .pre .3, at-append .append .kept .0),
+      omega
+          arith,
+      record {
+        depth = 22;
+        at = body-typed (at-start .pre .0) (at-start .pre .1)
+            (template-place .ensures .0) (record-end .ensures .0) (at-value-count .value-count .ensures .0) (s .pre .2)
+            v;
+      },
+      omega (arith, length-part (s .args .agreement .now) (a + (8 + n)) e (r .1)),
+    )
 
 returns : tie.Need-returns
 returns c =
-    let s = c .before .before .before .before .before .before .before .before .before .before .before .before .before .before .before .before .before in
-    let v = values-are (c .before .before .before .before .before .before .before .before .before .before .before .before .before .before .before .before .before .pre .0) (c .before .before .before .before .before .before .before .before .before .before .before .before .before .before .before .before .before .pre .1) (c .before .before .before .before .before .before .before .before .before .before .before .before .before .template-place .ensures .0) (c .before .before .before .before .before .before .before .before .before .before .before .before .record-end .ensures .0) (c .before .before .before .before .before .before .before .before .before .before .before .value-count .ensures .0) (s .args .types .now) (c .before .before .before .before .before .before .before .append .last .0) (c .before .before .before .before .before .before .before .append .ensures) in
-    template-located (c .before .before .before .before .before .before .before .before .before .before .before .before .before .before .before .before .before .pre .0) (c .before .before .before .before .before .before .before .before .before .before .before .before .before .before .before .before .before .pre .1) (c .before .before .before .before .before .before .before .before .before .before .before .before .before .template-place .ensures .0) (c .before .before .before .before .before .before .before .before .before .before .before .before .record-end .ensures .0) (c .before .before .before .before .before .before .before .before .before .before .before .value-count .ensures .0) (c .before .before .before .before .before .before .before .append .last .0) (s .pre .2) (c .before .before .before .before .before .before .before .before .before .before .param-count .ensures .0) v (c .before .before .descend .ensures)
+    let at-append = c .before .before .before .before .before .before .before in
+    let at-param-count = at-append .before .before .before in
+    let value-count = at-param-count .before .value-count in
+    let record-end = at-param-count .before .before .record-end in
+    let at-template-place = at-param-count .before .before .before in
+    let at-start = at-template-place .before .before .before .before in
+    let s = c .before .before .before .before .before .before .before .before .before .before .before .before
+    .before .before .before .before .before in let v = values-are (at-start .pre .0) (at-start .pre .1)
+    (at-template-place .template-place .ensures .0) (record-end .ensures .0) (value-count .ensures .0)
+    (s .args .types .now) (at-append .append .last .0) (at-append .append .ensures) in template-located
+    (at-start .pre .0) (at-start .pre .1) (at-template-place .template-place .ensures .0)
+    (record-end .ensures .0) (value-count .ensures .0) (at-append .append .last .0) (s .pre .2)
+    (at-param-count .param-count .ensures .0) v (c .before .before .descend .ensures)
 
 pub in-template-spec : {M : Type 1} → statement M
 in-template-spec = tie.close (tie.spec

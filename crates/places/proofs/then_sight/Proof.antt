@@ -5,19 +5,50 @@ use Rattle.places.proofs.then_sight.Statement.{statement}
 use Rattle.places.proofs.then_sight.Tie as tie
 
 sub-reading-place : tie.Need-sub-reading-place
-sub-reading-place c = omega (arith, named (c .before .before .before .args .types .now) (c .before .before .before .args .count) (c .before .before .before .pre))
+sub-reading-place c =
+    let at-start = c .before .before .before in
+    omega (arith, named (at-start .args .types .now) (at-start .args .count) (at-start .pre))
 
 reading-place-requires : tie.Need-reading-place-requires
-reading-place-requires c κs = (c .before .before .before .pre .0, named (c .before .before .before .args .types .now) (c .before .before .before .args .count) (c .before .before .before .pre) .1)
+reading-place-requires c κs =
+    let at-start = c .before .before .before in
+    (at-start .pre .0, named (at-start .args .types .now) (at-start .args .count) (at-start .pre) .1)
 
 add-n : tie.Need-add-n
-add-n c = omega (arith, sight-room (c .before .before .before .before .before .args .types .now) (c .before .before .before .before .before .args .count) (c .before .before .before .before .before .pre) (c .before .reading-place .ensures .0) (c .record-end .ensures .0))
+add-n c =
+    let at-start = c .before .before .before .before .before in
+    omega (
+      arith,
+      sight-room (at-start .args .types .now) (at-start .args .count) (at-start .pre)
+          (c .before .reading-place .ensures .0) (c .record-end .ensures .0),
+    )
 
 append-requires : tie.Need-append-requires
-append-requires c κs = omega (arith, sight-room (c .before .before .before .before .before .before .before .args .types .now) (c .before .before .before .before .before .before .before .args .count) (c .before .before .before .before .before .before .before .pre) (c .before .before .before .reading-place .ensures .0) (c .before .before .record-end .ensures .0), part-room (c .before .before .before .before .before .before .before .args .types .now) (c .before .before .before .before .before .before .before .args .count) (c .before .before .before .before .before .before .before .pre) (c .before .before .before .reading-place .ensures .0) (c .before .before .record-end .ensures .0))
+append-requires c κs =
+    let record-end = c .before .before .record-end in
+    let at-reading-place = c .before .before .before in
+    let at-start = at-reading-place .before .before .before .before in
+    omega (
+      arith,
+      sight-room (at-start .args .types .now) (at-start .args .count) (at-start .pre)
+          (at-reading-place .reading-place .ensures .0) (record-end .ensures .0),
+      part-room
+          (at-start .args .types .now) (at-start .args .count) (at-start .pre)
+          (at-reading-place .reading-place .ensures .0) (record-end .ensures .0),
+    )
 
 returns : tie.Need-returns
-returns c = (sight-room (c .before .before .before .before .before .before .before .before .before .before .args .types .now) (c .before .before .before .before .before .before .before .before .before .before .args .count) (c .before .before .before .before .before .before .before .before .before .before .pre) (c .before .before .before .before .before .before .reading-place .ensures .0) (c .before .before .before .before .before .record-end .ensures .0), sight-is (c .before .before .before .before .before .before .before .before .before .before .args .types .now) (c .before .before .before .before .before .before .before .before .before .before .args .count) (c .before .before .before .before .before .before .before .before .before .before .pre) (c .before .before .before .before .before .before .reading-place .ensures .0) (c .before .before .before .before .before .record-end .ensures .0) (c .before .before .append .last .0) (omega (arith, c .before .before .append .kept .0, c .before .before .before .before .before .before .before .before .before .before .pre)) (c .before .before .append .ensures))
+returns c =
+    let append = c .before .before .append in
+    let at-record-end = c .before .before .before .before .before in
+    let reading-place = at-record-end .before .reading-place in
+    let at-start = at-record-end .before .before .before .before .before in (
+      sight-room (at-start .args .types .now) (at-start .args .count) (at-start .pre) (reading-place .ensures .0)
+          (at-record-end .record-end .ensures .0),
+      sight-is (at-start .args .types .now) (at-start .args .count)
+          (at-start .pre) (reading-place .ensures .0) (at-record-end .record-end .ensures .0) (append .last .0)
+          (omega (arith, append .kept .0, at-start .pre)) (append .ensures),
+    )
 
 pub then-sight-spec : {M : Type 1} → statement M
 then-sight-spec = tie.close (tie.spec

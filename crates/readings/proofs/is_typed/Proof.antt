@@ -18,19 +18,16 @@ returns-2 c =
 
 returns-3 : tie.Need-returns-3
 returns-3 c =
-    let e = c .before .before .before in
-    let t = e .before .before in
-    let o = t .before .before in
-    let s = o .before .before .before in
-    typed-count (s .pre .0) (o .if1 .left) (t .before .byte .ensures .0) (t .if2 .left) (e .before .reading-place .ensures .0) (e .record-end .ensures .0) (s .args .values .now) (s .pre .1) (c .before .byte2 .ensures .0) (c .if3 .taken)
+    let e = c .before .before .before in let t = e .before .before in let o = t .before .before in let s =
+    o .before .before .before in typed-count (s .pre .0) (o .if1 .left) (t .before .byte .ensures .0)
+    (t .if2 .left) (e .before .reading-place .ensures .0) (e .record-end .ensures .0) (s .args .values .now)
+    (s .pre .1) (c .before .byte2 .ensures .0) (c .if3 .taken)
 
 sub-values-fit : tie.Need-sub-values-fit
 sub-values-fit c =
-    let e = c .before .before .before .before in
-    let t = e .before .before in
-    let o = t .before .before in
-    let s = o .before .before .before in
-    types-from (s .pre .0) (o .if1 .left) (t .before .byte .ensures .0) (t .if2 .left) (e .before .reading-place .ensures .0) (e .record-end .ensures .0)
+    let e = c .before .before .before .before in let t = e .before .before in let o = t .before .before in let s =
+    o .before .before .before in types-from (s .pre .0) (o .if1 .left) (t .before .byte .ensures .0)
+    (t .if2 .left) (e .before .reading-place .ensures .0) (e .record-end .ensures .0)
 
 part-values-fit-start : tie.Need-part-values-fit-start
 part-values-fit-start c =
@@ -45,21 +42,19 @@ slice-aggregate-values-fit c =
 
 values-fit-requires : tie.Need-values-fit-requires
 values-fit-requires c κs =
-    let b = c .before .before .before in
-    let e = b .before .before .before in
-    let t = e .before .before in
-    let o = t .before .before in
-    let s = o .before .before .before in
-    types-room (s .pre .0) (o .if1 .left) (t .before .byte .ensures .0) (t .if2 .left) (e .before .reading-place .ensures .0) (e .record-end .ensures .0) (s .args .values .now) (s .pre .1) (b .before .byte2 .ensures .0) (b .if3 .left)
+    let b = c .before .before .before in let e = b .before .before .before in let t = e .before .before in let o =
+    t .before .before in let s = o .before .before .before in types-room (s .pre .0) (o .if1 .left)
+    (t .before .byte .ensures .0) (t .if2 .left) (e .before .reading-place .ensures .0)
+    (e .record-end .ensures .0) (s .args .values .now) (s .pre .1) (b .before .byte2 .ensures .0) (b .if3 .left)
 
 returns-4 : tie.Need-returns-4
 returns-4 c =
-    let b = c .before .before .before .before in
-    let e = b .before .before .before in
-    let t = e .before .before in
-    let o = t .before .before in
-    let s = o .before .before .before in
-    typed-values (s .pre .0) (o .if1 .left) (t .before .byte .ensures .0) (t .if2 .left) (e .before .reading-place .ensures .0) (e .record-end .ensures .0) (s .args .values .now) (s .pre .1) (b .before .byte2 .ensures .0) (b .if3 .left) (c .before .before .before .byte3 .ensures .0) (c .values-fit .ensures)
+    let at-byte3 = c .before .before .before in
+    let b = c .before .before .before .before in let e = b .before .before .before in let t = e .before .before in
+    let o = t .before .before in let s = o .before .before .before in typed-values (s .pre .0) (o .if1 .left)
+    (t .before .byte .ensures .0) (t .if2 .left) (e .before .reading-place .ensures .0)
+    (e .record-end .ensures .0) (s .args .values .now) (s .pre .1) (b .before .byte2 .ensures .0) (b .if3 .left)
+    (at-byte3 .byte3 .ensures .0) (c .values-fit .ensures)
 
 pub is-typed-spec : {M : Type 1} → statement M
 is-typed-spec = tie.close (tie.spec returns (λ c κs. search needs) returns-2 (λ c. search needs) (λ c κs. search needs) (λ c κs. search needs) (λ c. search needs) (λ c. search needs) (λ c. search needs) (λ c κs. search needs) returns-3 (λ c κs. search needs) (λ c. search needs) sub-values-fit part-values-fit-start (λ c. search needs) slice-aggregate-values-fit values-fit-requires returns-4)

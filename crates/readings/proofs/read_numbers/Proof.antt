@@ -21,19 +21,22 @@ loop-holds c = (omega arith, c .before .pre .1, omega arith, refl)
 
 loop-again : tie.Need-loop-again Inv-loop μ-loop
 loop-again c =
-    let l = c .before .before .loop in
-    let s = c .before .before .before .before .args .reading .now in
-    let z = c .signed32 .result in
-    (omega arith, length-set (l .values) (l .i) (seen z) ∙ l .inv .1, omega arith, numbers-more s (l .values) (l .i) (l .inv .3) (l .inv .2) (read! {z = z} (c .signed32 .ok) ∙ c .signed32 .ensures) (omega arith))
+    let at-start = c .before .before .before .before in
+    let l = c .before .before .loop in let s = at-start .args .reading .now in let z = c .signed32 .result in (
+      omega arith,
+      length-set (l .values) (l .i) (seen z) ∙ l .inv .1,
+      omega arith,
+      numbers-more s (l .values)
+          (l .i) (l .inv .3) (l .inv .2) (read! {z = z} (c .signed32 .ok) ∙ c .signed32 .ensures) (omega arith),
+    )
 
 same-length : tie.Need-same-length Inv-loop μ-loop
 same-length c = omega arith
 
 returns : tie.Need-returns Inv-loop μ-loop
 returns c =
-    let l = c .before .loop in
-    let b = c .before .before .before .args in
-    let all : l .i ≡ b .n = omega arith in
+    let at-start = c .before .before .before in
+    let l = c .before .loop in let b = at-start .args in let all : l .i ≡ b .n = omega arith in
     (l .inv .1, rw all at (l .inv .3))
 
 pub read-numbers-spec : {M : Type 1} → statement M

@@ -21,21 +21,28 @@ loop-holds c = (omega arith, refl)
 
 returns : tie.Need-returns Inv-loop μ-loop
 returns c =
-    let l = c .before .before .before .before .before in
-    let b = l .before .before in
-    fit-no (b .args .parties) (b .args .types .now) (b .args .values .now) (l .loop .i) (l .loop .inv .1) (c .before .before .before .before .loop-test .taken) (b .pre) (c .before .before .before .byte .ensures .0) (read! {z = getD (b .args .values .now) (l .loop .i) (pos 0)} (c .before .before .value-fits-arg .given)) (c .before .value-fits .ensures) (c .if1 .taken)
+    let at-byte = c .before .before .before in
+    let l = c .before .before .before .before .before in let b = l .before .before in fit-no (b .args .parties)
+    (b .args .types .now) (b .args .values .now) (l .loop .i) (l .loop .inv .1)
+    (at-byte .before .loop-test .taken) (b .pre) (at-byte .byte .ensures .0)
+    (read! {z = getD (b .args .values .now) (l .loop .i) (pos 0)} (c .before .before .value-fits-arg .given))
+    (c .before .value-fits .ensures) (c .if1 .taken)
 
 loop-again : tie.Need-loop-again Inv-loop μ-loop
 loop-again c =
-    let l = c .before .before .before .before .before in
-    let b = l .before .before in
-    (omega arith, fit-more (b .args .parties) (b .args .types .now) (b .args .values .now) (l .loop .i) (l .loop .inv .1) (c .before .before .before .before .loop-test .taken) (b .pre) (c .before .before .before .byte .ensures .0) (read! {z = getD (b .args .values .now) (l .loop .i) (pos 0)} (c .before .before .value-fits-arg .given)) (c .before .value-fits .ensures) (c .if1 .left))
+    let at-byte = c .before .before .before in
+    let l = c .before .before .before .before .before in let b = l .before .before in (
+      omega arith,
+      fit-more (b .args .parties) (b .args .types .now) (b .args .values .now) (l .loop .i)
+          (l .loop .inv .1) (at-byte .before .loop-test .taken) (b .pre) (at-byte .byte .ensures .0)
+          (read! {z = getD (b .args .values .now) (l .loop .i) (pos 0)} (c .before .before .value-fits-arg .given))
+          (c .before .value-fits .ensures) (c .if1 .left),
+    )
 
 returns-2 : tie.Need-returns-2 Inv-loop μ-loop
 returns-2 c =
-    let l = c .before in
-    let b = l .before .before in
-    fit-end (b .args .parties) (b .args .types .now) (b .args .values .now) (l .loop .i) (l .loop .inv .1) (c .loop-test .left)
+    let l = c .before in let b = l .before .before in fit-end (b .args .parties) (b .args .types .now)
+    (b .args .values .now) (l .loop .i) (l .loop .inv .1) (c .loop-test .left)
 
 pub values-fit-spec : {M : Type 1} → statement M
 values-fit-spec = tie.close (tie.spec Inv-loop μ-loop

@@ -4,7 +4,9 @@ use Rattle.records.proofs.first_clause.Statement.{statement}
 use Rattle.records.proofs.first_clause.Tie as tie
 
 returns : tie.Need-returns
-returns c = rw (part-all (c .before .before .before .args .s .now)) at (c .clause-part .ensures)
+returns c =
+    let at-start = c .before .before .before in
+    rw (part-all (at-start .args .s .now)) at (c .clause-part .ensures)
 
 pub first-clause-spec : {M : Type 1} → statement M
 first-clause-spec = tie.close (tie.spec (λ c. search needs) (λ c. search needs) (λ c. search needs) (λ c κs. search needs) returns)

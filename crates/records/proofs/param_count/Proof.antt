@@ -4,7 +4,10 @@ use Rattle.records.proofs.param_count.Statement.{statement}
 use Rattle.records.proofs.param_count.Tie as tie
 
 returns : tie.Need-returns
-returns c = params-read (c .before .before .before .before .before .pre) (c .before .template-place .ensures .0) (c .before .before .value-count .ensures .0) (c .byte .ensures .0)
+returns c =
+    let at-start = c .before .before .before .before .before in
+    params-read (at-start .pre) (c .before .template-place .ensures .0) (c .before .before .value-count .ensures .0)
+    (c .byte .ensures .0)
 
 pub param-count-spec : {M : Type 1} → statement M
 param-count-spec = tie.close (tie.spec (λ c κs. search needs) (λ c κs. search needs) (λ c. search needs) (λ c. search needs) (λ c κs. search needs) returns)

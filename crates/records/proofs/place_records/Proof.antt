@@ -19,17 +19,30 @@ abbrev μ-loop : tie.MeasureT-loop
 
 loop-holds : tie.Need-loop-holds Inv-loop μ-loop
 loop-holds c =
-    let b = c .before .before .args in
-    (omega arith, refl, sym (pieces-none (b .agreement .now) (b .from)), below-none _, λ k l. refl)
+    let at-start = c .before .before in
+    let b = at-start .args in (
+      omega arith,
+      refl,
+      sym (pieces-none (b .agreement .now) (b .from)),
+      below-none _,
+      λ k
+          l. refl,
+    )
 
 loop-again : tie.Need-loop-again Inv-loop μ-loop
 loop-again c =
-    let l = c .before .before .loop in
-    let b = c .before .before .before .before .before .args in
-    let s = b .agreement .now in
-    let e = c .record-end .ensures .0 ∙ ap (recordEnd s) (l .inv .2) ∙ sym (pieces-more (l .i) s (b .from)) in
-    let kept = length-set (l .places) (b .base + l .i) (l .a) ∙ l .inv .1 in
-    (omega arith, kept, e, stored-more (l .places) (b .base) (l .i) (l .a) (λ k. piecesEnd k s (b .from)) (omega arith) (l .inv .2) (l .inv .3), others-more (l .places) (b .base) (l .i) (l .a) (b .places .now) (l .inv .4))
+    let at-start = c .before .before .before .before .before in
+    let l = c .before .before .loop in let b = at-start .args in let s = b .agreement .now in let e =
+    c .record-end .ensures .0 ∙ ap (recordEnd s) (l .inv .2) ∙ sym (pieces-more (l .i) s (b .from)) in let kept
+    = length-set (l .places) (b .base + l .i) (l .a) ∙ l .inv .1 in (
+      omega arith,
+      kept,
+      e,
+      stored-more (l .places) (b .base) (l .i) (l .a) (λ k. piecesEnd k s (b .from))
+          (omega arith) (l .inv .2) (l .inv .3),
+      others-more (l .places) (b .base) (l .i) (l .a) (b .places .now)
+          (l .inv .4),
+    )
 
 slice-write-places : tie.Need-slice-write-places Inv-loop μ-loop
 slice-write-places c = omega (arith, c .before .loop .inv .1)
@@ -39,12 +52,12 @@ same-length c = c .before .loop .inv .1
 
 returns : tie.Need-returns Inv-loop μ-loop
 returns c =
-    let l = c .before .loop in
-    let b = c .before .before .before .before .args in
-    let s = b .agreement .now in
-    let all : l .i ≡ b .n = omega arith in
-    let e = l .inv .2 ∙ ap (λ k. piecesEnd k s (b .from)) all in
-    ((e, omega (arith, e, pieces-within (b .n) s (b .from) (c .before .before .before .before .pre .0))), (l .inv .1, ((λ k m. l .inv .3 k (omega arith)), l .inv .4)))
+    let at-start = c .before .before .before .before in
+    let l = c .before .loop in let b = at-start .args in let s = b .agreement .now in let all : l .i ≡ b .n = omega
+    arith in let e = l .inv .2 ∙ ap (λ k. piecesEnd k s (b .from)) all in (
+      (e, omega (arith, e, pieces-within (b .n) s (b .from) (at-start .pre .0))),
+      (l .inv .1, ((λ k m. l .inv .3 k (omega arith)), l .inv .4)),
+    )
 
 pub place-records-spec : {M : Type 1} → statement M
 place-records-spec = tie.close (tie.spec Inv-loop μ-loop loop-holds (λ c. omega arith) (λ c. search needs) slice-write-places (λ c κs. search needs) (λ c. omega arith) (λ c. omega arith) loop-again same-length returns)

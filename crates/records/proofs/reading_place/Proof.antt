@@ -6,9 +6,8 @@ use Rattle.records.proofs.reading_place.Tie as tie
 
 returns : tie.Need-returns
 returns c =
-    let k = c .before .args .k in
-    let x = c .before .pre .0 in
-    let e = x .readings k (c .before .pre .1) in
+    let at-start = c .before in
+    let k = at-start .args .k in let x = at-start .pre .0 in let e = x .readings k (at-start .pre .1) in
     (e, omega (arith, e, reading-within x k))
 
 pub reading-place-spec : {M : Type 1} → statement M

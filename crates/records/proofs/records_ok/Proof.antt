@@ -19,23 +19,26 @@ loop-holds c = (omega arith, refl)
 
 returns : tie.Need-returns Inv-loop μ-loop
 returns c =
-    let t = c .before .before .before .before in
-    let l = t .before .loop in
-    let b = t .before .before .before .args in
-    records-no (b .kind) (b .agreement .now) (l .left) (l .a) (t .loop-test .taken) (c .before .before .before .record-end .ensures .0) (c .before .record-ok .ensures) (l .inv .1) (c .if1 .taken)
+    let at-record-end = c .before .before .before in
+    let t = c .before .before .before .before in let l = t .before .loop in let b = t .before .before .before .args
+    in records-no (b .kind) (b .agreement .now) (l .left) (l .a) (t .loop-test .taken)
+    (at-record-end .record-end .ensures .0) (c .before .record-ok .ensures) (l .inv .1) (c .if1 .taken)
 
 loop-again : tie.Need-loop-again Inv-loop μ-loop
 loop-again c =
-    let t = c .before .before .before .before in
-    let l = t .before .loop in
-    let b = t .before .before .before .args in
-    (omega arith, records-more (b .kind) (b .agreement .now) (l .left) (l .a) (t .loop-test .taken) (c .before .before .before .record-end .ensures .0) (c .before .record-ok .ensures) (l .inv .1) (c .if1 .left))
+    let at-record-end = c .before .before .before in
+    let t = c .before .before .before .before in let l = t .before .loop in let b = t .before .before .before .args
+    in (
+      omega arith,
+      records-more (b .kind) (b .agreement .now) (l .left) (l .a) (t .loop-test .taken)
+          (at-record-end .record-end .ensures .0) (c .before .record-ok .ensures) (l .inv .1) (c .if1 .left),
+    )
 
 returns-2 : tie.Need-returns-2 Inv-loop μ-loop
 returns-2 c =
-    let l = c .before .loop in
-    let b = c .before .before .before .args in
-    records-end (b .kind) (b .agreement .now) (l .left) (l .a) (c .loop-test .left) ∙ sym (l .inv .1)
+    let at-start = c .before .before .before in
+    let l = c .before .loop in let b = at-start .args in records-end (b .kind) (b .agreement .now) (l .left) (l .a)
+    (c .loop-test .left) ∙ sym (l .inv .1)
 
 pub records-ok-spec : {M : Type 1} → statement M
 records-ok-spec = tie.close (tie.spec Inv-loop μ-loop loop-holds (λ c κs. search needs) (λ c. search needs) (λ c. search needs) (λ c. search needs) (λ c κs. search needs) returns (λ c. omega arith) (λ c. omega arith) loop-again returns-2)

@@ -21,15 +21,17 @@ loop-holds c = (omega arith, refl)
 
 returns : tie.Need-returns Inv-loop μ-loop
 returns c =
-    let b = c .before .before in
-    let l = b .before .before in
-    types-no (l .before .before .args .types .now) (l .loop .i) (l .loop .inv .1) (b .before .loop-test .taken) (b .byte .ensures .0) (c .before .in-range .ensures) (c .if1 .taken)
+    let b = c .before .before in let l = b .before .before in types-no (l .before .before .args .types .now)
+    (l .loop .i) (l .loop .inv .1) (b .before .loop-test .taken) (b .byte .ensures .0)
+    (c .before .in-range .ensures) (c .if1 .taken)
 
 loop-again : tie.Need-loop-again Inv-loop μ-loop
 loop-again c =
-    let b = c .before .before in
-    let l = b .before .before in
-    (omega arith, types-more (l .before .before .args .types .now) (l .loop .i) (l .loop .inv .1) (b .before .loop-test .taken) (b .byte .ensures .0) (c .before .in-range .ensures) (c .if1 .left))
+    let b = c .before .before in let l = b .before .before in (
+      omega arith,
+      types-more (l .before .before .args .types .now) (l .loop .i) (l .loop .inv .1)
+          (b .before .loop-test .taken) (b .byte .ensures .0) (c .before .in-range .ensures) (c .if1 .left),
+    )
 
 returns-2 : tie.Need-returns-2 Inv-loop μ-loop
 returns-2 c =

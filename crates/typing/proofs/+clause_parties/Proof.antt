@@ -50,10 +50,12 @@ claims t = (record-kind-reads.Asked, record-kind-reads.Learnt, fulfilled-parties
 
 clause-parties-returns : (t : ℕ) → clause-parties-lts.Need-returns (claims t) (clause-parties-at t) clause-parties.Post
 clause-parties-returns t c =
-    let f = c .before .before in
-    let k = f .before .before .before .before .before in
-    let s = k .before .before .before .before .before in
-    clause-refused (s .pre .1 .0) (s .args .params) (s .pre .1 .2) (s .args .types .now) (s .args .depth) (s .args .s .now) (k .record-kind .ensures) (f .before .before .before .before .match .rest .0 .1) (f .before .before .before .if1 .left) (f .before .before .if2 .taken) (f .first-sight .result) (f .first-sight .last .1 .1 .1 .1 .1 .1 .0) (f .first-sight .ensures) (c .if3 .taken)
+    let f = c .before .before in let k = f .before .before .before .before .before in let s =
+    k .before .before .before .before .before in clause-refused (s .pre .1 .0) (s .args .params) (s .pre .1 .2)
+    (s .args .types .now) (s .args .depth) (s .args .s .now) (k .record-kind .ensures)
+    (f .before .before .before .before .match .rest .0 .1) (f .before .before .before .if1 .left)
+    (f .before .before .if2 .taken) (f .first-sight .result) (f .first-sight .last .1 .1 .1 .1 .1 .1 .0)
+    (f .first-sight .ensures) (c .if3 .taken)
 
 clause-parties-slice-aggregate-clause-parties :
     (t : ℕ) → clause-parties-lts.Need-slice-aggregate-clause-parties (claims t) (clause-parties-at t) clause-parties.Post
@@ -61,39 +63,50 @@ clause-parties-slice-aggregate-clause-parties t c = simp length-take (omega arit
 
 clause-parties-clause-parties-requires : (t : ℕ) → clause-parties-lts.Need-clause-parties-requires (claims t) (clause-parties-at t) clause-parties.Post
 clause-parties-clause-parties-requires t c κs =
-    let s = c .before .before .before .before .before .before .before .before .before .before .before .before .before .before .before .before in
-    (search (rooms, needs), (s .pre .1 .0, simp length-take (omega arith), s .pre .1 .2))
+    let s = c .before .before .before .before .before .before .before .before .before .before .before .before
+    .before .before .before .before in (
+      search (rooms, needs),
+      (s .pre .1 .0, simp length-take (omega arith), s .pre .1 .2),
+    )
 
 clause-parties-blame-mask-requires : (t : ℕ) → clause-parties-lts.Need-blame-mask-requires (claims t) (clause-parties-at t) clause-parties.Post
 clause-parties-blame-mask-requires t c κs =
-    let s = c .before .before .before .before .before .before .before .before .before .before .before .before .before .before .before .before .before .before .before .before in
+    let s = c .before .before .before .before .before .before .before .before .before .before .before .before
+    .before .before .before .before .before .before .before .before in
     (omega (arith, s .pre .1 .0 .fewParties), s .pre .1 .2)
 
 clause-parties-returns-2 : (t : ℕ) → clause-parties-lts.Need-returns-2 (claims t) (clause-parties-at t) clause-parties.Post
 clause-parties-returns-2 t c =
-    let p = c .before .before .before .before .before in
-    let h = p .before .before .before in
-    let f = h .before .before .before .before in
-    let k = f .before .before .before .before .before in
-    let s = k .before .before .before .before .before in
-    clause-wait (s .pre .1 .0) (s .args .params) (s .pre .1 .2) (s .args .types .now) (s .args .depth) (s .args .s .now) (k .record-kind .ensures) (f .before .before .before .before .match .rest .0 .1) (f .before .before .before .if1 .left) (f .before .before .if2 .taken) (f .first-sight .result) (f .first-sight .last .1 .1 .1 .1 .1 .1 .0) (f .first-sight .ensures)
-    (h .before .before .if3 .left) (h .before .first-clause .ensures .0) (h .first-end .ensures .0) (p .clause-parties .ensures) (c .before .before .before .before .if4 .taken) (c .before .before .before .byte .ensures .0) (c .before .before .byte2 .ensures .0) (c .before .blame-mask .ensures) (c .blamed .ensures)
+    let at-byte = c .before .before .before in
+    let p = c .before .before .before .before .before in let h = p .before .before .before in let f =
+    h .before .before .before .before in let k = f .before .before .before .before .before in let s =
+    k .before .before .before .before .before in clause-wait (s .pre .1 .0) (s .args .params) (s .pre .1 .2)
+    (s .args .types .now) (s .args .depth) (s .args .s .now) (k .record-kind .ensures)
+    (f .before .before .before .before .match .rest .0 .1) (f .before .before .before .if1 .left)
+    (f .before .before .if2 .taken) (f .first-sight .result) (f .first-sight .last .1 .1 .1 .1 .1 .1 .0)
+    (f .first-sight .ensures) (h .before .before .if3 .left) (h .before .first-clause .ensures .0)
+    (h .first-end .ensures .0) (p .clause-parties .ensures) (at-byte .before .if4 .taken)
+    (at-byte .byte .ensures .0) (c .before .before .byte2 .ensures .0) (c .before .blame-mask .ensures)
+    (c .blamed .ensures)
 
 clause-parties-returns-5 : (t : ℕ) → clause-parties-lts.Need-returns-5 (claims t) (clause-parties-at t) clause-parties.Post
 clause-parties-returns-5 t c =
-    let p = c .before .before .before .before in
-    let h = p .before .before .before in
-    let f = h .before .before .before .before in
-    let k = f .before .before .before .before .before in
-    let s = k .before .before .before .before .before in
-    clause-two (s .pre .1 .0) (s .args .params) (s .pre .1 .2) (s .args .types .now) (s .args .depth) (s .args .s .now) (k .record-kind .ensures) (f .before .before .before .before .match .rest .0 .1) (f .before .before .before .if1 .left) (f .before .before .if2 .taken) (f .first-sight .result) (f .first-sight .last .1 .1 .1 .1 .1 .1 .0) (f .first-sight .ensures)
-    (h .before .before .if3 .left) (h .before .first-clause .ensures .0) (h .first-end .ensures .0) (p .clause-parties .ensures) (c .before .before .before .if4 .left) (c .before .clause-parties2 .ensures) (c .joined .ensures)
+    let at-if4 = c .before .before .before in
+    let p = c .before .before .before .before in let h = p .before .before .before in let f =
+    h .before .before .before .before in let k = f .before .before .before .before .before in let s =
+    k .before .before .before .before .before in clause-two (s .pre .1 .0) (s .args .params) (s .pre .1 .2)
+    (s .args .types .now) (s .args .depth) (s .args .s .now) (k .record-kind .ensures)
+    (f .before .before .before .before .match .rest .0 .1) (f .before .before .before .if1 .left)
+    (f .before .before .if2 .taken) (f .first-sight .result) (f .first-sight .last .1 .1 .1 .1 .1 .1 .0)
+    (f .first-sight .ensures) (h .before .before .if3 .left) (h .before .first-clause .ensures .0)
+    (h .first-end .ensures .0) (p .clause-parties .ensures) (at-if4 .if4 .left)
+    (c .before .clause-parties2 .ensures) (c .joined .ensures)
 
 clause-parties-returns-6 : (t : ℕ) → clause-parties-lts.Need-returns-6 (claims t) (clause-parties-at t) clause-parties.Post
 clause-parties-returns-6 t c =
-    let k = c .before .before in
-    let s = k .before .before .before .before .before in
-    clause-low (s .pre .1 .0) (s .args .params) (s .pre .1 .2) (s .args .types .now) (s .args .depth) (s .args .s .now) (k .record-kind .ensures) (c .if1 .taken)
+    let k = c .before .before in let s = k .before .before .before .before .before in clause-low (s .pre .1 .0)
+    (s .args .params) (s .pre .1 .2) (s .args .types .now) (s .args .depth) (s .args .s .now)
+    (k .record-kind .ensures) (c .if1 .taken)
 
 pub +clause-parties-spec : {M : Type 1} → statement M
 +clause-parties-spec = close μ-clause-parties λ t. clause-parties-lts.spec (claims t) (clause-parties-at t)

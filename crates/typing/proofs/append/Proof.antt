@@ -19,9 +19,12 @@ loop-holds c = (search needs, refl, append-none (c .args .out .now) (c .args .fr
 
 loop-again : tie.Need-loop-again Inv-loop μ-loop
 loop-again c =
-    let h = c .before .before in
-    let s = h .before in
-    (search needs, simp length-set (h .loop .inv .1), append-more (s .args .out .now) (h .loop .out) (s .args .from .now) (s .args .n) (h .loop .i) (omega arith) (omega arith) (h .loop .inv .2))
+    let h = c .before .before in let s = h .before in (
+      search needs,
+      simp length-set (h .loop .inv .1),
+      append-more (s .args .out .now) (h .loop .out)
+          (s .args .from .now) (s .args .n) (h .loop .i) (omega arith) (omega arith) (h .loop .inv .2),
+    )
 
 returns : tie.Need-returns Inv-loop μ-loop
 returns c =

@@ -13,10 +13,10 @@ same-length c = simp length-set (omega arith)
 
 returns-2 : tie.Need-returns-2
 returns-2 c =
-    let b = c .before .before in
-    let a = b .before .before .before .before in
-    let s = a .before .before .before .before .before .before in
-    join-few (s .args .types .now) (s .args .values .now) (s .args .out .now) (a .append .last .0) (b .append2 .last .0) (omega arith) (omega arith) (a .append .ensures) (b .append2 .ensures)
+    let b = c .before .before in let a = b .before .before .before .before in let s =
+    a .before .before .before .before .before .before in join-few (s .args .types .now) (s .args .values .now)
+    (s .args .out .now) (a .append .last .0) (b .append2 .last .0) (omega arith) (omega arith)
+    (a .append .ensures) (b .append2 .ensures)
 
 pub join-sight-spec : {M : Type 1} → statement M
 join-sight-spec = tie.close (tie.spec

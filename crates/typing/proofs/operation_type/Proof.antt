@@ -14,11 +14,15 @@ returns-2 c = (rw (← c .before .before .operand-type .ensures) (search keys de
 
 returns-3 : tie.Need-returns-3
 unfolding operationType
-returns-3 c = (rw (← c .before .before .before .operand-type .ensures) (search keys depth 9), search needs)
+returns-3 c =
+    let at-operand-type = c .before .before .before in
+    (rw (← at-operand-type .operand-type .ensures) (search keys depth 9), search needs)
 
 returns-4 : tie.Need-returns-4
 unfolding operationType
-returns-4 c = (rw (← c .before .before .before .before .operand-type .ensures) (search keys depth 9), search needs)
+returns-4 c =
+    let at-operand-type = c .before .before .before .before in
+    (rw (← at-operand-type .operand-type .ensures) (search keys depth 9), search needs)
 
 pub operation-type-spec : {M : Type 1} → statement M
 operation-type-spec = tie.close (tie.spec

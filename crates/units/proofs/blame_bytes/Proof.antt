@@ -16,19 +16,41 @@ abbrev μ-loop : tie.MeasureT-loop
 μ-loop s params bits₀ i₀ bits i = length s - i
 
 loop-holds : tie.Need-loop-holds Inv-loop μ-loop
-loop-holds c = blamed-first (c .before .before .args .s .now) (c .before .before .args .params .now)
+loop-holds c =
+    let at-start = c .before .before in
+    blamed-first (at-start .args .s .now) (at-start .args .params .now)
 
 union-requires : tie.Need-union-requires Inv-loop μ-loop
-union-requires c κs = (omega (arith, c .before .before .before .before .loop .inv .1, bits-small (standFor (c .before .before .before .before .before .before .before .args .params .now) (take (c .before .before .before .before .loop .i) (c .before .before .before .before .before .before .before .args .s .now)))), omega (arith, c .party-bit .ensures .1))
+union-requires c κs =
+    let at-loop = c .before .before .before .before in
+    let at-start = at-loop .before .before .before in (
+      omega (
+        arith,
+        at-loop .loop .inv .1,
+        bits-small
+            (standFor (at-start .args .params .now) (take (at-loop .loop .i) (at-start .args .s .now))),
+      ),
+      omega
+          (arith, c .party-bit .ensures .1),
+    )
 
 loop-less : tie.Need-loop-less Inv-loop μ-loop
-loop-less c = omega (arith, c .before .before .before .before .loop-test .taken)
+loop-less c =
+    let at-loop-test = c .before .before .before .before in
+    omega (arith, at-loop-test .loop-test .taken)
 
 loop-again : tie.Need-loop-again Inv-loop μ-loop
-loop-again c = blamed-more (c .before .before .before .before .before .before .before .before .args .s .now) (c .before .before .before .before .before .before .before .before .args .params .now) (c .before .before .before .before .loop-test .taken) (c .before .before .before .byte .ensures .0) (c .before .before .stands-for .ensures) (c .before .party-bit .ensures .0) (c .union .ensures .0) (c .before .before .before .before .before .loop .inv)
+loop-again c =
+    let at-byte = c .before .before .before in
+    let at-start = at-byte .before .before .before .before .before in
+    blamed-more (at-start .args .s .now) (at-start .args .params .now) (at-byte .before .loop-test .taken)
+    (at-byte .byte .ensures .0) (c .before .before .stands-for .ensures) (c .before .party-bit .ensures .0)
+    (c .union .ensures .0) (at-byte .before .before .loop .inv)
 
 returns : tie.Need-returns Inv-loop μ-loop
-returns c = blamed-last (c .before .before .before .before .args .s .now) (c .before .before .before .before .args .params .now) (c .loop-test .left) (c .before .loop .inv)
+returns c =
+    let at-start = c .before .before .before .before in
+    blamed-last (at-start .args .s .now) (at-start .args .params .now) (c .loop-test .left) (c .before .loop .inv)
 
 pub blame-bytes-spec : {M : Type 1} → statement M
 blame-bytes-spec = tie.close (tie.spec Inv-loop μ-loop

@@ -17,28 +17,60 @@ abbrev μ-loop : tie.MeasureT-loop
 μ-loop cells parties out₀ i₀ out i = length cells - i
 
 loop-holds : tie.Need-loop-holds Inv-loop μ-loop
-loop-holds c = (refl, reads-first (c .before .args .cells .now) (c .before .args .parties) (c .before .args .out .now))
+loop-holds c =
+    let at-start = c .before in
+    (refl, reads-first (at-start .args .cells .now) (at-start .args .parties) (at-start .args .out .now))
 
 same-length : tie.Need-same-length Inv-loop μ-loop
-same-length c = c .before .before .before .before .loop .inv .0
+same-length c =
+    let at-loop = c .before .before .before .before in
+    at-loop .loop .inv .0
 
 returns : tie.Need-returns Inv-loop μ-loop
-returns c = (λ e. absurd (false≢true e), λ e. reads-not (c .before .before .before .before .before .before .args .cells .now) (c .before .before .before .before .before .before .args .parties) (c .before .before .before .loop-test .taken) (c .before .number-below .ensures .0 ∙ ap (numberBelow (c .before .before .before .before .before .before .args .parties)) (read! (c .before .before .number-below-arg .given))) (c .before .before .before .before .loop .inv .1) (c .if1 .taken))
+returns c =
+    let at-loop-test = c .before .before .before in
+    let at-start = at-loop-test .before .before .before in (
+      λ e. absurd (false≢true e),
+      λ e. reads-not (at-start .args .cells .now) (at-start .args .parties)
+          (at-loop-test .loop-test .taken) (c .before .number-below .ensures .0 ∙ ap
+          (numberBelow (at-start .args .parties)) (read! (c .before .before .number-below-arg .given)))
+          (at-loop-test .before .loop .inv .1) (c .if1 .taken),
+    )
 
 slice-write-out : tie.Need-slice-write-out Inv-loop μ-loop
-slice-write-out c = omega (arith, c .before .before .before .before .loop .inv .0, c .before .before .before .before .before .before .pre, c .before .before .before .loop-test .taken)
+slice-write-out c =
+    let at-loop-test = c .before .before .before in
+    let at-start = at-loop-test .before .before .before in
+    omega (arith, at-loop-test .before .loop .inv .0, at-start .pre, at-loop-test .loop-test .taken)
 
 loop-less : tie.Need-loop-less Inv-loop μ-loop
-loop-less c = omega (arith, c .before .before .before .loop-test .taken)
+loop-less c =
+    let at-loop-test = c .before .before .before in
+    omega (arith, at-loop-test .loop-test .taken)
 
 loop-again : tie.Need-loop-again Inv-loop μ-loop
-loop-again c = (simp length-set (c .before .before .before .before .loop .inv .0), reads-more (c .before .before .before .before .before .before .args .cells .now) (c .before .before .before .before .before .before .args .parties) (c .before .before .before .loop-test .taken) (c .before .number-below .ensures .0 ∙ ap (numberBelow (c .before .before .before .before .before .before .args .parties)) (read! (c .before .before .number-below-arg .given))) (c .before .before .before .before .loop .inv .1) (c .before .number-below .ensures .1) (c .if1 .left) (omega (arith, c .before .before .before .before .loop .inv .0, c .before .before .before .before .before .before .pre, c .before .before .before .loop-test .taken)))
+loop-again c =
+    let number-below = c .before .number-below in
+    let at-loop-test = c .before .before .before in
+    let loop = at-loop-test .before .loop in
+    let at-start = at-loop-test .before .before .before in (
+      simp length-set (loop .inv .0),
+      reads-more (at-start .args .cells .now) (at-start .args .parties)
+          (at-loop-test .loop-test .taken) (number-below .ensures .0 ∙ ap (numberBelow (at-start .args .parties))
+          (read! (c .before .before .number-below-arg .given))) (loop .inv .1) (number-below .ensures .1)
+          (c .if1 .left) (omega (arith, loop .inv .0, at-start .pre, at-loop-test .loop-test .taken)),
+    )
 
 same-length-2 : tie.Need-same-length-2 Inv-loop μ-loop
 same-length-2 c = c .before .loop .inv .0
 
 returns-2 : tie.Need-returns-2 Inv-loop μ-loop
-returns-2 c = (λ e. reads-last (c .before .before .before .args .cells .now) (c .before .before .before .args .parties) (c .loop-test .left) (c .before .loop .inv .1), λ e. absurd (true≢false e))
+returns-2 c =
+    let at-start = c .before .before .before in (
+      λ e. reads-last (at-start .args .cells .now) (at-start .args .parties) (c .loop-test .left)
+          (c .before .loop .inv .1),
+      λ e. absurd (true≢false e),
+    )
 
 pub party-cells-spec : {M : Type 1} → statement M
 party-cells-spec = tie.close (tie.spec Inv-loop μ-loop

@@ -7,10 +7,15 @@ returns : tie.Need-returns
 returns c = stands-itself (c .before .args .params .now) (c .before .args .b) (c .if1 .taken)
 
 returns-2 : tie.Need-returns-2
-returns-2 c = stands-param (c .before .before .before .args .params .now) (c .before .before .before .args .b) (c .before .before .if1 .left) (c .before .if2 .taken)
+returns-2 c =
+    let at-start = c .before .before .before in
+    stands-param (at-start .args .params .now) (at-start .args .b) (c .before .before .if1 .left)
+    (c .before .if2 .taken)
 
 returns-3 : tie.Need-returns-3
-returns-3 c = stands-none (c .before .before .args .params .now) (c .before .before .args .b) (c .before .if1 .left) (c .if2 .left)
+returns-3 c =
+    let at-start = c .before .before in
+    stands-none (at-start .args .params .now) (at-start .args .b) (c .before .if1 .left) (c .if2 .left)
 
 pub stands-for-spec : {M : Type 1} → statement M
 stands-for-spec = tie.close (tie.spec returns (λ c. search needs) (λ c. search needs) returns-2 returns-3)

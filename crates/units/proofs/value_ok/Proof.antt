@@ -8,19 +8,37 @@ use Rattle.units.proofs.value_ok.Statement.{statement}
 use Rattle.units.proofs.value_ok.Tie as tie
 
 returns : tie.Need-returns
-returns c = number-ok (c .before .before .args .parties) (c .before .before .args .z) (c .before .match .keys1) (range-over (c .before .before .args .z) (rw (read (c .before .before .fits .z)) at (c .if1 .taken)))
+returns c =
+    let at-start = c .before .before in
+    number-ok (at-start .args .parties) (at-start .args .z) (c .before .match .keys1)
+    (range-over (at-start .args .z) (rw (read (at-start .fits .z)) at (c .if1 .taken)))
 
 returns-2 : tie.Need-returns-2
-returns-2 c = number-ok (c .before .before .before .args .parties) (c .before .before .before .args .z) (c .before .before .match .keys1) (range-under (c .before .before .before .args .z) (rw (read (c .before .before .before .fits .z)) at (c .if2 .taken)))
+returns-2 c =
+    let at-start = c .before .before .before in
+    number-ok (at-start .args .parties) (at-start .args .z) (c .before .before .match .keys1)
+    (range-under (at-start .args .z) (rw (read (at-start .fits .z)) at (c .if2 .taken)))
 
 returns-3 : tie.Need-returns-3
-returns-3 c = number-ok (c .before .before .before .args .parties) (c .before .before .before .args .z) (c .before .before .match .keys1) (range-in (c .before .before .before .args .z) (rw (read (c .before .before .before .fits .z)) at (c .before .if1 .left)) (rw (read (c .before .before .before .fits .z)) at (c .if2 .left)))
+returns-3 c =
+    let at-start = c .before .before .before in
+    number-ok (at-start .args .parties) (at-start .args .z) (c .before .before .match .keys1)
+    (range-in (at-start .args .z) (rw (read (at-start .fits .z)) at (c .before .if1 .left))
+    (rw (read (at-start .fits .z)) at (c .if2 .left)))
 
 returns-4 : tie.Need-returns-4
-returns-4 c = truth-ok (c .before .before .args .parties) (c .before .before .args .z) (c .before .match .keys2) (c .number-below .ensures .0 ∙ ap (numberBelow 2) (read (c .before .before .fits .z)))
+returns-4 c =
+    let at-start = c .before .before in
+    truth-ok (at-start .args .parties) (at-start .args .z) (c .before .match .keys2)
+    (c .number-below .ensures .0 ∙ ap (numberBelow 2) (read (at-start .fits .z)))
 
 returns-5 : tie.Need-returns-5
-returns-5 c = party-ok (c .before .before .args .parties) (c .before .before .args .z) (λ e. omega (arith, c .before .match .rest)) (λ e. omega (arith, c .before .match .rest)) (c .number-below2 .ensures .0 ∙ ap (numberBelow (c .before .before .args .parties)) (read (c .before .before .fits .z)))
+returns-5 c =
+    let match = c .before .match in
+    let at-start = c .before .before in
+    party-ok (at-start .args .parties) (at-start .args .z) (λ e. omega (arith, match .rest))
+    (λ e. omega (arith, match .rest)) (c .number-below2 .ensures .0 ∙ ap (numberBelow (at-start .args .parties))
+    (read (at-start .fits .z)))
 
 pub value-ok-spec : {M : Type 1} → statement M
 value-ok-spec = tie.close (tie.spec

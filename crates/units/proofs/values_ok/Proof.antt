@@ -17,19 +17,40 @@ abbrev μ-loop : tie.MeasureT-loop
 μ-loop types cells parties i₀ i = length types - i
 
 loop-holds : tie.Need-loop-holds Inv-loop μ-loop
-loop-holds c = values-first (c .before .args .parties) (c .before .args .types .now) (c .before .args .cells .now) (c .before .pre)
+loop-holds c =
+    let at-start = c .before in
+    values-first (at-start .args .parties) (at-start .args .types .now) (at-start .args .cells .now) (at-start .pre)
 
 returns : tie.Need-returns Inv-loop μ-loop
-returns c = values-not (c .before .before .before .before .before .before .before .args .parties) (c .before .before .before .before .before .before .before .args .types .now) (c .before .before .before .before .before .before .before .args .cells .now) (c .before .before .before .before .before .before .before .pre) (c .before .before .before .before .loop-test .taken) (c .before .value-ok .ensures ∙ ap (valueOk (c .before .before .before .before .before .before .before .args .parties) (tyOf (getD (c .before .before .before .before .before .before .before .args .types .now) (c .before .before .before .before .before .loop .i) 0))) (read! (c .before .before .value-ok-arg .given))) (c .before .before .before .before .before .loop .inv) (c .if1 .taken)
+returns c =
+    let at-loop-test = c .before .before .before .before in
+    let loop = at-loop-test .before .loop in
+    let at-start = at-loop-test .before .before .before in
+    values-not (at-start .args .parties) (at-start .args .types .now) (at-start .args .cells .now) (at-start .pre)
+    (at-loop-test .loop-test .taken) (c .before .value-ok .ensures ∙ ap
+    (valueOk (at-start .args .parties) (tyOf (getD (at-start .args .types .now) (loop .i) 0)))
+    (read! (c .before .before .value-ok-arg .given))) (loop .inv) (c .if1 .taken)
 
 loop-less : tie.Need-loop-less Inv-loop μ-loop
-loop-less c = omega (arith, c .before .before .before .before .loop-test .taken)
+loop-less c =
+    let at-loop-test = c .before .before .before .before in
+    omega (arith, at-loop-test .loop-test .taken)
 
 loop-again : tie.Need-loop-again Inv-loop μ-loop
-loop-again c = values-more (c .before .before .before .before .before .before .before .args .parties) (c .before .before .before .before .before .before .before .args .types .now) (c .before .before .before .before .before .before .before .args .cells .now) (c .before .before .before .before .before .before .before .pre) (c .before .before .before .before .loop-test .taken) (c .before .value-ok .ensures ∙ ap (valueOk (c .before .before .before .before .before .before .before .args .parties) (tyOf (getD (c .before .before .before .before .before .before .before .args .types .now) (c .before .before .before .before .before .loop .i) 0))) (read! (c .before .before .value-ok-arg .given))) (c .before .before .before .before .before .loop .inv) (c .if1 .left)
+loop-again c =
+    let at-loop-test = c .before .before .before .before in
+    let loop = at-loop-test .before .loop in
+    let at-start = at-loop-test .before .before .before in
+    values-more (at-start .args .parties) (at-start .args .types .now) (at-start .args .cells .now) (at-start .pre)
+    (at-loop-test .loop-test .taken) (c .before .value-ok .ensures ∙ ap
+    (valueOk (at-start .args .parties) (tyOf (getD (at-start .args .types .now) (loop .i) 0)))
+    (read! (c .before .before .value-ok-arg .given))) (loop .inv) (c .if1 .left)
 
 returns-2 : tie.Need-returns-2 Inv-loop μ-loop
-returns-2 c = values-last (c .before .before .before .args .parties) (c .before .before .before .args .types .now) (c .before .before .before .args .cells .now) (c .before .before .before .pre) (c .loop-test .left) (c .before .loop .inv)
+returns-2 c =
+    let at-start = c .before .before .before in
+    values-last (at-start .args .parties) (at-start .args .types .now) (at-start .args .cells .now) (at-start .pre)
+    (c .loop-test .left) (c .before .loop .inv)
 
 pub values-ok-spec : {M : Type 1} → statement M
 values-ok-spec = tie.close (tie.spec Inv-loop μ-loop

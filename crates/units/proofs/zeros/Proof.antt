@@ -21,10 +21,16 @@ loop-holds : tie.Need-loop-holds Inv-loop μ-loop
 loop-holds c = (omega arith, refl)
 
 loop-again : tie.Need-loop-again Inv-loop μ-loop
-loop-again c = zeros-more (c .before .before .before .args .cells .now) (c .before .before .loop .ones) (c .before .loop-test .taken) (c .x .given) (c .before .before .loop .inv)
+loop-again c =
+    let loop = c .before .before .loop in
+    let at-start = c .before .before .before in
+    zeros-more (at-start .args .cells .now) (loop .ones) (c .before .loop-test .taken) (c .x .given) (loop .inv)
 
 returns : tie.Need-returns Inv-loop μ-loop
-returns c = zeros-last (c .before .before .args .cells .now) (c .before .loop .ones) (c .loop-test .left) (c .before .loop .inv)
+returns c =
+    let loop = c .before .loop in
+    let at-start = c .before .before in
+    zeros-last (at-start .args .cells .now) (loop .ones) (c .loop-test .left) (loop .inv)
 
 pub zeros-spec : {M : Type 1} → statement M
 zeros-spec = tie.close (tie.spec Inv-loop μ-loop
