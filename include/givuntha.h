@@ -31,6 +31,13 @@
 extern "C" {
 #endif
 
+/* The version of this header; givuntha_version answers that of the library: major, minor, patch. */
+#define GIVUNTHA_VERSION_MAJOR 0
+#define GIVUNTHA_VERSION_MINOR 1
+#define GIVUNTHA_VERSION_PATCH 0
+#define GIVUNTHA_VERSION (GIVUNTHA_VERSION_MAJOR * 10000 + GIVUNTHA_VERSION_MINOR * 100 + GIVUNTHA_VERSION_PATCH)
+uint32_t givuntha_version(void);
+
 /* The answers. check gives 0 to 5; start 0 to 6 and 11; forecast 0 to 7; reading all. */
 enum givuntha_answer {
     GIVUNTHA_ACCEPTED = 0,
@@ -61,6 +68,26 @@ enum givuntha_answer {
     /* what is left to wait for needs over 128 units */
     GIVUNTHA_UNITS = 11
 };
+
+/* An answer in words. */
+static inline const char *givuntha_words(uint32_t answer)
+{
+    switch (answer) {
+    case GIVUNTHA_ACCEPTED: return "accepted";
+    case GIVUNTHA_AGREEMENT_LENGTH: return "the agreement's length is wrong";
+    case GIVUNTHA_AGREEMENT_FORM: return "the agreement is not well formed";
+    case GIVUNTHA_AGREEMENT_TYPING: return "the agreement is not well typed";
+    case GIVUNTHA_AGREEMENT_GUARDS: return "a template names itself or a later one unguarded";
+    case GIVUNTHA_AGREEMENT_WIDTH: return "a clause of the agreement is too wide";
+    case GIVUNTHA_TABLE_LENGTH: return "the table's length is wrong";
+    case GIVUNTHA_TABLE_CONTENT: return "the table is damaged, or not of this agreement";
+    case GIVUNTHA_READING_FORM: return "the reading is not well formed";
+    case GIVUNTHA_READING_TYPING: return "the reading's type or values are not the agreement's";
+    case GIVUNTHA_READING_TIME: return "the reading is earlier than the last one";
+    case GIVUNTHA_UNITS: return "what is left to wait for needs over 128 units";
+    default: return "an answer that this header does not know";
+    }
+}
 
 /* The longest agreement. */
 #define GIVUNTHA_AGREEMENT_BYTES 16384

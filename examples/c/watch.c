@@ -14,6 +14,7 @@
  * or a line could not be read.
  */
 #include "givuntha.h"
+#include "records.h"
 
 #include <ctype.h>
 #include <errno.h>
@@ -63,10 +64,13 @@ static void print_state(const struct run *run)
 /* Starts the run and writes its line. */
 static int start(struct run *run)
 {
-    uint32_t answer = givuntha_start(run->agreement, run->bytes, run->table, GIVUNTHA_TABLE_CELLS);
+    uint32_t answer;
 
+    clear_table(run->table);
+    answer = givuntha_start(run->agreement, run->bytes, run->table, GIVUNTHA_TABLE_CELLS);
     if (answer != GIVUNTHA_ACCEPTED) {
         printf("0 - REFUSED %" PRIu32 "\n", answer);
+        fprintf(stderr, "watch: %s\n", givuntha_words(answer));
         return 0;
     }
     printf("0 %" PRId64 " ", run->table[GIVUNTHA_HEAD_LAST_READING]);
@@ -93,34 +97,21 @@ static int take(char **line, long long low, long long high, long long *number)
     return *end == '\0' || isspace((unsigned char)*end);
 }
 
-/* Puts a number into a record, little-endian. */
-static void put(uint8_t *to, long long number, size_t bytes)
-{
-    uint64_t left = (uint64_t)number;
-
-    for (; bytes > 0; bytes--, left >>= 8)
-        *to++ = (uint8_t)(left & 255);
-}
-
 /* Makes the record of the reading in a line; answers its length, or 0 where the line is no reading. */
 static size_t make_reading(char *line, uint8_t record[GIVUNTHA_READING_BYTES], long long *time)
 {
     long long type, value;
-    size_t length = 9;
+    int32_t values[GIVUNTHA_READING_VALUES];
+    size_t count = 0;
 
     if (!take(&line, 0, UINT32_MAX, time) || !take(&line, 0, UINT8_MAX, &type))
         return 0;
     while (!is_spent(line)) {
-        if (length == GIVUNTHA_READING_BYTES || !take(&line, INT32_MIN, INT32_MAX, &value))
+        if (count == GIVUNTHA_READING_VALUES || !take(&line, INT32_MIN, INT32_MAX, &value))
             return 0;
-        put(record + length, value, 4);
-        length += 4;
+        values[count++] = (int32_t)value;
     }
-    put(record, (long long)length, 2);
-    put(record + 2, GIVUNTHA_READING_KIND, 2);
-    put(record + 4, *time, 4);
-    put(record + 8, type, 1);
-    return length;
+    return put_reading(record, (uint32_t)*time, (uint8_t)type, values, count);
 }
 
 /* Whether a line was longer than there was room for. */
@@ -148,6 +139,17 @@ static int follow(struct run *run, unsigned long n, char *line)
     else
         printf("REFUSED %" PRIu32 "\n", answer);
     return 1;
+}
+
+/* The places in the agreement's bytes of the clauses that still wait, on standard error. */
+static void print_waiting(const struct run *run)
+{
+    size_t n, units = (size_t)run->table[GIVUNTHA_HEAD_UNITS];
+
+    for (n = 0; n < units; n++)
+        if (unit_of(run->table, n)[GIVUNTHA_UNIT_SORT] < 20)
+            fprintf(stderr, "watch: waiting: the clause at byte %" PRId64 "\n",
+                    unit_of(run->table, n)[GIVUNTHA_UNIT_PLACE]);
 }
 
 /* Reads an agreement from a file, with one byte more than any has: of a longer file that is enough to be refused. */
@@ -183,5 +185,6 @@ int main(int count, char **words)
     for (n = 1; fgets(line, sizeof line, stdin) != NULL; n++)
         if (!follow(&run, n, line))
             return 2;
+    print_waiting(&run);
     return ferror(stdin) ? 2 : 0;
 }

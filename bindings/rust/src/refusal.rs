@@ -18,8 +18,9 @@ use std::fmt;
 /// );
 /// ```
 #[derive(Clone, Copy, Debug, PartialEq, Eq, PartialOrd, Ord, Hash)]
+#[non_exhaustive]
 pub enum Refusal {
-    AgreementLength = 1,
+    AgreementLength,
     AgreementForm,
     AgreementTyping,
     AgreementGuards,
@@ -30,10 +31,12 @@ pub enum Refusal {
     ReadingTyping,
     ReadingTime,
     Units,
+    /// A number that this package does not know: the library is newer than it.
+    Unknown(u32),
 }
 
 impl Refusal {
-    /// All refusals in the order of their numbers.
+    /// All refusals that are known, in the order of their numbers.
     pub const ALL: [Refusal; 11] = [
         Refusal::AgreementLength,
         Refusal::AgreementForm,
@@ -48,18 +51,41 @@ impl Refusal {
         Refusal::Units,
     ];
 
-    /// The paper's number, 1 to 11.
+    /// The paper's number, from 1 on.
     pub fn number(self) -> u32 {
-        self as u32
+        match self {
+            Refusal::AgreementLength => 1,
+            Refusal::AgreementForm => 2,
+            Refusal::AgreementTyping => 3,
+            Refusal::AgreementGuards => 4,
+            Refusal::AgreementWidth => 5,
+            Refusal::TableLength => 6,
+            Refusal::TableContent => 7,
+            Refusal::ReadingForm => 8,
+            Refusal::ReadingTyping => 9,
+            Refusal::ReadingTime => 10,
+            Refusal::Units => 11,
+            Refusal::Unknown(number) => number,
+        }
     }
 
-    /// What an entry's answer says. Another number than 0 to 11 would break the entries' proved contracts.
+    /// The refusal with this number.
+    ///
+    /// ```
+    /// assert_eq!(givuntha::Refusal::of(11), givuntha::Refusal::Units);
+    /// assert_eq!(givuntha::Refusal::of(99).number(), 99);
+    /// ```
+    pub fn of(number: u32) -> Refusal {
+        let known = Refusal::ALL.iter().find(|refusal| refusal.number() == number);
+        known.copied().unwrap_or(Refusal::Unknown(number))
+    }
+
+    /// What an entry's answer says.
     pub(crate) fn answer(number: u32) -> Result<(), Refusal> {
-        if number == 0 {
-            return Ok(());
+        match number {
+            0 => Ok(()),
+            _ => Err(Refusal::of(number)),
         }
-        let refusal = Refusal::ALL.iter().find(|refusal| refusal.number() == number);
-        Err(*refusal.expect("an answer from 0 to 11"))
     }
 
     fn words(self) -> &'static str {
@@ -88,6 +114,7 @@ impl Refusal {
             }
             Refusal::ReadingTime => "time below the last reading time",
             Refusal::Units => "the residue by the rules needs over 128 units",
+            Refusal::Unknown(_) => "a refusal that this package does not know",
         }
     }
 }
