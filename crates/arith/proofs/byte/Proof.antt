@@ -1,3 +1,4 @@
+-- Inside the slice the cast loses nothing; past its end the definition reads 0 too.
 use borrow.Author.Needs.{needs}
 use native.Mathlib.Omega.{arith}
 use Rattle.arith.proofs.Bytes.{byte-past}

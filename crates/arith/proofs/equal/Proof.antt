@@ -1,3 +1,4 @@
+-- Equal bits are equal numbers, since the two's complement of 64 bits tells all of them apart.
 use Rattle.arith.proofs.Ints.{eqb-bits}
 use Rattle.arith.proofs.equal.Statement.{statement}
 use Rattle.arith.proofs.equal.Tie as tie

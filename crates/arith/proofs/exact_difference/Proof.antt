@@ -1,3 +1,4 @@
+-- Two numbers within `far` are far from 64 bits, so their difference is exact.
 use Rattle.csl.specs.Numbers.{minus}
 use Rattle.arith.proofs.Ints.{abs-minus}
 use Rattle.arith.proofs.Numbers.{exact-asked, exact-answer}

@@ -1,3 +1,4 @@
+-- Two numbers within `far` are far from 64 bits, so their sum is exact.
 use Rattle.csl.specs.Numbers.{plus}
 use Rattle.arith.proofs.Ints.{abs-add}
 use Rattle.arith.proofs.Numbers.{exact-asked, exact-answer}

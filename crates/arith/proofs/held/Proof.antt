@@ -1,3 +1,4 @@
+-- The tests are the definition's own, in its order, on the number that the bits stand for.
 use mathlib.Core.Path.{_∙_}
 use Rattle.csl.specs.Numbers.{held}
 use Rattle.arith.proofs.Ints.{read}

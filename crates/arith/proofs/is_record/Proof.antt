@@ -1,3 +1,4 @@
+-- The bytes are a record where there are four of them and the first two give their length.
 use borrow.Author.Needs.{needs}
 use Rattle.arith.proofs.Bytes.{record-yes, record-no}
 use Rattle.arith.proofs.is_record.Statement.{statement}

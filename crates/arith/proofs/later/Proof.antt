@@ -1,3 +1,4 @@
+-- The time is not below 0, so the larger of the two is what the definition takes.
 use mathlib.Core.Path.{_∙_}
 use Rattle.arith.proofs.Ints.{read}
 use Rattle.arith.proofs.Numbers.{later-last, later-time, sizes}

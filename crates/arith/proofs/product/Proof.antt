@@ -1,3 +1,4 @@
+-- Two held numbers multiply to at most 10^18, which fits 64 bits, and `held` gives the definition's answer.
 use borrow.Author.Needs.{needs}
 use mathlib.Core.Path.{_∙_}
 use Rattle.csl.specs.Numbers.{times}

@@ -1,3 +1,4 @@
+-- Signed division drops the fraction towards zero, and a held number stays held under it; by 0 it is 0.
 use Rattle.arith.proofs.Numbers.{quotient-asked, quotient-answer, quotient-nought}
 use Rattle.arith.proofs.quotient.Statement.{statement}
 use Rattle.arith.proofs.quotient.Tie as tie

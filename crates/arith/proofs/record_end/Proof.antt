@@ -1,3 +1,4 @@
+-- The end is where the length says, or the end of the bytes where that comes first; it never lies before the record.
 use borrow.Author.Needs.{needs}
 use native.Mathlib.Omega.{arith}
 use Rattle.csl.specs.Bytes.{recordEnd}

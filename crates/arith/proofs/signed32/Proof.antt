@@ -1,3 +1,4 @@
+-- Below 2^31 the number is itself; from there on 2^32 is taken away, as two's complement has it.
 use borrow.Author.Needs.{needs}
 use Rattle.csl.specs.Bytes.{signed32}
 use Rattle.arith.proofs.Bytes.{low, high-asked, high-given}

@@ -1,3 +1,4 @@
+-- Two held numbers add to at most 2,000,000,000, so nothing overflows, and `held` gives the definition's answer.
 use borrow.Author.Needs.{needs}
 use mathlib.Core.Path.{_∙_}
 use Rattle.csl.specs.Numbers.{plus}

@@ -1,3 +1,4 @@
+-- Each argument is an expression and the blames fill what is left; the arguments left fall at each call.
 use Rattle.formed.proofs.Exprs.{rows}
 use Prim.Native.Nat.{ℕ, _<_}
 use borrow.Fn.Kinds.{In}

@@ -1,3 +1,4 @@
+-- Each arm asks what the form of its kind asks; a part is nested less deep than its clause.
 use Rattle.formed.proofs.Clauses.{clauses, obligation-formed, sides-formed}
 use Rattle.formed.proofs.Exprs.{both-on, both-off}
 use borrow.Author.Tests.{not-true, not-false}

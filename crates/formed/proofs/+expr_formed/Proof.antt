@@ -1,3 +1,4 @@
+-- Each arm asks what the form of its kind asks; an operand is nested less deep.
 use Rattle.formed.proofs.Exprs.{exprs}
 use Prim.Native.Nat.{ℕ, _<_}
 use borrow.Fn.Kinds.{In}

@@ -1,3 +1,4 @@
+-- The bodies before k are whole, so those from k on decide.
 use mathlib.Core.Path.{_≡_}
 use Prim.Native.Nat.{_-_, _≤_}
 use Rattle.formed.proofs.Bodies.{Bodies, Left, bodies}

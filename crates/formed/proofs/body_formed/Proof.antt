@@ -1,3 +1,4 @@
+-- A body stands behind the head of its template, and may nest 22 deep.
 use borrow.Author.Needs.{needs}
 use Rattle.formed.proofs.Bodies.{body-room, body-is}
 use Rattle.formed.proofs.body_formed.Statement.{statement}

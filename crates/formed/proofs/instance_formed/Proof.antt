@@ -1,3 +1,4 @@
+-- The template that is named says how many arguments and blames there must be.
 use Rattle.formed.proofs.Clauses.{instances}
 use borrow.Author.Needs.{needs}
 use Rattle.formed.proofs.instance_formed.Statement.{statement}

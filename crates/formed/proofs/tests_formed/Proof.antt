@@ -1,3 +1,4 @@
+-- Each kind has its own tests before its first clause, and the arms are the definition's.
 use borrow.Author.Needs.{needs}
 use Rattle.arith.proofs.Conds.{keys}
 use Rattle.formed.proofs.Exprs.{ends-at}

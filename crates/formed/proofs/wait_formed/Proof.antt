@@ -1,3 +1,4 @@
+-- The three expressions follow each other, and each must be whole.
 use borrow.Author.Needs.{needs}
 use Rattle.formed.proofs.Exprs.{waits}
 use Rattle.formed.proofs.wait_formed.Statement.{statement}

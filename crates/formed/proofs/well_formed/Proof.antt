@@ -1,3 +1,4 @@
+-- What is listed and whole is well formed, and the index is filled on the way.
 use mathlib.Core.Path.{refl, _∙_}
 use borrow.Author.Tests.{not-true, not-false}
 use borrow.Author.Needs.{needs}

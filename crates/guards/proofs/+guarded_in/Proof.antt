@@ -1,3 +1,4 @@
+-- Each arm follows the rule for guards of its kind, a `then` being left out; a part is nested less deep.
 use borrow.Author.Needs.{needs}
 use Rattle.guards.proofs.Walks.{formed, parts, sides}
 use Rattle.guards.proofs.Guarding.{guards}

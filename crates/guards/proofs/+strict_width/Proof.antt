@@ -1,3 +1,4 @@
+-- A `then` that is too wide makes the whole too wide, and else the width is counted; a part is nested less deep.
 use borrow.Author.Needs.{needs}
 use Rattle.guards.proofs.Walks.{formed, parts}
 use Rattle.guards.proofs.Wide.{stricts}

@@ -1,3 +1,4 @@
+-- Each arm counts what the rule for widths of its kind counts, up to 257; a part is nested less deep.
 use borrow.Author.Needs.{needs}
 use Rattle.guards.proofs.Walks.{formed, parts}
 use Rattle.guards.proofs.Wide.{widths}

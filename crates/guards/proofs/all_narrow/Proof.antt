@@ -1,3 +1,4 @@
+-- A clause and all its `then`s are narrow exactly where the strict width stays below 257.
 use borrow.Author.Needs.{needs}
 use Rattle.guards.proofs.Wide.{all-strict}
 use Rattle.guards.proofs.all_narrow.Statement.{statement}

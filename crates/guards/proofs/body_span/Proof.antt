@@ -1,3 +1,4 @@
+-- A body stands behind its template's head and ends with the template.
 use borrow.Author.Needs.{needs}
 use Rattle.guards.proofs.Bodies.{body-spans}
 use Rattle.guards.proofs.body_span.Statement.{statement}

@@ -1,3 +1,4 @@
+-- At each turn the widths below k are known, and no body needs another.
 use borrow.Author.Needs.{needs}
 use mathlib.Core.Path.{_≡_}
 use Prim.Native.Nat.{_-_, _≤_}

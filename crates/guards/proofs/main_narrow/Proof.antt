@@ -1,3 +1,4 @@
+-- The main clause's bytes are whole, so the walk gives the definition's answer for it.
 use borrow.Author.Needs.{needs}
 use Rattle.csl.specs.Widths.{allNarrow}
 use Rattle.guards.proofs.Bodies.{main-formed, main-answers}

@@ -1,3 +1,4 @@
+-- With all widths known, the main clause and the bodies decide.
 use borrow.Author.Needs.{needs}
 use Rattle.guards.proofs.Filling.{narrow-on, narrow-off}
 use Rattle.guards.proofs.narrow.Statement.{statement}

@@ -1,3 +1,4 @@
+-- A width that is not known yet counts 0, and one above 256 counts 257.
 use borrow.Author.Needs.{needs}
 use native.Mathlib.Omega.{arith}
 use lib.ListN.{List·getD-eq-default}

@@ -1,3 +1,4 @@
+-- A set below 2^k has no bit from k on, so each of its members is below k.
 use mathlib.Core.Path.{sym, ap, _∙_}
 use native.Mathlib.Omega.{arith}
 use borrow.Author.Needs.{needs}

@@ -1,3 +1,4 @@
+-- A party's bit stands at its number and a parameter's 16 places above its own, and no other byte has one.
 use borrow.Author.Needs.{needs}
 use Rattle.parties.proofs.Masks.{blames}
 use Rattle.parties.proofs.blame_mask.Statement.{statement}

@@ -1,3 +1,4 @@
+-- What is left of the set below 2^16 is its parties, and the parameters are gone.
 use mathlib.Core.Path.{refl, ap, _∙_}
 use Prim.Native.Nat.{_%_}
 use native.Mathlib.Omega.{arith}

@@ -1,3 +1,4 @@
+-- A bit is in the union where it is in one of the sets, so the union stands for both lists of members.
 use mathlib.Core.Path.{refl}
 use lib.Bits.{or-lt}
 use Rattle.parties.proofs.Masks.{union-is}

@@ -1,3 +1,4 @@
+-- Each step goes to the part that holds the place, and the bytes of that part are fewer.
 use borrow.Author.Needs.{needs}
 use Rattle.places.proofs.Steps.{typed-room}
 use Rattle.places.proofs.Descents.{descent-absent, descent-here, into-typed, into-room, descent-into}

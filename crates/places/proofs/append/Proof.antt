@@ -1,3 +1,4 @@
+-- At each turn what was there and the first i of `from` stand at the front.
 use borrow.Author.Needs.{needs}
 use mathlib.Core.Path.{_≡_, refl, _∙_}
 use mathlib.Core.List.{_++_}

@@ -1,3 +1,4 @@
+-- The body of an accepted template is typed under its values, so the descent finds what the definition finds.
 use borrow.Author.Needs.{needs}
 use Prim.Native.Nat.{_+_}
 use Rattle.places.proofs.Descents.{template-room, values-are, body-typed, template-located}

@@ -1,3 +1,4 @@
+-- Records follow each other, so the first one that ends behind the place holds it, or none does.
 use borrow.Author.Needs.{needs}
 use mathlib.Core.Path.{_≡_, refl, ap, _∙_}
 use Rattle.places.proofs.Descents.{Left, left-first, left-more, left-here, left-none, main-typed, main-located}

@@ -1,3 +1,4 @@
+-- Places increase in the order of the bytes, so one comparison tells which part holds the place.
 use borrow.Author.Needs.{needs}
 use mathlib.Core.Path.{refl}
 use Rattle.places.proofs.Steps.{typed-room, obligation-here, obligation-sees, obligation-into, choice-here, choice-sees, choice-then, choice-else, sides-left, sides-right, absent-low, absent-high}

@@ -1,3 +1,4 @@
+-- In a typed clause the wanted type is there and what `then` sees is at most 16.
 use borrow.Author.Needs.{needs}
 use native.Mathlib.Omega.{arith}
 use Rattle.places.proofs.Sights.{named, values-room, sight-room, part-room, sight-is}

@@ -1,3 +1,4 @@
+-- A reading has 9 bytes and four more for each of at most four values, and the tests ask just that.
 use borrow.Author.Needs.{needs}
 use mathlib.Core.Path.{sym, _∙_}
 use mathlib.Core.Bool.{false≢true}

@@ -1,3 +1,4 @@
+-- A mark has no values; any other type has as many as its record says, each of its type.
 use borrow.Author.Needs.{needs}
 use mathlib.Core.Path.{sym}
 use Prim.Native.Nat.{_+_, _≤_}

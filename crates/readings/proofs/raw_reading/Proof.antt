@@ -1,3 +1,4 @@
+-- What has the form of a reading is read as the definition reads it: time, type, values.
 use borrow.Author.Needs.{needs}
 use mathlib.Core.Path.{refl}
 use native.Mathlib.Omega.{arith}

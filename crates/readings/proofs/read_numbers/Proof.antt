@@ -1,3 +1,4 @@
+-- At each turn the first i numbers are stored, and a is where the next begins.
 use borrow.Author.Needs.{needs}
 use mathlib.Core.Path.{_≡_, refl, _∙_}
 use Prim.Native.Nat.{_≤_, _-_, _+_, _*_}

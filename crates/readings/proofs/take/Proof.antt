@@ -1,3 +1,4 @@
+-- What is no reading is malformed, what does not fit is untyped, and what is left fits.
 use borrow.Author.Needs.{needs}
 use native.Mathlib.Omega.{arith}
 use Rattle.readings.proofs.Fitting.{was-bad, was-read, gives-untyped, gives-fitting}

@@ -1,3 +1,4 @@
+-- A number lies between the ends, a truth is 0 or 1, a party is below the count.
 use Rattle.readings.proofs.Values.{number-high, number-low, negative, cast-asked, truth-fits, party-fits}
 use Rattle.readings.proofs.value_fits.Statement.{statement}
 use Rattle.readings.proofs.value_fits.Tie as tie

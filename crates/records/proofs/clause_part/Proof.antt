@@ -1,3 +1,4 @@
+-- Each kind has its own parts before its first clause, and the arms are the definition's.
 use borrow.Author.Needs.{needs}
 use native.Mathlib.Omega.{arith}
 use Rattle.arith.proofs.Conds.{keys}

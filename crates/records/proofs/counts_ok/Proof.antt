@@ -1,3 +1,4 @@
+-- Each test refuses what the definition refuses, and the last of them is the definition's last part.
 use borrow.Author.Needs.{needs}
 use Rattle.records.proofs.Listed.{counted-no-kind, counted-no-parties, counted-no-readings, counted-last}
 use Rattle.records.proofs.counts_ok.Statement.{statement}

@@ -1,3 +1,4 @@
+-- The index has the template's place, and the two bytes behind its parameter count are its declared parties.
 use borrow.Author.Needs.{needs}
 use Rattle.records.proofs.Index.{declared-read}
 use Rattle.records.proofs.declared_bits.Statement.{statement}

@@ -1,3 +1,4 @@
+-- Each test refuses what `listed` refuses, and the two walks store the places that the index asks for.
 use borrow.Author.Needs.{needs}
 use mathlib.Core.Path.{_≡_, _∙_}
 use mathlib.Core.Bool.{false≢true}

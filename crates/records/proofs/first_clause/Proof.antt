@@ -1,3 +1,4 @@
+-- The part from 0 on is the slice itself, so this is `clause_part`'s answer.
 use borrow.Author.Needs.{needs}
 use Rattle.arith.proofs.Lists.{part-all}
 use Rattle.records.proofs.first_clause.Statement.{statement}

@@ -1,3 +1,4 @@
+-- Both tests together are the definition's.
 use Rattle.records.proofs.Listed.{range-on, range-off}
 use Rattle.records.proofs.in_range.Statement.{statement}
 use Rattle.records.proofs.in_range.Tie as tie

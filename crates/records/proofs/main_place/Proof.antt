@@ -1,3 +1,4 @@
+-- Place 48 of the index is the main clause's.
 use borrow.Author.Needs.{needs}
 use native.Mathlib.Omega.{arith}
 use Rattle.records.proofs.Index.{main-within}

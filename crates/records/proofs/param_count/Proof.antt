@@ -1,3 +1,4 @@
+-- The index has the template's place, and the byte behind its value types is its parameter count.
 use borrow.Author.Needs.{needs}
 use Rattle.records.proofs.Index.{params-read}
 use Rattle.records.proofs.param_count.Statement.{statement}

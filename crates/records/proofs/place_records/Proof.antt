@@ -1,3 +1,4 @@
+-- At each turn the cells below i hold where the records begin, and a is where the next begins.
 use borrow.Author.Needs.{needs}
 use mathlib.Core.Path.{_≡_, refl, ap, sym, _∙_}
 use Prim.Native.Nat.{ℕ, _+_, _≤_, _<_, _-_}

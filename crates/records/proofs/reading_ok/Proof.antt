@@ -1,3 +1,4 @@
+-- Each test refuses what the definition refuses, and the types that are left decide.
 use borrow.Author.Needs.{needs}
 use mathlib.Core.Path.{sym, _∙_}
 use native.Mathlib.Omega.{arith}

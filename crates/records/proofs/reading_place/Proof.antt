@@ -1,3 +1,4 @@
+-- Place k of the index is reading type k + 1's.
 use borrow.Author.Needs.{needs}
 use native.Mathlib.Omega.{arith}
 use Rattle.records.proofs.Index.{reading-within}

@@ -1,3 +1,4 @@
+-- Kind 2 is asked of reading types, any other of templates, as the definition does.
 use borrow.Author.Needs.{needs}
 use Rattle.arith.proofs.Conds.{conds}
 use Rattle.records.specs.Index.{recordOk}

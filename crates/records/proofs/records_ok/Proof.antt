@@ -1,3 +1,4 @@
+-- The records still to be looked at decide, at each turn, what all of them decide.
 use borrow.Author.Needs.{needs}
 use mathlib.Core.Path.{_≡_, refl, sym, _∙_}
 use Prim.Native.Nat.{_≤_}

@@ -1,3 +1,4 @@
+-- The two tests are what refusal 1 asks.
 use borrow.Author.Needs.{needs}
 use Rattle.records.proofs.Listed.{sized-no, sized-yes}
 use Rattle.records.proofs.sized.Statement.{statement}

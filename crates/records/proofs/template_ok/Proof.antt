@@ -1,3 +1,4 @@
+-- Each test refuses what the definition refuses, and the parameter count, tested last, decides.
 use borrow.Author.Needs.{needs}
 use Prim.Native.Nat.{_+_}
 use mathlib.Core.Path.{sym, ap, _∙_}

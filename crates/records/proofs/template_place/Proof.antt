@@ -1,3 +1,4 @@
+-- Place 16 + k of the index is template k's.
 use borrow.Author.Needs.{needs}
 use native.Mathlib.Omega.{arith}
 use Rattle.records.proofs.Index.{template-within}

@@ -1,3 +1,4 @@
+-- All types before i are allowed, so those from i on decide.
 use borrow.Author.Needs.{needs}
 use mathlib.Core.Path.{_≡_, refl}
 use Prim.Native.Nat.{_≤_, _-_}

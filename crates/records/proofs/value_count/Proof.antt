@@ -1,3 +1,4 @@
+-- The index has the template's place, and its fifth byte is its value count.
 use borrow.Author.Needs.{needs}
 use Rattle.records.proofs.Index.{count-read}
 use Rattle.records.proofs.value_count.Statement.{statement}

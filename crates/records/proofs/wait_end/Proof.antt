@@ -1,3 +1,4 @@
+-- Three records follow each other, and each ends where its length says.
 use borrow.Author.Needs.{needs}
 use mathlib.Core.Path.{ap, _∙_}
 use native.Mathlib.Omega.{arith}

@@ -1,3 +1,4 @@
+-- Each argument has the type that its byte says or there is no end; the types still to be met fall at each call.
 use lib.ListN.{length}
 use Rattle.typing.proofs.Instances.{args}
 use borrow.Author.Needs.{needs}

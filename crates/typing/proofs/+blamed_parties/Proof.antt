@@ -1,3 +1,4 @@
+-- The first blame's bit joins those of the rest; the bytes that are left fall at each call.
 use lib.ListN.{length}
 use Rattle.typing.proofs.Instances.{blames}
 use borrow.Author.Needs.{needs}

@@ -1,3 +1,4 @@
+-- Each arm gives the parties that the typing rule of its kind gives; a part is nested less deep than its clause.
 use native.Mathlib.Omega.{arith}
 use lib.ListN.{length-take}
 use Rattle.typing.proofs.Exprs.{rooms}

@@ -1,3 +1,4 @@
+-- All templates from k on are typed where k is and those behind it are; the templates left fall at each call.
 use Prim.Native.Nat.{_-_}
 use Rattle.csl.specs.Bytes.{byte}
 use Rattle.typing.proofs.Templates.{rows}

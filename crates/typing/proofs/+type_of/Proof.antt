@@ -1,3 +1,4 @@
+-- Each arm gives the type that the typing rule of its kind gives; an operand is nested less deep.
 use borrow.Author.Needs.{needs}
 use Rattle.typing.proofs.Exprs.{types, rooms}
 use Prim.Native.Nat.{ℕ, _<_}

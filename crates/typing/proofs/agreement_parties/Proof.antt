@@ -1,3 +1,4 @@
+-- An agreement is typed where its templates are, and its parties are then its main clause's.
 use Rattle.typing.proofs.Templates.{agreements}
 use borrow.Author.Needs.{needs}
 use Rattle.typing.proofs.agreement_parties.Statement.{statement}

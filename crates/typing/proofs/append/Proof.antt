@@ -1,3 +1,4 @@
+-- At each turn what was there and the first i of `from` stand at the front.
 use mathlib.Core.Path.{_≡_, refl}
 use mathlib.Core.List.{_++_}
 use Prim.Native.Nat.{_+_, _-_, _≤_}

@@ -1,3 +1,4 @@
+-- One party more joins what is typed, and nothing joins what is not.
 use Rattle.typing.proofs.Clauses.{sets}
 use borrow.Author.Needs.{needs}
 use Rattle.typing.proofs.blamed.Statement.{statement}

@@ -1,3 +1,4 @@
+-- A body stands behind the head of its template, and sees the template's values.
 use Rattle.typing.proofs.Instances.{values-end}
 use Rattle.typing.proofs.Templates.{bodies}
 use borrow.Author.Needs.{needs}

@@ -1,3 +1,4 @@
+-- An obligation's only clause ends with it; any other's first clause ends where its length says.
 use native.Mathlib.Omega.{arith}
 use Rattle.arith.proofs.Conds.{keys}
 use Rattle.typing.specs.Clauses.{firstEnd}

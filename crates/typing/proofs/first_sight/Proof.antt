@@ -1,3 +1,4 @@
+-- Each kind's first clause sees what its typing rule says, or there is nothing to see where the tests before it fail.
 use Rattle.typing.proofs.Sights.{firsts}
 use borrow.Author.Needs.{needs}
 use Rattle.typing.proofs.first_sight.Statement.{statement}

@@ -1,3 +1,4 @@
+-- A fulfilled clause is its head alone, and has no parties.
 use Rattle.arith.proofs.Conds.{keys}
 use Rattle.typing.specs.Clauses.{fulfilledAs}
 use borrow.Author.Needs.{needs}

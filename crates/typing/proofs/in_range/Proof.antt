@@ -1,3 +1,4 @@
+-- The tests are the definition's, on the number that the bytes say.
 use Rattle.typing.proofs.Exprs.{range-over, range-under, range-in}
 use borrow.Author.Needs.{needs}
 use Rattle.typing.proofs.in_range.Statement.{statement}

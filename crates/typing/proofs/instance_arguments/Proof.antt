@@ -1,3 +1,4 @@
+-- The arguments are held to the value types of the template's own head.
 use Rattle.typing.proofs.Instances.{values-end, arguments-template}
 use borrow.Author.Needs.{needs}
 use Rattle.typing.proofs.instance_arguments.Statement.{statement}

@@ -1,3 +1,4 @@
+-- Each test refuses what the rule for instances refuses, and what is left is the declared parties and the blames'.
 use native.Mathlib.Omega.{arith}
 use Rattle.csl.specs.Decode.{expr, tysOf}
 use Rattle.typing.proofs.Instances.{instances, instance-untyped, instance-long, instance-other, instance-typed}

@@ -1,3 +1,4 @@
+-- Where all of them are at most 16, they stand one behind the other with the remaining time's type at the end.
 use native.Mathlib.Omega.{arith}
 use lib.ListN.{length-set}
 use Rattle.typing.proofs.Sights.{join-many, join-few}

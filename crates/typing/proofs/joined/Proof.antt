@@ -1,3 +1,4 @@
+-- Both sides must be typed, and then `sides` gives the join's rule.
 use Rattle.typing.proofs.Clauses.{sets}
 use borrow.Author.Needs.{needs}
 use Rattle.typing.proofs.joined.Statement.{statement}

@@ -1,3 +1,4 @@
+-- Each kind of leaf has the type of its rule, if its bytes are as many and its value is allowed.
 use Rattle.typing.proofs.Exprs.{leaves}
 use borrow.Author.Needs.{needs}
 use Rattle.typing.proofs.leaf_type.Statement.{statement}

@@ -1,3 +1,4 @@
+-- A literal has its type where it is as long as it must be and allowed.
 use borrow.Author.Needs.{needs}
 use Rattle.arith.proofs.Conds.{keys}
 use Rattle.typing.proofs.literal_type.Statement.{statement}

@@ -1,3 +1,4 @@
+-- Only a truth can be negated.
 use borrow.Author.Needs.{needs}
 use Rattle.arith.proofs.Conds.{keys}
 use Rattle.typing.specs.Types.{notType}

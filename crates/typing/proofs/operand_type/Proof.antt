@@ -1,3 +1,4 @@
+-- The arms are the definition's.
 use borrow.Author.Needs.{needs}
 use Rattle.arith.proofs.Conds.{keys}
 use Rattle.typing.specs.Types.{operandType}

@@ -1,3 +1,4 @@
+-- Both operands have the type that the operator wants, or there is no type.
 use Rattle.arith.proofs.Conds.{keys}
 use Rattle.typing.specs.Types.{operationType}
 use borrow.Author.Needs.{needs}

@@ -1,3 +1,4 @@
+-- A part that ends before it begins is empty, and has no type.
 use Rattle.typing.proofs.Sights.{part-none}
 use borrow.Author.Needs.{needs}
 use Rattle.typing.proofs.part_type.Statement.{statement}

@@ -1,3 +1,4 @@
+-- Where there is no record or no depth, kind 0 stands for that, as in the definition.
 use Rattle.arith.proofs.Conds.{keys}
 use Rattle.typing.specs.Types.{recordKind}
 use borrow.Author.Needs.{needs}

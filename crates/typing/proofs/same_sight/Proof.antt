@@ -1,3 +1,4 @@
+-- What is copied is what was in sight.
 use Rattle.typing.proofs.Sights.{same-seen}
 use borrow.Author.Needs.{needs}
 use Rattle.typing.proofs.same_sight.Statement.{statement}

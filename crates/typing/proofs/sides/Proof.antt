@@ -1,3 +1,4 @@
+-- For an `or` the members of both sides are counted together; an `and` asks nothing.
 use Rattle.typing.proofs.Clauses.{sets}
 use borrow.Author.Needs.{needs}
 use Rattle.typing.proofs.sides.Statement.{statement}

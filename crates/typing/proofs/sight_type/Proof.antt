@@ -1,3 +1,4 @@
+-- A value in sight has its byte's type; where none is, there is no type.
 use Rattle.typing.proofs.Exprs.{sight-in, sight-out}
 use borrow.Author.Needs.{needs}
 use Rattle.typing.proofs.sight_type.Statement.{statement}

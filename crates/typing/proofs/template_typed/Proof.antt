@@ -1,3 +1,4 @@
+-- The declared parties are below the count, the body is typed, and its constant parties are among the declared.
 use Rattle.typing.proofs.Templates.{templates}
 use borrow.Author.Needs.{needs}
 use Rattle.typing.proofs.template_typed.Statement.{statement}

@@ -1,3 +1,4 @@
+-- The wanted type's record stands where the index says, and its values' types end it.
 use Rattle.typing.proofs.Sights.{then-zero, then-past, reading-start, reading-few, then-reading}
 use borrow.Author.Needs.{needs}
 use Rattle.typing.proofs.then_sight.Statement.{statement}

@@ -1,3 +1,4 @@
+-- `where` is typed under what `then` sees without its last value, the remaining time.
 use native.Mathlib.Omega.{arith}
 use lib.ListN.{length-take}
 use Rattle.typing.proofs.Sights.{waits, wait-yes, wait-no}

@@ -1,3 +1,4 @@
+-- The three parts are tested in their order, each under what it sees.
 use Rattle.typing.proofs.Sights.{wait-first, wait-second, wait-third}
 use borrow.Author.Needs.{needs}
 use Rattle.typing.proofs.wait_typed.Statement.{statement}

@@ -1,3 +1,4 @@
+-- Each arm gives the parties that the rule of its kind gives, parameters replaced; a part is shorter than its clause.
 use mathlib.Core.Path.{sym, _∙_}
 use Rattle.units.proofs.Blames.{whole-room, then-in, then-parties, sides-in, sides-parties, low-parties, high-parties}
 use Rattle.arith.proofs.Lists.{length-part}

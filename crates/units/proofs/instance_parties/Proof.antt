@@ -1,3 +1,4 @@
+-- In a whole instance the blames are its last bytes, and its template's head says how many.
 use Rattle.units.proofs.Blames.{named-known, named-room, named-parties}
 use native.Mathlib.Omega.{arith}
 use borrow.Author.Needs.{needs}

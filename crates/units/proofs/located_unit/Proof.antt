@@ -1,3 +1,4 @@
+-- The cells hold to what is in sight at the place, and the parties are then compared with the main clause's.
 use Rattle.units.proofs.Units.{there-few, there-whole, there-room, located-not, located-in, located-out}
 use Rattle.units.proofs.Cells.{yes-true, no-false}
 use native.Mathlib.Omega.{arith}

@@ -1,3 +1,4 @@
+-- A negative cell and one that is too large give the end; any other is itself.
 use Rattle.units.proofs.Cells.{below-negative, below-asked, below-small, below-large}
 use Rattle.arith.proofs.Ints.{read}
 use Rattle.units.proofs.number_below.Statement.{statement}

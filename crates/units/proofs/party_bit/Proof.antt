@@ -1,3 +1,4 @@
+-- A party's bit stands at its number; above 15 there is none.
 use Rattle.units.proofs.Blames.{bit-party, bit-none}
 use borrow.Author.Needs.{needs}
 use Rattle.units.proofs.party_bit.Statement.{statement}

@@ -1,3 +1,4 @@
+-- At each turn the first i cells are parties, and stand at the front of `out`.
 use Rattle.units.proofs.Cells.{Reads, reads-first, reads-more, reads-not, reads-last}
 use Rattle.units.specs.Cells.{numberBelow}
 use Rattle.arith.proofs.Ints.{read! }

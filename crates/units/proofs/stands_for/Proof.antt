@@ -1,3 +1,4 @@
+-- Below 128 a blame is a party, and from there on the parameter's, if it is there.
 use Rattle.units.proofs.Blames.{stands-itself, stands-param, stands-none}
 use borrow.Author.Needs.{needs}
 use Rattle.units.proofs.stands_for.Statement.{statement}

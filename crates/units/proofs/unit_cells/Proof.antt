@@ -1,3 +1,4 @@
+-- The four tests ask in turn what the layout of a waiting unit asks, and the first that fails shows why none fits.
 use Rattle.units.proofs.Units.{no-parties, no-zeros, no-values, no-rest, cells-show}
 use Rattle.units.proofs.Cells.{yes-true, no-false}
 use Rattle.arith.proofs.Lists.{length-part}

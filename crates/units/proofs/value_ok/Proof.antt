@@ -1,3 +1,4 @@
+-- Each type's range is tested as the definition tests it.
 use native.Mathlib.Omega.{arith}
 use Rattle.units.proofs.Cells.{range-over, range-under, range-in, number-ok, truth-ok, party-ok}
 use Rattle.units.specs.Cells.{numberBelow}

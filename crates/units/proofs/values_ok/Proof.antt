@@ -1,3 +1,4 @@
+-- The values before i are of their types, so those from i on decide.
 use Rattle.units.proofs.Cells.{values-first, values-more, values-not, values-last}
 use Rattle.units.specs.Cells.{valueOk, valuesOk}
 use Rattle.csl.specs.Decode.{tyOf, tysOf}

@@ -1,3 +1,4 @@
+-- All cells before i are zero exactly where the ones seen so far are none.
 use borrow.Author.Needs.{needs}
 use mathlib.Core.Path.{_≡_, refl}
 use mathlib.Core.Bool.{_&&_}
