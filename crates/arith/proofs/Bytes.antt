@@ -7,11 +7,11 @@ use native.Mathlib.Omega.{arith}
 use lib.IntN.{ℤ, pos, negsuc, _-ℤ_}
 use lib.Dec.{T, leb, ltb, eqb}
 use lib.ListN.{length, List·getD-eq-default}
-use borrow.Author.Tests.{lt-ltb, le-ltb, leb-true, eqb-true, le-leb, lt-leb, eq-eqb}
+use borrow.Author.Tests.{lt-ltb, le-ltb, leb-true, eqb-true, le-leb, lt-leb}
 use mir.Syntax.{w64}
 use mir.Val.{SFits, toZ}
 use mir.ValLaws.{toZ-pos}
-use Rattle.csl.specs.Bytes.{byte, le16, le32, signed32, part, isRecord, recordEnd}
+use Rattle.csl.specs.Bytes.{byte, le16, le32, part, isRecord, recordEnd}
 use Rattle.arith.proofs.Ints.{abs-add, small, seen, read}
 use Rattle.arith.proofs.Lists.{getD-part}
 
@@ -37,16 +37,6 @@ le16-part s a e i h =
     let k : a + (i + 1) ≡ a + i + 1 = omega arith in
     rw (byte-part s a e i (omega arith), byte-part s a e (i + 1) (omega arith), k)
 
-pub le32-part : (s : List ℕ) (a e i : ℕ) → a + i + 3 < e → le32 (part s a e) i ≡ le32 s (a + i)
-unfolding le32
-le32-part s a e i h =
-    let k : a + (i + 2) ≡ a + i + 2 = omega arith in
-    rw (le16-part s a e i (omega arith), le16-part s a e (i + 2) (omega arith), k)
-
-pub signed32-part : (s : List ℕ) (a e i : ℕ) → a + i + 3 < e → signed32 (part s a e) i ≡ signed32 s (a + i)
-unfolding signed32
-signed32-part s a e i h = simp (le32-part s a e i h)
-
 -- ---- where a record ends
 pub record-end-within : (s : List ℕ) (a : ℕ) → recordEnd s a ≤ length s
 unfolding recordEnd
@@ -71,10 +61,6 @@ unfolding isRecord
 whole-from s e =
     let p = and-true (leb 4 (length s)) (eqb (le16 s 0) (length s)) e in
     record { room = leb-true 4 (length s) (p .0); says = eqb-true (le16 s 0) (length s) (p .1) }
-
-pub is-whole : {s : List ℕ} → Whole s → isRecord s ≡ true
-unfolding isRecord
-is-whole {s} w = rw (le-leb 4 (length s) (w .room), eq-eqb (le16 s 0) (length s) (w .says))
 
 pub record-yes : (s : List ℕ) {n : ℕ} → 4 ≤ length s → n ≡ le16 s 0 → eqb n (length s) ≡ isRecord s
 unfolding isRecord

@@ -82,9 +82,6 @@ read! {z} h = read (record { sfits = h })
 pub same-bits : {a b : ℤ} → SFits w64 a → SFits w64 b → ofZ w64 a ≡ ofZ w64 b → a ≡ b
 same-bits h k e = sym (read h) ∙ ap (toZ w64) e ∙ read k
 
-pub other-bits : {a b : ℤ} → (ofZ w64 a ≡ ofZ w64 b → ⊥) → a ≡ b → ⊥
-other-bits f e = f (ap (ofZ w64) e)
-
 -- a number whose bits are 0 is 0
 pub nought : {z : ℤ} → SFits w64 z → ofZ w64 z ≡ 0 → z ≡ pos 0
 nought h e = sym (read h) ∙ ap (toZ w64) e

@@ -1,4 +1,5 @@
--- Linear arithmetic on integers, by omega. An integer z is up z - dn z, of which one is 0; what is said of integers is said of those.
+-- Linear arithmetic on integers, by omega. An integer z is up z - dn z, of which one is 0; what is said of integers
+-- is said of those.
 use mathlib.Core.Path.{_≡_, refl, sym, ap, subst}
 use mathlib.Core.Bool.{Bool, true, false, cond}
 use Prim.Native.Nat.{ℕ, zero, suc, _+_, _-_, _≤_, _<_, min}
@@ -41,7 +42,8 @@ dn-pos n = refl
 
 diff : (a b : ℕ) → up (subℕ a b) + b ≡ dn (subℕ a b) + a
 unfolding up dn
-diff a b = by (λ t. up (cond t (negsuc (b - suc a)) (pos (a - b))) + b ≡ dn (cond t (negsuc (b - suc a)) (pos (a - b))) + a) (ltb a b)
+diff a b = by (λ t. up (cond t (negsuc (b - suc a)) (pos (a - b))) + b ≡ dn
+    (cond t (negsuc (b - suc a)) (pos (a - b))) + a) (ltb a b)
     (λ e. omega (arith, ltb-true a b e)) (λ e. omega (arith, ltb-false a b e))
 
 pub sum : (a b : ℤ) → up (a +ℤ b) + dn a + dn b ≡ dn (a +ℤ b) + up a + up b
@@ -144,4 +146,17 @@ to-eq (negsuc a) (negsuc b) e = ap negsuc (omega arith)
 pub seen-parts : {z : ℤ} → SFits w64 z → up (seen z) + dn z ≡ up z + dn (seen z)
 seen-parts {z} h = eq-parts (seen z) z (read h)
 
-pub ruleset ints = (arith, lt-fact, le-fact, lt-goal, le-goal, lt-true, lt-false, true-lt, false-lt, eq-parts, to-eq, seen-parts)
+pub ruleset ints = (
+  arith,
+  lt-fact,
+  le-fact,
+  lt-goal,
+  le-goal,
+  lt-true,
+  lt-false,
+  true-lt,
+  false-lt,
+  eq-parts,
+  to-eq,
+  seen-parts,
+)

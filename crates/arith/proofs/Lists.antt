@@ -1,11 +1,9 @@
 -- Parts of a list, a list filled from the front, three cells set in a row.
-use mathlib.Core.Path.{_≡_, refl, sym, ap, _∙_}
+use mathlib.Core.Path.{_≡_, sym, _∙_}
 use mathlib.Core.List.{List, [], _∷_, _++_, append-nil, append-assoc}
 use Prim.Native.Nat.{ℕ, zero, suc, _+_, _-_, _<_, _≤_}
-use native.Mathlib.Nat.{not-suc-le-zero, le-of-suc-le-suc}
-use native.Mathlib.Numerals.{add-one}
 use native.Mathlib.Omega.{arith}
-use lib.ListN.{length, getD, set, take, drop, replicate, length-take, length-drop}
+use lib.ListN.{length, getD, set, take, drop, length-take, length-drop}
 use lib.Seq.{sets-eq, drop-length, getD-take, getD-drop, take-take, take-nil, take-all, drop-drop}
 use borrow.Rule.Slice.PartMut.{putMid, post-is}
 
@@ -24,7 +22,8 @@ module _ {A : Type 0} where
   take-drop (suc m) (suc n) (x ∷ l) = let k : suc n - suc m ≡ n - m = omega arith in rw k (take-drop m n l)
 
   -- a part of a part
-  pub part-part : (l : List A) (a e b f : ℕ) → a + f ≤ e → take (f - b) (drop b (take (e - a) (drop a l))) ≡ take (a + f - (a + b)) (drop (a + b) l)
+  pub part-part : (l : List A) (a e b f : ℕ) → a + f ≤ e
+      → take (f - b) (drop b (take (e - a) (drop a l))) ≡ take (a + f - (a + b)) (drop (a + b) l)
   part-part l a e b f h =
       let k : f - b ≤ e - a - b = omega arith in
       let q : a + f - (a + b) ≡ f - b = omega arith in
@@ -33,20 +32,8 @@ module _ {A : Type 0} where
   pub part-all : (l : List A) → take (length l - 0) (drop 0 l) ≡ l
   part-all l = take-all (length l - 0) l (omega arith)
 
-  -- ---- filled from the front
-  fill-suc : (n : ℕ) (v : A) (d : List A) → n < length d → set (replicate n v ++ drop n d) n v ≡ replicate (suc n) v ++ drop (suc n) d
-  fill-suc n v [] l = absurd (not-suc-le-zero l)
-  fill-suc zero v (x ∷ d) l = refl
-  fill-suc (suc n) v (x ∷ d) l = ap (λ (t : List A). v ∷ t) (fill-suc n v d (le-of-suc-le-suc l))
-
-  -- a store of v at n, in a list filled up to n
-  pub fill-more : (n : ℕ) (v : A) (d : List A) → n < length d → set (replicate n v ++ drop n d) n v ≡ replicate (n + 1) v ++ drop (n + 1) d
-  fill-more n v d l = rw add-one (fill-suc n v d l)
-
-  pub fill-all : (n : ℕ) (v : A) (d : List A) → n ≡ length d → replicate n v ++ drop n d ≡ replicate (length d) v
-  fill-all n v d e = rw (e, drop-length, append-nil)
-
-  pub three : (n : ℕ) (a b c : A) (l : List A) → n + 3 ≤ length l → set (set (set l n a) (n + 1) b) (n + 2) c ≡ take n l ++ a ∷ b ∷ c ∷ drop (n + 3) l
+  pub three : (n : ℕ) (a b c : A) (l : List A) → n + 3 ≤ length l
+      → set (set (set l n a) (n + 1) b) (n + 2) c ≡ take n l ++ a ∷ b ∷ c ∷ drop (n + 3) l
   three n a b c l h =
       let p : n + 1 ≡ suc n = omega arith in
       let q : n + 2 ≡ suc (suc n) = omega arith in

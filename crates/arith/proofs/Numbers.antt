@@ -6,32 +6,26 @@ use native.Mathlib.Nat.{le-refl, mul-le-mul, div-le-self, div-zero}
 use native.Mathlib.Omega.{arith}
 use lib.IntN.{ℤ, pos, negsuc, natAbs, _+ℤ_, _-ℤ_, _*ℤ_}
 use lib.Dec.{T, leb, lit≤, leb→le, le→leb}
-use lib.Signed.{ltZ, quotZ, _≤ℤ_}
-use borrow.Author.Tests.{leb-true, leb-false, le-leb, ltb-true, ltb-false}
+use lib.Signed.{ltZ, quotZ}
+use borrow.Author.Tests.{le-leb, ltb-true, ltb-false}
 use mir.Syntax.{w64}
 use mir.Val.{SFits, ofZ}
-use Rattle.csl.specs.Numbers.{Held, Arithmetic, plus, minus, times, quot, top, bottom, limit, held, inRange, quotient, calculate, laterOf}
+use Rattle.csl.specs.Numbers.{Held, Arithmetic, plus, minus, times, quot, top, bottom, limit, held, inRange, quotient}
+use Rattle.csl.specs.Numbers.{calculate, laterOf}
 use Rattle.arith.specs.Within.{Within, far}
-use Rattle.arith.proofs.Ints.{by, abs-add, abs-minus, abs-mul, abs-quot, small, seen, abs-seen, read, nought, some-bits}
+use Rattle.arith.proofs.Ints.{by, abs-add, abs-minus, abs-mul, abs-quot, small, seen, abs-seen, read, nought}
+use Rattle.arith.proofs.Ints.{some-bits}
 use Rattle.arith.proofs.Linear.{ints, parts, up, dn, lt-false}
-
--- ---- in range, as a test and as a fact
-pub held-from : (z : ℤ) → inRange z ≡ true → Held z
-unfolding inRange
-held-from z e = record { within = leb-true (natAbs z) limit e }
 
 pub in-range : {z : ℤ} → Held z → inRange z ≡ true
 unfolding inRange
 in-range {z} h = le-leb (natAbs z) limit (h .within)
 
-pub held-not : (z : ℤ) → inRange z ≡ false → Held z → ⊥
-unfolding inRange
-held-not z e h = omega (arith, leb-false (natAbs z) limit e)
-
 pub held-fits : {z : ℤ} → Held z → SFits w64 z
 held-fits h = small (omega arith)
 
--- ---- `omega sizes` shows `Within n (seen z)`, from what is known of the sizes of numbers and of what the machine reads back
+-- ---- `omega sizes` shows `Within n (seen z)`, from what is known of the sizes of numbers and of what the machine
+-- reads back
 pub within-goal : (n : ℕ) (z : ℤ) → natAbs z ≤ n → Within n z
 within-goal n z h = record { within = le→leb (natAbs z) n h }
 
@@ -87,15 +81,18 @@ module _ (o : Arithmetic) {a b : ℤ} (p : SFits w64 a) (q : SFits w64 b) (r : S
   given = rw (read p, read q) (read r)
 
 -- where the size of the result is at most the sum of the sizes, as of a sum and a difference
-module _ (o : Arithmetic) (size : (a b : ℤ) → natAbs (exactly o a b) ≤ natAbs a + natAbs b) (a b : ℤ) (h : Within far a × Within far b) where
+module _ (o : Arithmetic) (size : (a b : ℤ) → natAbs (exactly o a b) ≤ natAbs a + natAbs b) (a b : ℤ)
+    (h : Within far a × Within far b) where
   fits : SFits w64 (exactly o a b)
   fits = small (omega (sizes, size a b))
 
   pub exact-asked : SFits w64 (exactly o (seen a) (seen b))
   exact-asked = asked o (small (omega sizes)) (small (omega sizes)) fits
 
-  pub exact-answer : (seen (exactly o (seen a) (seen b)) ≡ exactly o a b) × Within (natAbs a + natAbs b) (seen (exactly o (seen a) (seen b)))
-  exact-answer = let e = given o (small (omega sizes)) (small (omega sizes)) fits in (e, rw e (within-goal (natAbs a + natAbs b) (exactly o a b) (size a b)))
+  pub exact-answer : (seen (exactly o (seen a) (seen b)) ≡ exactly o a b)
+      × Within (natAbs a + natAbs b) (seen (exactly o (seen a) (seen b)))
+  exact-answer = let e = given o (small (omega sizes)) (small (omega sizes)) fits in
+      (e, rw e (within-goal (natAbs a + natAbs b) (exactly o a b) (size a b)))
 
 quot-size : (a b : ℤ) → natAbs (quotZ a b) ≤ natAbs a
 quot-size a b = omega (arith, abs-quot a b, div-le-self (natAbs a) (natAbs b))
@@ -181,8 +178,3 @@ module _ (n : ℕ) where
   unfolding laterOf
   later-size (pos m) = le-refl (max n m)
   later-size (negsuc m) = omega arith
-
-  pub later-covers : (z : ℤ) → z ≤ℤ pos (laterOf n z)
-  unfolding laterOf up dn
-  later-covers (pos m) = omega ints
-  later-covers (negsuc m) = record { le = tt }

@@ -9,22 +9,26 @@ use borrow.Author.Needs.{needs}
 use lib.ListN.{length}
 use Rattle.csl.specs.Lists.{all}
 use Rattle.csl.specs.Bytes.{byte, part, recordEnd}
-use Rattle.csl.specs.Decode.{Piece, pieces, piecesEnd, templatesPlace, templatePieces, bodyPlace, bodyOf, mainPlace, mainOf, clause, whole, headsOf, listed, wellFormed}
+use Rattle.csl.specs.Decode.{Piece, pieces, piecesEnd, templatesPlace, templatePieces, bodyPlace, bodyOf, mainPlace}
+use Rattle.csl.specs.Decode.{mainOf, clause, whole, headsOf, listed, wellFormed}
 use Rattle.records.specs.Index.{Indexed, templatePlace, pieceAt}
 use Rattle.records.proofs.Index.{piece, part-piece, pieces-more, pieces-none, template-facts}
 use Rattle.formed.proofs.Exprs.{both-on, both-off}
 use Rattle.formed.proofs.Clauses.{whole-place}
 
 -- ---- the body of template k; a, e and n are what calls gave
-module _ {places s : List ℕ} {k a e n : ℕ} (x : Indexed places s × (k < byte s 10)) (p : a ≡ templatePlace s k) (q : e ≡ recordEnd s a) (h : n ≡ byte (pieceAt s (templatePlace s k)) 4) where
+module _ {places s : List ℕ} {k a e n : ℕ} (x : Indexed places s × (k < byte s 10)) (p : a ≡ templatePlace s k)
+    (q : e ≡ recordEnd s a) (h : n ≡ byte (pieceAt s (templatePlace s k)) 4) where
   pub body-room : 8 + n ≤ length (part s a e)
   body-room = rw (part-piece s p q, h) (template-facts (x .0) k (x .1) .long)
 
-  pub body-is : {r : Bool} → r ≡ whole (clause (headsOf s) 22 0 (part (part s a e) (8 + n) (length (part s a e)))) → r ≡ whole (bodyOf (headsOf s) (piece s (templatePlace s k)))
+  pub body-is : {r : Bool} → r ≡ whole (clause (headsOf s) 22 0 (part (part s a e) (8 + n) (length (part s a e))))
+      → r ≡ whole (bodyOf (headsOf s) (piece s (templatePlace s k)))
   unfolding bodyOf bodyPlace
   body-is g =
       let t = pieceAt s (templatePlace s k) in
-      g ∙ rw (part-piece s p q, h) (whole-place (headsOf s) 22 0 (templatePlace s k + (8 + byte t 4)) (part t (8 + byte t 4) (length t)))
+      g ∙ rw (part-piece s p q, h) (whole-place (headsOf s) 22 0 (templatePlace s k + (8 + byte t 4))
+      (part t (8 + byte t 4) (length t)))
 
 -- ---- all of n records one after another, from record k on
 module _ (p : Piece → Bool) (n : ℕ) (s : List ℕ) (i : ℕ) where
@@ -74,7 +78,8 @@ module _ (s : List ℕ) where
 pub ruleset bodies = (left-start, left-end, left-on, left-off, not-true, not-false, needs)
 
 -- ---- the main clause; m is what a call gave
-pub main-is : (s : List ℕ) {r : Bool} {m : ℕ} → m ≡ mainPlace s → r ≡ whole (clause (headsOf s) 23 0 (part s m (length s))) → r ≡ whole (mainOf s)
+pub main-is : (s : List ℕ) {r : Bool} {m : ℕ} → m ≡ mainPlace s
+    → r ≡ whole (clause (headsOf s) 23 0 (part s m (length s))) → r ≡ whole (mainOf s)
 unfolding mainOf
 main-is s p h = h ∙ rw p (whole-place (headsOf s) 23 0 (mainPlace s) (part s (mainPlace s) (length s)))
 

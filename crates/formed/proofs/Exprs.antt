@@ -12,10 +12,12 @@ use lib.ListN.{length}
 use Rattle.csl.specs.Lists.{all}
 use Rattle.csl.specs.Bytes.{byte, signed32, part, isRecord, kindNumber, recordEnd}
 use Rattle.csl.specs.Syntax.{Expr, numberLit, truthLit, partyLit, variable, badExpr}
-use Rattle.csl.specs.Decode.{truthKind, partyKind, variableKind, leafKind, exprKind, ofLength, exprBody, expr, wholeExpr, waitAt, wholeWait, argumentsEnd, arguments}
+use Rattle.csl.specs.Decode.{truthKind, partyKind, variableKind, leafKind, exprKind, ofLength, exprBody, expr}
+use Rattle.csl.specs.Decode.{wholeExpr, waitAt, wholeWait, argumentsEnd, arguments}
 use Rattle.arith.proofs.Bytes.{whole-from, record-no, record-end-within}
 use Rattle.arith.proofs.Lists.{length-part}
-use Rattle.records.proofs.Trees.{expr-zero, expr-none, expr-at, kind-number, kind-leaf, kind-not, kind-binary, kind-no-expr-low, kind-no-expr-high}
+use Rattle.records.proofs.Trees.{expr-zero, expr-none, expr-at, kind-number, kind-leaf, kind-not, kind-binary}
+use Rattle.records.proofs.Trees.{kind-no-expr-low, kind-no-expr-high}
 
 -- ---- `x && y`
 pub both-on : (a b : Bool) {x y : Bool} → x ≡ a → x ≡ true → y ≡ b → y ≡ (a && b)
@@ -45,7 +47,8 @@ module _ (d : ℕ) (s : List ℕ) where
   unfolding wholeExpr
   no-record n p q = expr-none wholeExpr d s n p q refl
 
-  pub by-kind : {b r : Bool} {k : ℕ} → (d ≡ 0 → ⊥) → b ≡ isRecord s → b ≡ true → k ≡ kindNumber s → r ≡ wholeExpr (exprBody (expr (d - 1)) s (exprKind k)) → r ≡ wholeExpr (expr d s)
+  pub by-kind : {b r : Bool} {k : ℕ} → (d ≡ 0 → ⊥) → b ≡ isRecord s → b ≡ true → k ≡ kindNumber s
+      → r ≡ wholeExpr (exprBody (expr (d - 1)) s (exprKind k)) → r ≡ wholeExpr (expr d s)
   by-kind = expr-at wholeExpr d s
 
 sized : (t : Bool) (e : Expr) → wholeExpr e ≡ true → t ≡ wholeExpr (cond t e badExpr)
@@ -70,11 +73,14 @@ module _ (i : List ℕ → Expr) (s : List ℕ) where
     unfolding leafKind
     leaf-formed l n u = rw (kind-leaf k l u, ne-eqb k 32 n) (leaf (eqb k 33) (eqb k 34))
 
-    pub not-formed : {r : Bool} → k ≡ 36 → r ≡ wholeExpr (i (part s 4 (length s))) → r ≡ wholeExpr (exprBody i s (exprKind k))
+    pub not-formed : {r : Bool} → k ≡ 36 → r ≡ wholeExpr (i (part s 4 (length s)))
+        → r ≡ wholeExpr (exprBody i s (exprKind k))
     unfolding exprBody wholeExpr
     not-formed e q = rw (kind-not e) q
 
-    pub binary-formed : {r : Bool} {c : ℕ} → 36 ≤ k → (k ≡ 36 → ⊥) → k < 44 → c ≡ recordEnd s 4 → r ≡ (wholeExpr (i (part s 4 c)) && wholeExpr (i (part s c (length s)))) → r ≡ wholeExpr (exprBody i s (exprKind k))
+    pub binary-formed : {r : Bool} {c : ℕ} → 36 ≤ k → (k ≡ 36 → ⊥) → k < 44 → c ≡ recordEnd s 4
+        → r ≡ (wholeExpr (i (part s 4 c)) && wholeExpr (i (part s c (length s))))
+        → r ≡ wholeExpr (exprBody i s (exprKind k))
     unfolding exprBody wholeExpr
     binary-formed l n u p q = rw (kind-binary k (omega arith) u, ← p) q
 
@@ -88,10 +94,22 @@ module _ (i : List ℕ → Expr) (s : List ℕ) where
 
 pub ruleset walking = (both-on, both-off, record-room, end-room, not-true, not-false, needs)
 
-pub ruleset exprs = (no-depth, no-record, by-kind, number-formed, leaf-formed, not-formed, binary-formed, no-expr-low, no-expr-high, walking)
+pub ruleset exprs = (
+  no-depth,
+  no-record,
+  by-kind,
+  number-formed,
+  leaf-formed,
+  not-formed,
+  binary-formed,
+  no-expr-low,
+  no-expr-high,
+  walking,
+)
 
 -- an expression that ends at c, where a call says that it ends
-pub ends-at : (d : ℕ) (s : List ℕ) {r : Bool} {c : ℕ} → c ≡ recordEnd s 4 → r ≡ wholeExpr (expr d (part s 4 c)) → r ≡ wholeExpr (expr d (part s 4 (recordEnd s 4)))
+pub ends-at : (d : ℕ) (s : List ℕ) {r : Bool} {c : ℕ} → c ≡ recordEnd s 4 → r ≡ wholeExpr (expr d (part s 4 c))
+    → r ≡ wholeExpr (expr d (part s 4 (recordEnd s 4)))
 ends-at d s p q = rw (← p) q
 
 -- no bytes are no expression
@@ -105,11 +123,15 @@ module _ (d : ℕ) (s : List ℕ) (i : ℕ) where
   unfolding wholeWait waitAt
   wait-short l =
       let a = recordEnd s (i + 1) in
-      rw (sym (nothing d (part s (i + 1) a) (omega (arith, length-part s (i + 1) a (record-end-within s (i + 1)), record-end-within s (i + 1)))))
+      rw (sym (nothing d (part s (i + 1) a) (omega
+      (arith, length-part s (i + 1) a (record-end-within s (i + 1)), record-end-within s (i + 1)))))
 
-  pub wait-whole : {r : Bool} {a b e : ℕ} → a ≡ recordEnd s (i + 1) → b ≡ recordEnd s a → e ≡ recordEnd s b → r ≡ (wholeExpr (expr d (part s (i + 1) a)) && (wholeExpr (expr d (part s a b)) && wholeExpr (expr d (part s b e)))) → r ≡ wholeWait (waitAt (expr d) 0 s i)
+  pub wait-whole : {r : Bool} {a b e : ℕ} → a ≡ recordEnd s (i + 1) → b ≡ recordEnd s a → e ≡ recordEnd s b
+      → r ≡ (wholeExpr (expr d (part s (i + 1) a))
+      && (wholeExpr (expr d (part s a b)) && wholeExpr (expr d (part s b e)))) → r ≡ wholeWait (waitAt (expr d) 0 s i)
   unfolding wholeWait waitAt
-  wait-whole p q t h = h ∙ rw (t, q, p) (sym (both-within (wholeExpr (expr d (part s (i + 1) (recordEnd s (i + 1))))) _ _))
+  wait-whole p q t h = h ∙ rw (t, q, p) (sym
+      (both-within (wholeExpr (expr d (part s (i + 1) (recordEnd s (i + 1))))) _ _))
 
 -- ---- an instance's arguments, and where they end
 module _ (d : ℕ) (s : List ℕ) (i n m : ℕ) where
@@ -120,10 +142,12 @@ pub arguments-none : (d : ℕ) (s : List ℕ) (i n m : ℕ) → n ≡ 0 → eqb 
 unfolding all arguments argumentsEnd
 arguments-none d s i n m e = rw e
 
-pub arguments-more : (d : ℕ) (s : List ℕ) (i n m : ℕ) {r : Bool} {e : ℕ} → (n ≡ 0 → ⊥) → e ≡ recordEnd s i → r ≡ (wholeExpr (expr d (part s i e)) && Arguments d s e (n - 1) m) → r ≡ Arguments d s i n m
+pub arguments-more : (d : ℕ) (s : List ℕ) (i n m : ℕ) {r : Bool} {e : ℕ} → (n ≡ 0 → ⊥) → e ≡ recordEnd s i
+    → r ≡ (wholeExpr (expr d (part s i e)) && Arguments d s e (n - 1) m) → r ≡ Arguments d s i n m
 unfolding all arguments argumentsEnd
 arguments-more d s i zero m f p h = absurd (f refl)
-arguments-more d s i (suc n) m f p h = h ∙ rw (p, sub-one) (sym (both-within (wholeExpr (expr d (part s i (recordEnd s i)))) _ _))
+arguments-more d s i (suc n) m f p h = h
+    ∙ rw (p, sub-one) (sym (both-within (wholeExpr (expr d (part s i (recordEnd s i)))) _ _))
 
 pub ruleset waits = (wait-short, wait-whole, walking)
 

@@ -9,13 +9,15 @@ use lib.ListN.{length}
 use Rattle.csl.specs.Lists.{all}
 use Rattle.csl.specs.Bytes.{byte, part, recordEnd}
 use Rattle.csl.specs.Syntax.{Clause, Template}
-use Rattle.csl.specs.Decode.{whole, pieces, piecesEnd, templatesPlace, mainPlace, templatePieces, headsOf, mainOf, bodyPlace, bodyOf, templateOf, agreementOf, listed, wellFormed}
+use Rattle.csl.specs.Decode.{whole, pieces, piecesEnd, templatesPlace, mainPlace, templatePieces, headsOf, mainOf}
+use Rattle.csl.specs.Decode.{bodyPlace, bodyOf, templateOf, agreementOf, listed, wellFormed}
 use Rattle.csl.specs.Guards.{guardedIn, guardedFrom}
 use Rattle.csl.specs.Widths.{width, widthsFrom}
 use Rattle.arith.proofs.Lists.{length-part, part-part}
 use Rattle.arith.proofs.Bytes.{record-end-within, record-end-after}
 use Rattle.records.specs.Index.{Indexed, templatePlace, pieceAt}
-use Rattle.records.proofs.Index.{T-both, T-true, true-T, piece, all-pieces, pieces-more, template-within, template-facts}
+use Rattle.records.proofs.Index.{T-both, T-true, true-T, piece, all-pieces, pieces-more, template-within}
+use Rattle.records.proofs.Index.{template-facts}
 use Rattle.guards.specs.Walk.{Formed, Answers, Spans, bodyBytes, bodyAt}
 
 -- ---- the main clause and each body are whole
@@ -29,27 +31,35 @@ module _ (s : List ℕ) (x : wellFormed s ≡ true) where
 
   body-whole : (k : ℕ) → k < byte s 10 → whole (bodyAt s k) ≡ true
   unfolding wellFormed templatePieces bodyAt
-  body-whole k l = T-both (listed s && whole (mainOf s)) _ (true-T x) λ t u. T-true _ (all-pieces (λ q. whole (bodyOf (headsOf s) q)) (byte s 10) s (templatesPlace s) k u l)
+  body-whole k l = T-both (listed s && whole (mainOf s)) _ (true-T x) λ t u. T-true _
+      (all-pieces (λ q. whole (bodyOf (headsOf s) q)) (byte s 10) s (templatesPlace s) k u l)
 
   pub main-formed : {a : ℕ} → a ≡ mainPlace s → Formed 23 (part s a (length s))
   unfolding mainOf
   main-formed e = record { heads = headsOf s; place = mainPlace s; formed = rw e main-whole }
 
-  pub main-answers : {A : Type 0} (f : Clause → A) {a : ℕ} {r : A} → a ≡ mainPlace s → Answers f 23 (part s a (length s)) r → r ≡ f (mainOf s)
+  pub main-answers : {A : Type 0} (f : Clause → A) {a : ℕ} {r : A} → a ≡ mainPlace s
+      → Answers f 23 (part s a (length s)) r → r ≡ f (mainOf s)
   unfolding mainOf
   main-answers f e a = (rw e at a) .is (headsOf s) (mainPlace s) main-whole
 
   module _ {k from to : ℕ} (l : k < byte s 10) (b : Spans s k from to) where
     pub body-formed : Formed 22 (part s from to)
     unfolding bodyAt bodyOf bodyBytes
-    body-formed = let q = pieceAt s (templatePlace s k) in record { heads = headsOf s; place = templatePlace s k + bodyPlace q; formed = rw (b .body) (body-whole k l) }
+    body-formed = let q = pieceAt s (templatePlace s k) in record {
+      heads = headsOf s;
+      place = templatePlace s k + bodyPlace q;
+      formed = rw (b .body) (body-whole k l);
+    }
 
     pub body-answers : {A : Type 0} (f : Clause → A) {r : A} → Answers f 22 (part s from to) r → r ≡ f (bodyAt s k)
     unfolding bodyAt bodyOf bodyBytes
-    body-answers f a = let q = pieceAt s (templatePlace s k) in (rw (b .body) at a) .is (headsOf s) (templatePlace s k + bodyPlace q) (body-whole k l)
+    body-answers f a = let q = pieceAt s (templatePlace s k) in
+        (rw (b .body) at a) .is (headsOf s) (templatePlace s k + bodyPlace q) (body-whole k l)
 
 -- ---- where a body stands: a, n and e are what calls gave
-pub body-spans : {places s : List ℕ} {k a n e : ℕ} → Indexed places s × (k < byte s 10) → a ≡ templatePlace s k → n ≡ byte (pieceAt s (templatePlace s k)) 4 → e ≡ recordEnd s a → Spans s k (a + (8 + n)) e
+pub body-spans : {places s : List ℕ} {k a n e : ℕ} → Indexed places s × (k < byte s 10) → a ≡ templatePlace s k
+    → n ≡ byte (pieceAt s (templatePlace s k)) 4 → e ≡ recordEnd s a → Spans s k (a + (8 + n)) e
 unfolding bodyBytes bodyPlace
 body-spans {s = s} {k} x p q o =
     let b = templatePlace s k in
@@ -61,7 +71,11 @@ body-spans {s = s} {k} x p q o =
     let g = length-part s b z w in
     let v = record-end-after s b (template-within (x .0) k) in
     let j : b + (z - b) ≡ z = omega arith in
-    rw (o, q, p) record { ordered = omega (arith, h .long); within = w; body = sym (rw g (part-part s b z m (z - b) (omega arith) ∙ rw j)) }
+    rw (o, q, p) record {
+      ordered = omega (arith, h .long);
+      within = w;
+      body = sym (rw g (part-part s b z m (z - b) (omega arith) ∙ rw j));
+    }
 
 -- ---- the templates from number k on
 unfoldable pub templatesFrom : List ℕ → ℕ → List Template
@@ -75,22 +89,26 @@ pub from-last : (s : List ℕ) (k : ℕ) → byte s 10 ≤ k → templatesFrom s
 unfolding templatesFrom pieces
 from-last s k l = let z : byte s 10 - k ≡ 0 = omega arith in rw z
 
-from-next : (s : List ℕ) (k : ℕ) → k < byte s 10 → templatesFrom s k ≡ templateOf (headsOf s) (piece s (templatePlace s k)) ∷ templatesFrom s (k + 1)
+from-next : (s : List ℕ) (k : ℕ) → k < byte s 10
+    → templatesFrom s k ≡ templateOf (headsOf s) (piece s (templatePlace s k)) ∷ templatesFrom s (k + 1)
 unfolding templatesFrom pieces
 from-next s k l =
     let z : byte s 10 - k ≡ suc (byte s 10 - (k + 1)) = omega arith in
     rw (z, pieces-more k s (templatesPlace s))
 
 module _ (s : List ℕ) (k : ℕ) (l : k < byte s 10) where
-  pub guarded-next : guardedFrom k (templatesFrom s k) ≡ (guardedIn k (bodyAt s k) && guardedFrom (k + 1) (templatesFrom s (k + 1)))
+  pub guarded-next : guardedFrom k (templatesFrom s k) ≡ (guardedIn k (bodyAt s k)
+      && guardedFrom (k + 1) (templatesFrom s (k + 1)))
   unfolding guardedFrom bodyAt templateOf
   guarded-next = rw (from-next s k l, add-one k)
 
-  pub widths-next : (ws : List ℕ) → widthsFrom ws (templatesFrom s k) ≡ widthsFrom (ws ++ (width ws (bodyAt s k) ∷ [])) (templatesFrom s (k + 1))
+  pub widths-next : (ws : List ℕ) → widthsFrom ws (templatesFrom s k) ≡ widthsFrom
+      (ws ++ (width ws (bodyAt s k) ∷ [])) (templatesFrom s (k + 1))
   unfolding widthsFrom bodyAt templateOf
   widths-next ws = rw (from-next s k l)
 
-  pub all-next : (p : Clause → Bool) → all (λ t. p (t .body)) (templatesFrom s k) ≡ (p (bodyAt s k) && all (λ t. p (t .body)) (templatesFrom s (k + 1)))
+  pub all-next : (p : Clause → Bool) → all (λ t. p (t .body))
+      (templatesFrom s k) ≡ (p (bodyAt s k) && all (λ t. p (t .body)) (templatesFrom s (k + 1)))
   unfolding all bodyAt templateOf
   all-next p = rw (from-next s k l)
 

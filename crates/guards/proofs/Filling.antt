@@ -1,4 +1,5 @@
--- Laws for the widths of an agreement's templates: the list as it is filled, and what the counted widths say in place of the widths.
+-- Laws for the widths of an agreement's templates: the list as it is filled, and what the counted widths say in place
+-- of the widths.
 use mathlib.Core.Path.{_≡_, refl, sym, ap, subst, _∙_}
 use mathlib.Core.Bool.{Bool, true, false, _&&_}
 use mathlib.Core.List.{List, [], _∷_, _++_}
@@ -30,9 +31,12 @@ module _ (ws ys : List ℕ) (h : AsWide ws ys) where
   counted-same fulfilled = refl
   counted-same (obligation b w t) = refl
   counted-same (choice w t f) = sat-one (width ws f) (width ys f) (counted-same f)
-  counted-same (if e t f) = sat-both (width ws t) (width ws f) (width ys t) (width ys f) (counted-same t) (counted-same f)
-  counted-same (join j t f) = sat-both (width ws t) (width ws f) (width ys t) (width ys f) (counted-same t) (counted-same f)
-  counted-same (instance k es bs) = sat-one (orZero (at ws k)) (orZero (at ys k)) (rw (at-getD ws k, at-getD ys k) (h .wide k))
+  counted-same (if e t f) = sat-both (width ws t) (width ws f) (width ys t) (width ys f) (counted-same t)
+      (counted-same f)
+  counted-same (join j t f) = sat-both (width ws t) (width ws f) (width ys t) (width ys f) (counted-same t)
+      (counted-same f)
+  counted-same (instance k es bs) = sat-one (orZero (at ws k)) (orZero (at ys k))
+      (rw (at-getD ws k, at-getD ys k) (h .wide k))
   counted-same badClause = refl
 
   narrow-same : (c : Clause) → narrow ws c ≡ narrow ys c
@@ -80,16 +84,20 @@ none-filled s ys e = record {
   rest = ap (widthsFrom []) (from-first s);
 }
 
-pub all-filled : (s ys : List ℕ) {k : ℕ} → byte s 10 ≤ k → Filled s k ys → AsWide (widthsFrom [] (agreementOf s .templates)) ys
+pub all-filled : (s ys : List ℕ) {k : ℕ} → byte s 10 ≤ k → Filled s k ys
+    → AsWide (widthsFrom [] (agreementOf s .templates)) ys
 unfolding widthsFrom
 all-filled s ys {k} l x = rw (x .rest, from-last s k l) (x .wide)
 
 -- one width more, w, counted as r
-wide-more : (ws ys : List ℕ) (w r : ℕ) → AsWide ws ys → length ws < length ys → min w 257 ≡ min r 257 → AsWide (ws ++ (w ∷ [])) (set ys (length ws) r)
+wide-more : (ws ys : List ℕ) (w r : ℕ) → AsWide ws ys → length ws < length ys → min w 257 ≡ min r 257
+    → AsWide (ws ++ (w ∷ [])) (set ys (length ws) r)
 wide-more ws ys w r h l e = record { wide = λ j. test j (decLe (suc j) (length ws)) (decLe j (length ws)) }
   where
-    test : (j : ℕ) → Dec (j < length ws) → Dec (j ≤ length ws) → min (getD (ws ++ (w ∷ [])) j 0) 257 ≡ min (getD (set ys (length ws) r) j 0) 257
-    test j (yes p) q = rw (List·getD-append ws (w ∷ []) 0 j p, getD-set-other ys (length ws) j r 0 (λ i. omega arith)) (h .wide j)
+    test : (j : ℕ) → Dec (j < length ws) → Dec (j ≤ length ws)
+        → min (getD (ws ++ (w ∷ [])) j 0) 257 ≡ min (getD (set ys (length ws) r) j 0) 257
+    test j (yes p) q = rw (List·getD-append ws (w ∷ []) 0 j p, getD-set-other ys (length ws) j r 0 (λ i. omega arith))
+        (h .wide j)
     test j (no p) (yes q) =
         let i : j ≡ length ws = omega arith in
         rw (i, getD-at ws w [] 0 (length ws) refl, getD-set-same ys (length ws) r 0 l) e
@@ -98,7 +106,8 @@ wide-more ws ys w r h l e = record { wide = λ j. test j (decLe (suc j) (length 
         let n = List·getD-eq-default ws 0 {n = j} (omega arith) in
         rw (o, getD-set-other ys (length ws) j r 0 (λ i. omega arith)) (rw n at (h .wide j))
 
-pub more-filled : (s ys : List ℕ) {k r : ℕ} → k < byte s 10 → byte s 10 ≤ 32 → Filled s k ys → r ≡ counted ys (bodyAt s k) → Filled s (k + 1) (set ys k r)
+pub more-filled : (s ys : List ℕ) {k r : ℕ} → k < byte s 10 → byte s 10 ≤ 32 → Filled s k ys
+    → r ≡ counted ys (bodyAt s k) → Filled s (k + 1) (set ys k r)
 unfolding counted
 more-filled s ys {k} {r} l m x e =
     let ws = x .known in
@@ -108,18 +117,22 @@ more-filled s ys {k} {r} l m x e =
       known = ws ++ (w ∷ []);
       many = length-append ws (w ∷ []) ∙ ap (λ n. n + 1) (x .many);
       room = length-set ys k r ∙ x .room;
-      wide = subst (λ (n : ℕ). AsWide (ws ++ (w ∷ [])) (set ys n r)) (x .many) (wide-more ws ys w r (x .wide) (omega (arith, x .many, x .room)) q);
+      wide = subst (λ (n : ℕ). AsWide (ws ++ (w ∷ [])) (set ys n r)) (x .many)
+          (wide-more ws ys w r (x .wide) (omega (arith, x .many, x .room)) q);
       rest = x .rest ∙ widths-next s k l ws;
     }
 
 -- ---- the whole agreement, by the widths that code has filled
-module _ (s ys : List ℕ) (h : AsWide (widthsFrom [] (agreementOf s .templates)) ys) {x : Bool} (e : x ≡ allNarrow ys (mainOf s)) where
-  narrow-by : narrowAll (agreementOf s) ≡ (allNarrow ys (mainOf s) && all (λ t. allNarrow ys (t .body)) (agreementOf s .templates))
+module _ (s ys : List ℕ) (h : AsWide (widthsFrom [] (agreementOf s .templates)) ys) {x : Bool}
+    (e : x ≡ allNarrow ys (mainOf s)) where
+  narrow-by : narrowAll (agreementOf s) ≡ (allNarrow ys (mainOf s)
+      && all (λ t. allNarrow ys (t .body)) (agreementOf s .templates))
   unfolding narrowAll agreementOf
   narrow-by = rw (all-same _ ys h (mainOf s), bodies-same _ ys h (agreementOf s .templates))
 
   pub narrow-off : x ≡ false → x ≡ narrowAll (agreementOf s)
   narrow-off q = false-first _ _ e q ∙ sym narrow-by
 
-  pub narrow-on : {y : Bool} → x ≡ true → y ≡ all (λ t. allNarrow ys (t .body)) (agreementOf s .templates) → y ≡ narrowAll (agreementOf s)
+  pub narrow-on : {y : Bool} → x ≡ true → y ≡ all (λ t. allNarrow ys (t .body)) (agreementOf s .templates)
+      → y ≡ narrowAll (agreementOf s)
   narrow-on q g = true-first _ _ e q g ∙ sym narrow-by

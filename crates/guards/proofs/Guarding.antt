@@ -26,9 +26,11 @@ module _ (n d : ℕ) (s : List ℕ) {m : ℕ} (k : m ≡ kindNumber s) where
   guard-instance e g = answers-instance (guardedIn n) d s k e (λ es bs. ap (λ i. ltb i n) g)
 
   module _ {c z : ℕ} (i : c ≡ firstClause m s) (j : z ≡ recordEnd s c) where
-    pub guard-choice : {r : Bool} → m ≡ 18 → Answers (guardedIn n) (d - 1) (part s z (length s)) r → Answers (guardedIn n) d s r
+    pub guard-choice : {r : Bool} → m ≡ 18 → Answers (guardedIn n) (d - 1) (part s z (length s)) r
+        → Answers (guardedIn n) d s r
     unfolding guardedIn
-    guard-choice {r} e a = answers-two (guardedIn n) d s k (λ t. Unit {0}) (λ u. r ≡ guardedIn n u) (omega arith) (omega arith) i j (λ hs p w. tt) (a .is) (λ x p t u h g. g ∙ ap (guardedIn n) (sym (sided-choice x p s t u e)))
+    guard-choice {r} e a = answers-two (guardedIn n) d s k (λ t. Unit {0}) (λ u. r ≡ guardedIn n u) (omega arith)
+        (omega arith) i j (λ hs p w. tt) (a .is) (λ x p t u h g. g ∙ ap (guardedIn n) (sym (sided-choice x p s t u e)))
 
 pub guard-both : (n : ℕ) → Both (guardedIn n)
 unfolding guardedIn

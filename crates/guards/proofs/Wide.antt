@@ -10,12 +10,13 @@ use lib.Dec.{leb}
 use lib.ListN.{length, getD}
 use Rattle.csl.specs.Lists.{at}
 use Rattle.csl.specs.Bytes.{byte, part, kindNumber, recordEnd}
-use Rattle.csl.specs.Syntax.{Expr, Join, Clause, if, join, instance}
+use Rattle.csl.specs.Syntax.{Expr, Join, Clause, if, join}
 use Rattle.csl.specs.Widths.{orZero, width, narrow, thensNarrow, allNarrow}
 use Rattle.records.specs.Index.{firstClause}
 use Rattle.records.proofs.Trees.{sided-choice}
 use Rattle.guards.specs.Walk.{Answers, counted, strictWidth}
-use Rattle.guards.proofs.Walks.{answers-then, answers-two, answers-fulfilled, answers-instance, answers-low, answers-none, sided-same}
+use Rattle.guards.proofs.Walks.{answers-then, answers-two, answers-fulfilled, answers-instance, answers-low}
+use Rattle.guards.proofs.Walks.{answers-none, sided-same}
 
 -- ---- sums that stop at 257
 pub sat : (a b : ℕ) → min (1 + min a 257 + min b 257) 257 ≡ min (1 + a + b) 257
@@ -35,13 +36,17 @@ pub record Adds (f : Clause → ℕ) : Type 0 where
   pub of-if : (e : Expr) (t u : Clause) → min (1 + f t + f u) 257 ≡ f (if e t u)
   pub of-join : (j : Join) (t u : Clause) → min (1 + f t + f u) 257 ≡ f (join j t u)
 
-pub adds-two : (f : Clause → ℕ) (d : ℕ) (s : List ℕ) {m c z x y r : ℕ} → Adds f → m ≡ kindNumber s → c ≡ firstClause m s → z ≡ recordEnd s c → (m ≡ 18 → ⊥) → 18 ≤ m → m < 22 → Answers f (d - 1) (part s c z) x → Answers f (d - 1) (part s z (length s)) y → r ≡ min (1 + x + y) 257 → Answers f d s r
+pub adds-two : (f : Clause → ℕ) (d : ℕ) (s : List ℕ) {m c z x y r : ℕ} → Adds f → m ≡ kindNumber s
+    → c ≡ firstClause m s → z ≡ recordEnd s c → (m ≡ 18 → ⊥) → 18 ≤ m → m < 22 → Answers f (d - 1) (part s c z) x
+    → Answers f (d - 1) (part s z (length s)) y → r ≡ min (1 + x + y) 257 → Answers f d s r
 adds-two f d s {m} {x = x} {y} v k i j l o h a b q =
     answers-two f d s k (λ t. x ≡ f t) (λ u. y ≡ f u) o h i j (a .is) (b .is)
-    (λ e p t u g n. let w = q ∙ rw (g, n) in sided-same f e p s m t u l (λ i. w ∙ v .of-if i t u) (λ i. w ∙ v .of-join i t u))
+    (λ e p t u g n. let w = q ∙ rw (g, n) in
+    sided-same f e p s m t u l (λ i. w ∙ v .of-if i t u) (λ i. w ∙ v .of-join i t u))
 
 -- what an instance of template b adds
-named : (ws : List ℕ) (s : List ℕ) {b y r : ℕ} → b ≡ byte s 4 → y ≡ min (getD ws b 0) 257 → r ≡ min (1 + 0 + y) 257 → r ≡ min (1 + orZero (at ws (byte s 4))) 257
+named : (ws : List ℕ) (s : List ℕ) {b y r : ℕ} → b ≡ byte s 4 → y ≡ min (getD ws b 0) 257 → r ≡ min (1 + 0 + y) 257
+    → r ≡ min (1 + orZero (at ws (byte s 4))) 257
 named ws s g q h = sat-zero (orZero (at ws (byte s 4))) h (q ∙ rw (g, ← at-getD ws (byte s 4)))
 
 -- ---- `counted`
@@ -60,13 +65,17 @@ module _ (ws : List ℕ) (d : ℕ) (s : List ℕ) {m : ℕ} (k : m ≡ kindNumbe
   pub width-none : (m ≡ 22 → ⊥) → 22 ≤ m → Answers (counted ws) d s 1
   width-none e l = answers-none (counted ws) d s k (omega arith)
 
-  pub width-instance : {b y r : ℕ} → m ≡ 22 → b ≡ byte s 4 → y ≡ min (getD ws b 0) 257 → r ≡ min (1 + 0 + y) 257 → Answers (counted ws) d s r
+  pub width-instance : {b y r : ℕ} → m ≡ 22 → b ≡ byte s 4 → y ≡ min (getD ws b 0) 257 → r ≡ min (1 + 0 + y) 257
+      → Answers (counted ws) d s r
   unfolding counted width
   width-instance e g q h = answers-instance (counted ws) d s k e (λ es bs. named ws s g q h)
 
-  pub width-choice : {c z y r : ℕ} → c ≡ firstClause m s → z ≡ recordEnd s c → m ≡ 18 → Answers (counted ws) (d - 1) (part s z (length s)) y → r ≡ min (1 + 0 + y) 257 → Answers (counted ws) d s r
+  pub width-choice : {c z y r : ℕ} → c ≡ firstClause m s → z ≡ recordEnd s c → m ≡ 18
+      → Answers (counted ws) (d - 1) (part s z (length s)) y → r ≡ min (1 + 0 + y) 257 → Answers (counted ws) d s r
   unfolding counted width
-  width-choice {y = y} i j e a q = answers-two (counted ws) d s k (λ t. Unit {0}) (λ u. y ≡ counted ws u) (omega arith) (omega arith) i j (λ hs p w. tt) (a .is) (λ x p t u h g. sat-zero (width ws u) q g ∙ ap (counted ws) (sym (sided-choice x p s t u e)))
+  width-choice {y = y} i j e a q = answers-two (counted ws) d s k (λ t. Unit {0}) (λ u. y ≡ counted ws u)
+      (omega arith) (omega arith) i j (λ hs p w. tt) (a .is)
+      (λ x p t u h g. sat-zero (width ws u) q g ∙ ap (counted ws) (sym (sided-choice x p s t u e)))
 
 pub ruleset widths = (width-low, width-none, width-instance, width-choice, counted-adds, adds-two)
 
@@ -89,7 +98,8 @@ strict-leb ws c = test (leb (width ws c) 256) (thensNarrow ws c) (leb-min (width
     test true false e = refl
     test false false e = refl
 
-pub all-strict : (ws : List ℕ) (d : ℕ) (s : List ℕ) {x : ℕ} → Answers (strictWidth ws) d s x → Answers (allNarrow ws) d s (leb x 256)
+pub all-strict : (ws : List ℕ) (d : ℕ) (s : List ℕ) {x : ℕ} → Answers (strictWidth ws) d s x
+    → Answers (allNarrow ws) d s (leb x 256)
 all-strict ws d s a = record { is = λ hs p w. rw (a .is hs p w) (strict-leb ws _) }
 
 -- of a `then` x is known
@@ -100,13 +110,15 @@ then-off : (ws : List ℕ) (t : Clause) {x : ℕ} → x ≡ strictWidth ws t →
 then-off ws t {x} e l = sym (strict-leb ws t) ∙ rw (sym e) (lt-leb x 256 l)
 
 -- where a side is not narrow, the sum is 257
-strict-both : (v w : ℕ) (a b : Bool) → min (1 + cond a (min v 257) 257 + cond b (min w 257) 257) 257 ≡ cond (a && b) (min (1 + v + w) 257) 257
+strict-both : (v w : ℕ) (a b : Bool) → min (1 + cond a (min v 257) 257 + cond b (min w 257) 257) 257 ≡ cond (a && b)
+    (min (1 + v + w) 257) 257
 strict-both v w true true = sat v w
 strict-both v w true false = omega arith
 strict-both v w false true = omega arith
 strict-both v w false false = refl
 
-strict-else : (w : ℕ) (b : Bool) {y r : ℕ} → r ≡ min (1 + 0 + y) 257 → y ≡ cond b (min w 257) 257 → r ≡ cond b (min (1 + w) 257) 257
+strict-else : (w : ℕ) (b : Bool) {y r : ℕ} → r ≡ min (1 + 0 + y) 257 → y ≡ cond b (min w 257) 257
+    → r ≡ cond b (min (1 + w) 257) 257
 strict-else w true h q = sat-zero w h q
 strict-else w false h q = omega arith
 
@@ -125,7 +137,8 @@ module _ (ws : List ℕ) (d : ℕ) (s : List ℕ) {m : ℕ} (k : m ≡ kindNumbe
   pub strict-none : (m ≡ 22 → ⊥) → 22 ≤ m → Answers (strictWidth ws) d s 1
   strict-none e l = answers-none (strictWidth ws) d s k (omega arith)
 
-  pub strict-instance : {b y r : ℕ} → m ≡ 22 → b ≡ byte s 4 → y ≡ min (getD ws b 0) 257 → r ≡ min (1 + 0 + y) 257 → Answers (strictWidth ws) d s r
+  pub strict-instance : {b y r : ℕ} → m ≡ 22 → b ≡ byte s 4 → y ≡ min (getD ws b 0) 257 → r ≡ min (1 + 0 + y) 257
+      → Answers (strictWidth ws) d s r
   unfolding strictWidth counted width thensNarrow
   strict-instance e g q h = answers-instance (strictWidth ws) d s k e (λ es bs. named ws s g q h)
 
@@ -133,27 +146,47 @@ module _ (ws : List ℕ) (d : ℕ) (s : List ℕ) {m : ℕ} (k : m ≡ kindNumbe
     module _ (e : m ≡ 17) {x : ℕ} (a : Answers (strictWidth ws) (d - 1) (part s c (length s)) x) where
       pub strict-wait-on : x ≤ 256 → Answers (strictWidth ws) d s 1
       unfolding strictWidth counted width thensNarrow allNarrow
-      strict-wait-on l = answers-then (strictWidth ws) d s k (λ t. x ≡ strictWidth ws t) e i (a .is) (λ b w t h. sym (ap (λ n. cond n 1 257) (then-on ws t h l)))
+      strict-wait-on l = answers-then (strictWidth ws) d s k (λ t. x ≡ strictWidth ws t) e i (a .is)
+          (λ b w t h. sym (ap (λ n. cond n 1 257) (then-on ws t h l)))
 
       pub strict-wait-off : 256 < x → Answers (strictWidth ws) d s 257
       unfolding strictWidth counted width thensNarrow allNarrow
-      strict-wait-off l = answers-then (strictWidth ws) d s k (λ t. x ≡ strictWidth ws t) e i (a .is) (λ b w t h. sym (ap (λ n. cond n 1 257) (then-off ws t h l)))
+      strict-wait-off l = answers-then (strictWidth ws) d s k (λ t. x ≡ strictWidth ws t) e i (a .is)
+          (λ b w t h. sym (ap (λ n. cond n 1 257) (then-off ws t h l)))
 
-    module _ {z : ℕ} (j : z ≡ recordEnd s c) (e : m ≡ 18) {x : ℕ} (a : Answers (strictWidth ws) (d - 1) (part s c z) x) where
-      pub strict-choice-on : {y r : ℕ} → x ≤ 256 → Answers (strictWidth ws) (d - 1) (part s z (length s)) y → r ≡ min (1 + 0 + y) 257 → Answers (strictWidth ws) d s r
+    module _ {z : ℕ} (j : z ≡ recordEnd s c) (e : m ≡ 18) {x : ℕ}
+        (a : Answers (strictWidth ws) (d - 1) (part s c z) x) where
+      pub strict-choice-on : {y r : ℕ} → x ≤ 256 → Answers (strictWidth ws) (d - 1) (part s z (length s)) y
+          → r ≡ min (1 + 0 + y) 257 → Answers (strictWidth ws) d s r
       unfolding strictWidth counted width thensNarrow allNarrow
       strict-choice-on {y} l b q =
-          answers-two (strictWidth ws) d s k (λ t. x ≡ strictWidth ws t) (λ u. y ≡ strictWidth ws u) (omega arith) (omega arith) i j (a .is) (b .is)
-          (λ v p t u g h. (strict-else (width ws u) (thensNarrow ws u) q h ∙ sym (ap (λ n. cond (n && thensNarrow ws u) (min (1 + width ws u) 257) 257) (then-on ws t g l))) ∙ ap (strictWidth ws) (sym (sided-choice v p s t u e)))
+          answers-two (strictWidth ws) d s k (λ t. x ≡ strictWidth ws t) (λ u. y ≡ strictWidth ws u) (omega arith)
+          (omega arith) i j (a .is) (b .is)
+          (λ v p t u g h. (strict-else (width ws u) (thensNarrow ws u) q h
+          ∙ sym (ap (λ n. cond (n && thensNarrow ws u) (min (1 + width ws u) 257) 257) (then-on ws t g l)))
+          ∙ ap (strictWidth ws) (sym (sided-choice v p s t u e)))
 
       pub strict-choice-off : 256 < x → Answers (strictWidth ws) d s 257
       unfolding strictWidth counted width thensNarrow allNarrow
       strict-choice-off l =
-          answers-two (strictWidth ws) d s k (λ t. x ≡ strictWidth ws t) (λ u. Unit {0}) (omega arith) (omega arith) i j (a .is) (λ hs p w. tt)
-          (λ v p t u g h. sym (ap (λ n. cond (n && thensNarrow ws u) (min (1 + width ws u) 257) 257) (then-off ws t g l)) ∙ ap (strictWidth ws) (sym (sided-choice v p s t u e)))
+          answers-two (strictWidth ws) d s k (λ t. x ≡ strictWidth ws t) (λ u. Unit {0}) (omega arith) (omega arith) i
+          j (a .is) (λ hs p w. tt)
+          (λ v p t u g h. sym (ap (λ n. cond (n && thensNarrow ws u) (min (1 + width ws u) 257) 257)
+          (then-off ws t g l)) ∙ ap (strictWidth ws) (sym (sided-choice v p s t u e)))
 
 -- as a `match` with arms for 17 and 18 leaves the others
 pub past-wait : (m : ℕ) → (m ≡ 17 → ⊥) → 17 ≤ m → 18 ≤ m
 past-wait m e l = omega arith
 
-pub ruleset stricts = (past-wait, strict-low, strict-none, strict-instance, strict-wait-on, strict-wait-off, strict-choice-on, strict-choice-off, strict-adds, adds-two)
+pub ruleset stricts = (
+  past-wait,
+  strict-low,
+  strict-none,
+  strict-instance,
+  strict-wait-on,
+  strict-wait-off,
+  strict-choice-on,
+  strict-choice-off,
+  strict-adds,
+  adds-two,
+)

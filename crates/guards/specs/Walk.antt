@@ -1,4 +1,5 @@
--- What a walk over the bytes of a clause is told and answers: neither speaks of the clause's place or of the templates' heads, which the bytes do not show.
+-- What a walk over the bytes of a clause is told and answers: neither speaks of the clause's place or of the
+-- templates' heads, which the bytes do not show.
 use mathlib.Core.Path.{_≡_}
 use mathlib.Core.Bool.{true, cond}
 use mathlib.Core.List.{List}

@@ -9,12 +9,15 @@ use lib.Bits.{bitOr, or-block}
 use lib.Count.{ones, ones-cat}
 use lib.Dec.{eqb, leb, ltb}
 use lib.Pow.{pow-pos, pow-lt, pow-add, shl-exact}
-use borrow.Author.Tests.{eq-eqb, ne-eqb, lt-ltb, le-ltb, le-leb, lt-leb, leb-true, eqb-true, ltb-true, ltb-false, not-true, not-false}
+use borrow.Author.Tests.{eq-eqb, ne-eqb, lt-ltb, le-ltb, le-leb, lt-leb, leb-true, eqb-true, ltb-true, ltb-false}
+use borrow.Author.Tests.{not-false}
 use Rattle.csl.specs.Lists.{all}
 use Rattle.csl.specs.Parties.{member, subset, memberCount, bitsFrom, bitsOf, membersFrom, members}
 use Rattle.csl.specs.Typing.{Names, blameOk, isConstant}
 use Rattle.parties.specs.Masks.{maskOf, maskEnd, HasBit, ValidMembers, mayBlame, BlameMask}
-use Rattle.parties.proofs.Members.{both, member-self, member-tail, member-append, all-each, each-all, bits-lt, bits-same, bits-apart, bits-nil, bits-append, bits-skip, bits-again, bits-new, count-new, members-in, members-bits, members-below}
+use Rattle.parties.proofs.Members.{both, member-self, member-tail, member-append, all-each, each-all, bits-lt}
+use Rattle.parties.proofs.Members.{bits-same, bits-apart, bits-nil, bits-append, bits-skip, bits-again}
+use Rattle.parties.proofs.Members.{bits-new, count-new, members-in, members-bits, members-below}
 
 -- ---- valid members
 pub valid-nil : ValidMembers []
@@ -38,16 +41,23 @@ valid-tail {p} {ps} v = record { each = λ q e. v .each q (member-tail q p ps e)
 may-valid : (parties params b : ℕ) → parties ≤ 16 → params ≤ 4 → mayBlame parties params b ≡ true → HasBit b
 may-valid parties params b l m e = go (ltb b parties) refl (leb 128 b) refl e
   where
-    go : (s : Bool) → ltb b parties ≡ s → (t : Bool) → leb 128 b ≡ t → (s || (t && ltb b (128 + params))) ≡ true → HasBit b
+    go : (s : Bool) → ltb b parties ≡ s → (t : Bool) → leb 128 b ≡ t → (s || (t && ltb b (128 + params))) ≡ true
+        → HasBit b
     go true h t k f = let r = ltb-true b parties h in inl (omega arith)
-    go false h true k f = let r = leb-true 128 b k in let u = ltb-true b (128 + params) f in inr (omega arith, omega arith)
+    go false h true k f = let r = leb-true 128 b k in let u = ltb-true b (128 + params) f in
+        inr (omega arith, omega arith)
     go false h false k f = absurd (true≢false (sym f))
 
-pub valid-blamed : (n : Names) (bs : List ℕ) → n .parties ≤ 16 → n .params ≤ 4 → all (blameOk n) bs ≡ true → ValidMembers bs
+pub valid-blamed : (n : Names) (bs : List ℕ) → n .parties ≤ 16 → n .params ≤ 4 → all (blameOk n) bs ≡ true
+    → ValidMembers bs
 unfolding blameOk
-valid-blamed n bs l m e = record { each = λ b h. may-valid (n .parties) (n .params) b l m (all-each (blameOk n) bs e b h) }
+valid-blamed n bs l m e = record {
+  each = λ b h. may-valid (n .parties) (n .params) b l m
+      (all-each (blameOk n) bs e b h);
+}
 
-pub valid-cons : (n : Names) (b : ℕ) {ps : List ℕ} → n .parties ≤ 16 → n .params ≤ 4 → blameOk n b ≡ true → ValidMembers ps → ValidMembers (b ∷ ps)
+pub valid-cons : (n : Names) (b : ℕ) {ps : List ℕ} → n .parties ≤ 16 → n .params ≤ 4 → blameOk n b ≡ true
+    → ValidMembers ps → ValidMembers (b ∷ ps)
 unfolding blameOk member
 valid-cons n b {ps} l m e v = record { each = λ p h. go p (eqb p b) refl h }
   where
@@ -76,7 +86,8 @@ pub mask-append : (ps qs : List ℕ) → maskOf (ps ++ qs) ≡ bitOr (maskOf ps)
 unfolding bitsOf
 mask-append ps qs =
     rw (swap (ps ++ qs), bits-append 16 0 ps qs, bits-append 4 128 ps qs, swap ps, swap qs)
-    (sym (or-block 16 (bitsFrom 4 128 ps) (bitsFrom 4 128 qs) (bitsFrom 16 0 ps) (bitsFrom 16 0 qs) (bits-lt 16 0 ps) (bits-lt 16 0 qs)))
+    (sym (or-block 16 (bitsFrom 4 128 ps) (bitsFrom 4 128 qs) (bitsFrom 16 0 ps) (bitsFrom 16 0 qs) (bits-lt 16 0 ps)
+    (bits-lt 16 0 qs)))
 
 pub union-is : {a b : ℕ} (ps qs : List ℕ) → a ≡ maskOf ps → b ≡ maskOf qs → bitOr a b ≡ maskOf (ps ++ qs)
 union-is ps qs e f = rw (e, f) (sym (mask-append ps qs))
@@ -101,36 +112,51 @@ mask-count (p ∷ ps) v = both (member p ps)
     (λ e. let m : maskOf (p ∷ ps) ≡ maskOf ps = mask-again p ps e in rw (e, m) (mask-count ps (valid-tail v)))
     (λ e. rw (e, mask-ones (p ∷ ps), ← mask-count ps (valid-tail v), mask-ones ps) (new e (valid-head v)))
   where
-    new : member p ps ≡ false → HasBit p → ones (bitsFrom 4 128 (p ∷ ps)) + ones (bitsFrom 16 0 (p ∷ ps)) ≡ suc (ones (bitsFrom 4 128 ps) + ones (bitsFrom 16 0 ps))
-    new e (inl l) = rw (bits-skip 4 128 p ps (λ a b. omega arith), count-new 16 0 p ps (omega arith) (omega arith) e) (omega arith)
-    new e (inr l) = rw (bits-skip 16 0 p ps (λ a b. omega arith), count-new 4 128 p ps (omega arith) (omega arith) e) (omega arith)
+    new : member p ps ≡ false → HasBit p → ones (bitsFrom 4 128 (p ∷ ps)) + ones (bitsFrom 16 0 (p ∷ ps)) ≡ suc
+        (ones (bitsFrom 4 128 ps) + ones (bitsFrom 16 0 ps))
+    new e (inl l) = rw (bits-skip 4 128 p ps (λ a b. omega arith), count-new 16 0 p ps (omega arith) (omega arith) e)
+        (omega arith)
+    new e (inr l) = rw (bits-skip 16 0 p ps (λ a b. omega arith), count-new 4 128 p ps (omega arith) (omega arith) e)
+        (omega arith)
 
 -- ---- within
-pub bits-within : (t : ℕ → Bool) (ps qs : List ℕ) → ((p : ℕ) → member p ps ≡ true → p < 16 → t p ≡ member p qs) → ((p : ℕ) → member p ps ≡ true → 16 ≤ p → t p ≡ true) → eqb (bitOr (bitsOf ps) (bitsOf qs)) (bitsOf qs) ≡ all t ps
+pub bits-within : (t : ℕ → Bool) (ps qs : List ℕ) → ((p : ℕ) → member p ps ≡ true → p < 16 → t p ≡ member p qs)
+    → ((p : ℕ) → member p ps ≡ true → 16 ≤ p → t p ≡ true) → eqb (bitOr (bitsOf ps) (bitsOf qs)) (bitsOf qs) ≡ all t ps
 unfolding bitsOf
 bits-within t ps qs f g = rw (← bits-append 16 0 ps qs) (both (all t ps)
-    (λ e. rw e (eq-eqb (bitsFrom 16 0 (ps ++ qs)) (bitsFrom 16 0 qs) (bits-same 16 0 (ps ++ qs) qs (λ j l u. member-append j ps qs ∙ held e j (omega arith) (member j ps) refl))))
-    (λ e. rw e (ne-eqb (bitsFrom 16 0 (ps ++ qs)) (bitsFrom 16 0 qs) (λ h. true≢false (sym (each-all t ps (λ p m. passes h p m (ltb p 16) refl)) ∙ e)))))
+    (λ e. rw e (eq-eqb (bitsFrom 16 0 (ps ++ qs)) (bitsFrom 16 0 qs)
+    (bits-same 16 0 (ps ++ qs) qs (λ j l u. member-append j ps qs ∙ held e j (omega arith) (member j ps) refl))))
+    (λ e. rw e (ne-eqb (bitsFrom 16 0 (ps ++ qs)) (bitsFrom 16 0 qs)
+    (λ h. true≢false (sym (each-all t ps (λ p m. passes h p m (ltb p 16) refl)) ∙ e)))))
   where
     held : all t ps ≡ true → (j : ℕ) → j < 16 → (b : Bool) → member j ps ≡ b → (b || member j qs) ≡ member j qs
     held e j u true m = sym (sym (f j m u) ∙ all-each t ps e j m)
     held e j u false m = refl
 
-    passes : bitsFrom 16 0 (ps ++ qs) ≡ bitsFrom 16 0 qs → (p : ℕ) → member p ps ≡ true → (b : Bool) → ltb p 16 ≡ b → t p ≡ true
-    passes h p m true u = let l = ltb-true p 16 u in f p m l ∙ sym (bits-apart 16 0 (ps ++ qs) qs h p (omega arith) (omega arith)) ∙ member-append p ps qs ∙ rw m
+    passes : bitsFrom 16 0 (ps ++ qs) ≡ bitsFrom 16 0 qs → (p : ℕ) → member p ps ≡ true → (b : Bool) → ltb p 16 ≡ b
+        → t p ≡ true
+    passes h p m true u = let l = ltb-true p 16 u in
+        f p m l ∙ sym (bits-apart 16 0 (ps ++ qs) qs h p (omega arith) (omega arith)) ∙ member-append p ps qs ∙ rw m
     passes h p m false u = g p m (ltb-false p 16 u)
 
-pub within-subset : (ps qs : List ℕ) → ((p : ℕ) → member p ps ≡ true → p < 16) → eqb (bitOr (bitsOf ps) (bitsOf qs)) (bitsOf qs) ≡ subset ps qs
+pub within-subset : (ps qs : List ℕ) → ((p : ℕ) → member p ps ≡ true → p < 16)
+    → eqb (bitOr (bitsOf ps) (bitsOf qs)) (bitsOf qs) ≡ subset ps qs
 unfolding subset
-within-subset ps qs h = bits-within (λ p. member p qs) ps qs (λ p m l. refl) (λ p m l. let r = h p m in absurd (omega arith))
+within-subset ps qs h = bits-within (λ p. member p qs) ps qs (λ p m l. refl)
+    (λ p m l. let r = h p m in absurd (omega arith))
 
 -- ---- declared sets
 pub mask-members : (n : ℕ) → n < 65_536 → maskOf (members n) ≡ n
 unfolding maskOf bitsOf members member
-mask-members n h = rw (members-bits 16 0 n h, bits-same 4 128 (membersFrom 16 0 n) [] (λ j l u. none j l), bits-nil 4 128) (omega arith)
+mask-members n h = rw (
+  members-bits 16 0 n h,
+  bits-same 4 128 (membersFrom 16 0 n) [] (λ j l u. none j l),
+  bits-nil 4 128,
+) (omega arith)
   where
     none : (j : ℕ) → 128 ≤ j → member j (membersFrom 16 0 n) ≡ member j []
-    none j l = both (member j (membersFrom 16 0 n)) (λ e. let r = members-in 16 0 n j e in absurd (omega arith)) (λ e. e)
+    none j l = both (member j (membersFrom 16 0 n)) (λ e. let r = members-in 16 0 n j e in absurd (omega arith))
+        (λ e. e)
 
 pub bits-members : (n : ℕ) → n < 65_536 → bitsOf (members n) ≡ n
 bits-members n h = sym (mask-constants (members n)) ∙ rw (mask-members n h) (omega arith)
@@ -140,15 +166,21 @@ unfolding members
 declared-below n k h = members-below 16 0 k n h ∙ (let z : k - 0 ≡ k = omega arith in rw z)
 
 -- "A template body's constant parties lie within its declared ones."
-pub constants-declared : (n : ℕ) (qs : List ℕ) → n < 65_536 → ValidMembers qs → eqb (bitOr (maskOf qs % 65_536) n) n ≡ all (λ q. elim (isConstant q) [ true ↦ member q (members n) | false ↦ true ]) qs
+pub constants-declared : (n : ℕ) (qs : List ℕ) → n < 65_536 → ValidMembers qs
+    → eqb (bitOr (maskOf qs % 65_536) n) n ≡ all
+    (λ q. elim (isConstant q) [ true ↦ member q (members n) | false ↦ true ]) qs
 unfolding isConstant
 constants-declared n qs h v =
-    rw (mask-constants qs) (rw (bits-members n h) at (bits-within (λ q. elim (isConstant q) [ true ↦ member q (members n) | false ↦ true ]) qs (members n) party param))
+    rw (mask-constants qs) (rw (bits-members n h) at
+    (bits-within (λ q. elim (isConstant q) [ true ↦ member q (members n) | false ↦ true ]) qs (members n) party
+    param))
   where
-    party : (p : ℕ) → member p qs ≡ true → p < 16 → (elim (ltb p 128) [ true ↦ member p (members n) | false ↦ true ]) ≡ member p (members n)
+    party : (p : ℕ) → member p qs ≡ true → p < 16
+        → (elim (ltb p 128) [ true ↦ member p (members n) | false ↦ true ]) ≡ member p (members n)
     party p m l = rw (lt-ltb p 128 (omega arith))
 
-    param : (p : ℕ) → member p qs ≡ true → 16 ≤ p → (elim (ltb p 128) [ true ↦ member p (members n) | false ↦ true ]) ≡ true
+    param : (p : ℕ) → member p qs ≡ true → 16 ≤ p
+        → (elim (ltb p 128) [ true ↦ member p (members n) | false ↦ true ]) ≡ true
     param p m l = go (v .each p m)
       where
         go : HasBit p → (elim (ltb p 128) [ true ↦ member p (members n) | false ↦ true ]) ≡ true
@@ -156,36 +188,55 @@ constants-declared n qs h v =
         go (inr u) = rw (le-ltb p 128 (omega arith))
 
 -- the same, of the masks that the code has: m of the body's parties, a of the constant ones
-pub body-within : {m a n : ℕ} {r : Bool} (qs : List ℕ) → n < 65_536 → ValidMembers qs → m ≡ maskOf qs → a ≡ m % 65_536 → r ≡ eqb (bitOr a n) n → r ≡ all (λ q. elim (isConstant q) [ true ↦ member q (members n) | false ↦ true ]) qs
+pub body-within : {m a n : ℕ} {r : Bool} (qs : List ℕ) → n < 65_536 → ValidMembers qs → m ≡ maskOf qs → a ≡ m % 65_536
+    → r ≡ eqb (bitOr a n) n → r ≡ all (λ q. elim (isConstant q) [ true ↦ member q (members n) | false ↦ true ]) qs
 body-within {n = n} qs h v e f g = g ∙ rw (f, e) (constants-declared n qs h v)
 
 -- ---- the bit of a blame byte
 one-party : (b : ℕ) → b < 16 → maskOf (b ∷ []) ≡ 2 ^ b
 unfolding maskOf bitsOf member
 one-party b l = let z : b - 0 ≡ b = omega arith in
-    rw (bits-new 16 0 b [] (omega arith) (omega arith) refl, bits-skip 4 128 b [] (λ x y. omega arith), bits-nil 16 0, bits-nil 4 128, z) (omega arith)
+    rw (
+      bits-new 16 0 b [] (omega arith) (omega arith) refl,
+      bits-skip 4 128 b [] (λ x y. omega arith),
+      bits-nil 16 0,
+      bits-nil 4 128,
+      z,
+    ) (omega arith)
 
 one-param : (b : ℕ) → 128 ≤ b → b < 132 → maskOf (b ∷ []) ≡ 2 ^ (b - 112)
 unfolding maskOf bitsOf member
 one-param b l u = let z : b - 112 ≡ 16 + (b - 128) = omega arith in
-    rw (bits-new 4 128 b [] (omega arith) (omega arith) refl, bits-skip 16 0 b [] (λ x y. omega arith), bits-nil 16 0, bits-nil 4 128, z, pow-add 2 16 (b - 128)) (omega arith)
+    rw (
+      bits-new 4 128 b [] (omega arith) (omega arith) refl,
+      bits-skip 16 0 b [] (λ x y. omega arith),
+      bits-nil 16 0,
+      bits-nil 4 128,
+      z,
+      pow-add 2 16 (b - 128),
+    ) (omega arith)
 
 -- a bit, as the code shifts it
 pub shifted : (k : ℕ) → k < 20 → (1 * 2 ^ k) % 2 ^ 64 ≡ 2 ^ k
 shifted k l = shl-exact 1 k 64 (omega arith) (omega arith) ∙ (omega arith)
 
-blame-yes : (parties params b k : ℕ) → mayBlame parties params b ≡ true → maskOf (b ∷ []) ≡ 2 ^ k → k < 20 → BlameMask parties params b ((1 * 2 ^ k) % 2 ^ 64)
+blame-yes : (parties params b k : ℕ) → mayBlame parties params b ≡ true → maskOf (b ∷ []) ≡ 2 ^ k → k < 20
+    → BlameMask parties params b ((1 * 2 ^ k) % 2 ^ 64)
 blame-yes parties params b k e m l = rw (shifted k l) (record {
   is = rw e (sym m);
   refused = rw e (ne-eqb (2 ^ k) 0 (λ z. omega (arith, pow-pos k)));
   small = pow-lt {i = k} {j = 20} l;
 })
 
-pub blame-party : (parties params b : ℕ) → parties ≤ 16 → b < parties → BlameMask parties params b ((1 * 2 ^ b) % 2 ^ 64)
-blame-party parties params b p l = blame-yes parties params b b (rw (lt-ltb b parties l)) (one-party b (omega arith)) (omega arith)
+pub blame-party : (parties params b : ℕ) → parties ≤ 16 → b < parties
+    → BlameMask parties params b ((1 * 2 ^ b) % 2 ^ 64)
+blame-party parties params b p l = blame-yes parties params b b (rw (lt-ltb b parties l)) (one-party b (omega arith))
+    (omega arith)
 
-pub blame-param : (parties params b : ℕ) → params ≤ 4 → parties ≤ b → 128 ≤ b → b < 128 + params → BlameMask parties params b ((1 * 2 ^ (b - 112)) % 2 ^ 64)
-blame-param parties params b p n l u = blame-yes parties params b (b - 112) (rw (le-ltb b parties n, le-leb 128 b l, lt-ltb b (128 + params) u)) (one-param b l (omega arith)) (omega arith)
+pub blame-param : (parties params b : ℕ) → params ≤ 4 → parties ≤ b → 128 ≤ b → b < 128 + params
+    → BlameMask parties params b ((1 * 2 ^ (b - 112)) % 2 ^ 64)
+blame-param parties params b p n l u = blame-yes parties params b (b - 112)
+    (rw (le-ltb b parties n, le-leb 128 b l, lt-ltb b (128 + params) u)) (one-param b l (omega arith)) (omega arith)
 
 blame-none : (parties params b : ℕ) → mayBlame parties params b ≡ false → BlameMask parties params b 0
 blame-none parties params b e = record { is = rw e; refused = rw e; small = omega arith }
@@ -194,19 +245,13 @@ pub blame-between : (parties params b : ℕ) → parties ≤ b → b < 128 → B
 blame-between parties params b n l = blame-none parties params b (rw (le-ltb b parties n, lt-leb 128 b l))
 
 pub blame-beyond : (parties params b : ℕ) → parties ≤ b → 128 ≤ b → 128 + params ≤ b → BlameMask parties params b 0
-blame-beyond parties params b n l u = blame-none parties params b (rw (le-ltb b parties n, le-leb 128 b l, le-ltb b (128 + params) u))
+blame-beyond parties params b n l u = blame-none parties params b
+    (rw (le-ltb b parties n, le-leb 128 b l, le-ltb b (128 + params) u))
 
 pub ruleset blames = (blame-party, blame-param, blame-between, blame-beyond)
 
 -- what a caller learns of a blame byte from its bit
 module _ (n : Names) (b : ℕ) {r : ℕ} (m : BlameMask (n .parties) (n .params) b r) where
-  pub blame-refused : r ≡ 0 → blameOk n b ≡ false
-  unfolding blameOk
-  blame-refused e = not-true (mayBlame (n .parties) (n .params) b) (sym (m .refused) ∙ eq-eqb r 0 e)
-
   pub blame-allowed : (r ≡ 0 → ⊥) → blameOk n b ≡ true
   unfolding blameOk
   blame-allowed e = not-false (mayBlame (n .parties) (n .params) b) (sym (m .refused) ∙ ne-eqb r 0 e)
-
-  pub blame-bit : (r ≡ 0 → ⊥) → r ≡ maskOf (b ∷ [])
-  blame-bit e = m .is ∙ rw (not-false (mayBlame (n .parties) (n .params) b) (sym (m .refused) ∙ ne-eqb r 0 e))

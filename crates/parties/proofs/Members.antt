@@ -20,7 +20,8 @@ both false f g = g refl
 tests-same : (a b c d : ℕ) → (a < b → c < d) → (c < d → a < b) → ltb a b ≡ ltb c d
 tests-same a b c d f g = both (ltb a b)
     (λ t. t ∙ sym (lt-ltb c d (f (ltb-true a b t))))
-    (λ t. t ∙ sym (both (ltb c d) (λ u. let l = g (ltb-true c d u) in let m = ltb-false a b t in absurd (omega arith)) (λ u. u)))
+    (λ t. t ∙ sym (both (ltb c d) (λ u. let l = g (ltb-true c d u) in let m = ltb-false a b t in absurd (omega arith))
+    (λ u. u)))
 
 -- ---- members
 pub member-self : (p : ℕ) (ps : List ℕ) → member p (p ∷ ps) ≡ true
@@ -51,7 +52,8 @@ unfolding all member
 all-each t [] e p h = absurd (true≢false (sym h))
 all-each t (x ∷ ps) e p h = go (t x) refl (eqb p x) refl e h (λ f. all-each t ps f p)
   where
-    go : (a : Bool) → t x ≡ a → (b : Bool) → eqb p x ≡ b → (a && all t ps) ≡ true → (b || member p ps) ≡ true → (all t ps ≡ true → member p ps ≡ true → t p ≡ true) → t p ≡ true
+    go : (a : Bool) → t x ≡ a → (b : Bool) → eqb p x ≡ b → (a && all t ps) ≡ true → (b || member p ps) ≡ true
+        → (all t ps ≡ true → member p ps ≡ true → t p ≡ true) → t p ≡ true
     go true ta true tb f g ih = ap t (eqb-true p x tb) ∙ ta
     go true ta false tb f g ih = ih f g
     go false ta b tb f g ih = absurd (true≢false (sym f))
@@ -90,7 +92,8 @@ or-of : (x y m n c d : ℕ) → x / 2 ≡ m → y / 2 ≡ n → x % 2 ≡ c → 
 or-of x y m n c d e f g h = rw (← e, ← f, ← g, ← h) (or-step x y)
 
 pub or-bit : (a b : Bool) (m n : ℕ) → bitOr (bit a + 2 * m) (bit b + 2 * n) ≡ bit (a || b) + 2 * bitOr m n
-or-bit a b m n = or-of (bit a + 2 * m) (bit b + 2 * n) m n (bit a) (bit b) (bit-div a m) (bit-div b n) (bit-mod a m) (bit-mod b n) ∙ rw (bit-max a b) (omega arith)
+or-bit a b m n = or-of (bit a + 2 * m) (bit b + 2 * n) m n (bit a) (bit b) (bit-div a m) (bit-div b n) (bit-mod a m)
+    (bit-mod b n) ∙ rw (bit-max a b) (omega arith)
 
 pub ones-bit : (b : Bool) (m : ℕ) → ones (bit b + 2 * m) ≡ bit b + ones m
 ones-bit b m = ones-step (bit b + 2 * m) ∙ rw (bit-div b m, bit-mod b m)
@@ -105,19 +108,27 @@ bits-lt (suc k) i ps = go (member i ps) (bits-lt k (suc i) ps)
     go true h = rw (pow-suc 2 k) (omega arith)
     go false h = rw (pow-suc 2 k) (omega arith)
 
-pub bits-same : (k i : ℕ) (ps qs : List ℕ) → ((j : ℕ) → i ≤ j → j < i + k → member j ps ≡ member j qs) → bitsFrom k i ps ≡ bitsFrom k i qs
+pub bits-same : (k i : ℕ) (ps qs : List ℕ) → ((j : ℕ) → i ≤ j → j < i + k → member j ps ≡ member j qs)
+    → bitsFrom k i ps ≡ bitsFrom k i qs
 unfolding bitsFrom
 bits-same zero i ps qs h = refl
-bits-same (suc k) i ps qs h = rw (h i (omega arith) (omega arith), bits-same k (suc i) ps qs (λ j l u. h j (omega arith) (omega arith)))
+bits-same (suc k) i ps qs h = rw (
+  h i (omega arith) (omega arith),
+  bits-same k (suc i) ps qs (λ j l u. h j (omega arith) (omega arith)),
+)
 
-pub bits-apart : (k i : ℕ) (ps qs : List ℕ) → bitsFrom k i ps ≡ bitsFrom k i qs → (j : ℕ) → i ≤ j → j < i + k → member j ps ≡ member j qs
+pub bits-apart : (k i : ℕ) (ps qs : List ℕ) → bitsFrom k i ps ≡ bitsFrom k i qs → (j : ℕ) → i ≤ j → j < i + k
+    → member j ps ≡ member j qs
 unfolding bitsFrom
 bits-apart zero i ps qs e j l u = absurd (omega arith)
 bits-apart (suc k) i ps qs e j l u = both (eqb j i)
     (λ h. let s : j ≡ i = eqb-true j i h in
-    rw s (bit-only (member i ps) (member i qs) (sym (bit-mod (member i ps) (bitsFrom k (suc i) ps)) ∙ ap (λ x. x % 2) e ∙ bit-mod (member i qs) (bitsFrom k (suc i) qs))))
+    rw s (bit-only (member i ps) (member i qs)
+    (sym (bit-mod (member i ps) (bitsFrom k (suc i) ps)) ∙ ap (λ x. x % 2) e
+    ∙ bit-mod (member i qs) (bitsFrom k (suc i) qs))))
     (λ h. let n : j ≡ i → ⊥ = eqb-false j i h in
-    bits-apart k (suc i) ps qs (sym (bit-div (member i ps) (bitsFrom k (suc i) ps)) ∙ ap (λ x. x / 2) e ∙ bit-div (member i qs) (bitsFrom k (suc i) qs)) j (omega arith) (omega arith))
+    bits-apart k (suc i) ps qs (sym (bit-div (member i ps) (bitsFrom k (suc i) ps)) ∙ ap (λ x. x / 2) e
+    ∙ bit-div (member i qs) (bitsFrom k (suc i) qs)) j (omega arith) (omega arith))
 
 pub bits-nil : (k i : ℕ) → bitsFrom k i [] ≡ 0
 unfolding bitsFrom member bit
@@ -127,7 +138,8 @@ bits-nil (suc k) i = rw (bits-nil k (suc i))
 pub bits-append : (k i : ℕ) (ps qs : List ℕ) → bitsFrom k i (ps ++ qs) ≡ bitOr (bitsFrom k i ps) (bitsFrom k i qs)
 unfolding bitsFrom
 bits-append zero i ps qs = refl
-bits-append (suc k) i ps qs = rw (member-append i ps qs, bits-append k (suc i) ps qs) (sym (or-bit (member i ps) (member i qs) (bitsFrom k (suc i) ps) (bitsFrom k (suc i) qs)))
+bits-append (suc k) i ps qs = rw (member-append i ps qs, bits-append k (suc i) ps qs)
+    (sym (or-bit (member i ps) (member i qs) (bitsFrom k (suc i) ps) (bitsFrom k (suc i) qs)))
 
 -- a member that has no bit here
 pub bits-skip : (k i p : ℕ) (ps : List ℕ) → (i ≤ p → p < i + k → ⊥) → bitsFrom k i (p ∷ ps) ≡ bitsFrom k i ps
@@ -137,7 +149,8 @@ pub bits-again : (k i p : ℕ) (ps : List ℕ) → member p ps ≡ true → bits
 bits-again k i p ps h = bits-same k i (p ∷ ps) ps (λ j l u. member-again j p ps h)
 
 -- a new member
-pub bits-new : (k i p : ℕ) (ps : List ℕ) → i ≤ p → p < i + k → member p ps ≡ false → bitsFrom k i (p ∷ ps) ≡ 2 ^ (p - i) + bitsFrom k i ps
+pub bits-new : (k i p : ℕ) (ps : List ℕ) → i ≤ p → p < i + k → member p ps ≡ false
+    → bitsFrom k i (p ∷ ps) ≡ 2 ^ (p - i) + bitsFrom k i ps
 unfolding bitsFrom bit
 bits-new zero i p ps l u h = absurd (omega arith)
 bits-new (suc k) i p ps l u h = both (eqb i p)
@@ -147,9 +160,11 @@ bits-new (suc k) i p ps l u h = both (eqb i p)
     rw (s, member-self i ps, bits-skip k (suc i) i ps (λ a b. omega arith), m, z) (omega arith))
     (λ e. let n : i ≡ p → ⊥ = eqb-false i p e in
     let z : p - i ≡ suc (p - suc i) = omega arith in
-    rw (member-other i p ps n, bits-new k (suc i) p ps (omega arith) (omega arith) h, z, pow-suc 2 (p - suc i)) (omega arith))
+    rw (member-other i p ps n, bits-new k (suc i) p ps (omega arith) (omega arith) h, z, pow-suc 2 (p - suc i))
+    (omega arith))
 
-pub count-new : (k i p : ℕ) (ps : List ℕ) → i ≤ p → p < i + k → member p ps ≡ false → ones (bitsFrom k i (p ∷ ps)) ≡ suc (ones (bitsFrom k i ps))
+pub count-new : (k i p : ℕ) (ps : List ℕ) → i ≤ p → p < i + k → member p ps ≡ false
+    → ones (bitsFrom k i (p ∷ ps)) ≡ suc (ones (bitsFrom k i ps))
 unfolding bitsFrom bit
 count-new zero i p ps l u h = absurd (omega arith)
 count-new (suc k) i p ps l u h =
@@ -170,14 +185,16 @@ members-in (suc k) i n p h = go (eqb (n % 2) 1) h (members-in k (suc i) (n / 2) 
     rest : List ℕ
     rest = membersFrom k (suc i) (n / 2)
 
-    go : (b : Bool) → member p (elim b [ true ↦ i ∷ rest | false ↦ rest ]) ≡ true → (member p rest ≡ true → (suc i ≤ p) × (p < suc i + k)) → (i ≤ p) × (p < i + suc k)
+    go : (b : Bool) → member p (elim b [ true ↦ i ∷ rest | false ↦ rest ]) ≡ true
+        → (member p rest ≡ true → (suc i ≤ p) × (p < suc i + k)) → (i ≤ p) × (p < i + suc k)
     go true e ih = both (eqb p i)
         (λ s. let q : p ≡ i = eqb-true p i s in (omega arith, omega arith))
         (λ s. let r = ih (sym (member-other p i rest (eqb-false p i s)) ∙ e) in (omega arith, omega arith))
     go false e ih = let r = ih e in (omega arith, omega arith)
 
 not-member : (k i n : ℕ) → member i (membersFrom k (suc i) n) ≡ false
-not-member k i n = both (member i (membersFrom k (suc i) n)) (λ e. let r = members-in k (suc i) n i e in absurd (omega arith)) (λ e. e)
+not-member k i n = both (member i (membersFrom k (suc i) n))
+    (λ e. let r = members-in k (suc i) n i e in absurd (omega arith)) (λ e. e)
 
 -- a number below 2^k is the bits of its members
 pub members-bits : (k i n : ℕ) → n < 2 ^ k → bitsFrom k i (membersFrom k i n) ≡ n
@@ -188,8 +205,10 @@ members-bits (suc k) i n h = go (eqb (n % 2) 1) refl (members-bits k (suc i) (n 
     rest : List ℕ
     rest = membersFrom k (suc i) (n / 2)
 
-    go : (b : Bool) → eqb (n % 2) 1 ≡ b → bitsFrom k (suc i) rest ≡ n / 2 → bitsFrom (suc k) i (elim b [ true ↦ i ∷ rest | false ↦ rest ]) ≡ n
-    go true e ih = let r = eqb-true (n % 2) 1 e in rw (member-self i rest, bits-skip k (suc i) i rest (λ a b. omega arith), ih) (omega arith)
+    go : (b : Bool) → eqb (n % 2) 1 ≡ b → bitsFrom k (suc i) rest ≡ n / 2
+        → bitsFrom (suc k) i (elim b [ true ↦ i ∷ rest | false ↦ rest ]) ≡ n
+    go true e ih = let r = eqb-true (n % 2) 1 e in
+        rw (member-self i rest, bits-skip k (suc i) i rest (λ a b. omega arith), ih) (omega arith)
     go false e ih = let r = eqb-false (n % 2) 1 e in rw (not-member k i (n / 2), ih) (omega arith)
 
 -- its members lie below j where it has no bit from there on
@@ -202,15 +221,20 @@ members-below (suc k) i j n h = go (eqb (n % 2) 1) refl (members-below k (suc i)
     rest = membersFrom k (suc i) (n / 2)
 
     inside : i < j → ltb (n / 2) (2 ^ (j - suc i)) ≡ ltb n (2 ^ (j - i))
-    inside l = let z : j - i ≡ suc (j - suc i) = omega arith in rw (z, pow-suc 2 (j - suc i)) (tests-same (n / 2) (2 ^ (j - suc i)) n (2 ^ (j - suc i) * 2) (λ a. omega arith) (λ a. omega arith))
+    inside l = let z : j - i ≡ suc (j - suc i) = omega arith in
+        rw (z, pow-suc 2 (j - suc i)) (tests-same (n / 2) (2 ^ (j - suc i)) n (2 ^ (j - suc i) * 2) (λ a. omega arith)
+        (λ a. omega arith))
 
     outside : j ≤ i → n % 2 ≡ 0 → ltb (n / 2) (2 ^ (j - suc i)) ≡ ltb n (2 ^ (j - i))
-    outside l e = let z : j - i ≡ 0 = omega arith in let y : j - suc i ≡ 0 = omega arith in rw (z, y) (tests-same (n / 2) 1 n 1 (λ a. omega arith) (λ a. omega arith))
+    outside l e = let z : j - i ≡ 0 = omega arith in let y : j - suc i ≡ 0 = omega arith in
+        rw (z, y) (tests-same (n / 2) 1 n 1 (λ a. omega arith) (λ a. omega arith))
 
-    go : (b : Bool) → eqb (n % 2) 1 ≡ b → all (λ p. ltb p j) rest ≡ ltb (n / 2) (2 ^ (j - suc i)) → all (λ p. ltb p j) (elim b [ true ↦ i ∷ rest | false ↦ rest ]) ≡ ltb n (2 ^ (j - i))
+    go : (b : Bool) → eqb (n % 2) 1 ≡ b → all (λ p. ltb p j) rest ≡ ltb (n / 2) (2 ^ (j - suc i))
+        → all (λ p. ltb p j) (elim b [ true ↦ i ∷ rest | false ↦ rest ]) ≡ ltb n (2 ^ (j - i))
     go true e ih = both (ltb i j)
         (λ t. rw (t, ih) (inside (ltb-true i j t)))
-        (λ t. let l = ltb-false i j t in let z : j - i ≡ 0 = omega arith in let r = eqb-true (n % 2) 1 e in rw (t, z) (sym (le-ltb n 1 (omega arith))))
+        (λ t. let l = ltb-false i j t in let z : j - i ≡ 0 = omega arith in let r = eqb-true (n % 2) 1 e in
+        rw (t, z) (sym (le-ltb n 1 (omega arith))))
     go false e ih = both (ltb i j)
         (λ t. ih ∙ inside (ltb-true i j t))
         (λ t. let r = eqb-false (n % 2) 1 e in ih ∙ outside (ltb-false i j t) (omega arith))

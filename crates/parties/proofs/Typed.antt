@@ -15,12 +15,14 @@ use Rattle.csl.specs.Typing.{Names, blameOk, hasType, haveTypes, joinOk, thenSi
 use Rattle.parties.specs.Masks.{ValidMembers}
 use Rattle.parties.proofs.Masks.{valid-nil, valid-cons, valid-append, valid-blamed, valid-members}
 
-from-bind : {A B C : Type 0} (m : Option A) (f : A → Option B) (y : B) → m >>= f ≡ some y → ((x : A) → m ≡ some x → f x ≡ some y → C) → C
+from-bind : {A B C : Type 0} (m : Option A) (f : A → Option B) (y : B) → m >>= f ≡ some y
+    → ((x : A) → m ≡ some x → f x ≡ some y → C) → C
 unfolding _>>=_
 from-bind none f y e k = let z : _≡_ {A = ℕ} 0 1 = cc in absurd (omega arith)
 from-bind (some a) f y e k = k a refl e
 
-from-need : {B C : Type 0} (b : Bool) (f : Unit {0} → Option B) (y : B) → need b >>= f ≡ some y → (b ≡ true → f tt ≡ some y → C) → C
+from-need : {B C : Type 0} (b : Bool) (f : Unit {0} → Option B) (y : B) → need b >>= f ≡ some y
+    → (b ≡ true → f tt ≡ some y → C) → C
 unfolding _>>=_ need
 from-need true f y e k = k refl e
 from-need false f y e k = let z : _≡_ {A = ℕ} 0 1 = cc in absurd (omega arith)
@@ -32,7 +34,8 @@ right-true : (a b : Bool) → (a && b) ≡ true → b ≡ true
 right-true true b e = e
 right-true false b e = absurd (true≢false (sym e))
 
-module _ (n : Names) (fewParties : n .parties ≤ 16) (fewParams : n .params ≤ 4) (heads : (k : ℕ) (h : Head) → at (n .heads) k ≡ some h → ValidMembers (h .declared)) where
+module _ (n : Names) (fewParties : n .parties ≤ 16) (fewParams : n .params ≤ 4)
+    (heads : (k : ℕ) (h : Head) → at (n .heads) k ≡ some h → ValidMembers (h .declared)) where
   pub valid-typed : (c : Clause) (env : List Ty) (ps : List ℕ) → typeClause n env c ≡ some ps → ValidMembers ps
   unfolding typeClause
   valid-typed fulfilled env ps e = rw (← is-some [] ps e) valid-nil
@@ -60,14 +63,18 @@ module _ (n : Names) (fewParties : n .parties ≤ 16) (fewParams : n .params ≤
       from-bind (at (n .heads) k) _ ps e λ h a e₁.
       from-bind (haveTypes (n .parties) env es (h .values)) _ ps e₁ λ _ _ e₂.
       from-need (eqb (length bs) (h .params) && all (blameOk n) bs) _ ps e₂ λ ok e₃.
-      rw (← is-some (h .declared ++ bs) ps e₃) (valid-append (heads k h a) (valid-blamed n bs fewParties fewParams (right-true (eqb (length bs) (h .params)) (all (blameOk n) bs) ok)))
+      rw (← is-some (h .declared ++ bs) ps e₃)
+      (valid-append (heads k h a) (valid-blamed n bs fewParties fewParams
+      (right-true (eqb (length bs) (h .params)) (all (blameOk n) bs) ok)))
   valid-typed badClause env ps e = let z : _≡_ {A = ℕ} 0 1 = cc in absurd (omega arith)
 
 -- so are the declared parties of decoded heads
-heads-valid : (qs : List Piece) (k : ℕ) (h : Head) → at (map (λ q. templateHead (q .bytes)) qs) k ≡ some h → ValidMembers (h .declared)
+heads-valid : (qs : List Piece) (k : ℕ) (h : Head) → at (map (λ q. templateHead (q .bytes)) qs) k ≡ some h
+    → ValidMembers (h .declared)
 unfolding at templateHead
 heads-valid [] k h e = let z : _≡_ {A = ℕ} 0 1 = cc in absurd (omega arith)
-heads-valid (q ∷ qs) zero h e = let s : templateHead (q .bytes) ≡ h = cc in rw (← s) (valid-members (le16 (q .bytes) (6 + byte (q .bytes) 4)))
+heads-valid (q ∷ qs) zero h e = let s : templateHead (q .bytes) ≡ h = cc in
+    rw (← s) (valid-members (le16 (q .bytes) (6 + byte (q .bytes) 4)))
 heads-valid (q ∷ qs) (suc k) h e = heads-valid qs k h e
 
 pub declared-valid : (s : List ℕ) (k : ℕ) (h : Head) → at (headsOf s) k ≡ some h → ValidMembers (h .declared)

@@ -1,13 +1,12 @@
 -- Type bytes put behind one another, and the types that they are.
-use mathlib.Core.Path.{_≡_, refl, sym, ap, ap₂, subst, _∙_}
-use mathlib.Core.List.{List, [], _∷_, _++_, map, append-nil, append-assoc}
-use mathlib.Core.Option.{Option, none, some}
+use mathlib.Core.Path.{_≡_, refl, sym, ap, _∙_}
+use mathlib.Core.List.{List, [], _∷_, _++_, append-nil, append-assoc}
 use Prim.Native.Nat.{ℕ, zero, suc, _+_, _-_, _≤_, _<_}
 use native.Mathlib.Decide.{decLe}
-use native.Mathlib.Numerals.{add-one, sub-one}
+use native.Mathlib.Numerals.{add-one}
 use native.Mathlib.Omega.{arith}
-use lib.ListN.{length, getD, take, drop, set, length-append, length-take, length-map, length-set}
-use lib.Seq.{take-suc, take-suc-set, take-length, getD-append-add}
+use lib.ListN.{length, getD, take, set, length-append, length-take, length-map}
+use lib.Seq.{take-suc, take-suc-set, take-length}
 use Rattle.arith.proofs.Lists.{length-part, part-part}
 use Rattle.arith.proofs.Bytes.{record-end-within, record-end-after}
 use Rattle.csl.specs.Lists.{orNil, at}
@@ -25,14 +24,18 @@ module _ (o : List ℕ) (n : ℕ) (f : List ℕ) where
   pub append-first : take (n + 0) o ≡ take n o ++ take 0 f
   append-first = let e : n + 0 ≡ n = omega arith in rw e (sym (append-nil (take n o)))
 
-  pub append-last : (i : ℕ) (u : List ℕ) → i ≤ length f → length f ≤ i → take (n + i) u ≡ take n o ++ take i f → take (n + length f) u ≡ take n o ++ f
-  append-last i u l g h = let e : i ≡ length f = omega arith in (rw e at h) ∙ ap (λ (x : List ℕ). take n o ++ x) (take-length f)
+  pub append-last : (i : ℕ) (u : List ℕ) → i ≤ length f → length f ≤ i → take (n + i) u ≡ take n o ++ take i f
+      → take (n + length f) u ≡ take n o ++ f
+  append-last i u l g h = let e : i ≡ length f = omega arith in
+      (rw e at h) ∙ ap (λ (x : List ℕ). take n o ++ x) (take-length f)
 
-  pub append-more : (i : ℕ) (u : List ℕ) → i < length f → n + i < length u → take (n + i) u ≡ take n o ++ take i f → take (n + (i + 1)) (set u (n + i) (getD f i 0)) ≡ take n o ++ take (i + 1) f
+  pub append-more : (i : ℕ) (u : List ℕ) → i < length f → n + i < length u → take (n + i) u ≡ take n o ++ take i f
+      → take (n + (i + 1)) (set u (n + i) (getD f i 0)) ≡ take n o ++ take (i + 1) f
   append-more i u l k h =
       let x = getD f i 0 ∷ [] in
       let e : n + (i + 1) ≡ suc (n + i) = omega arith in
-      rw (e, add-one i) (take-suc-set u (n + i) (getD f i 0) k ∙ ap (λ (y : List ℕ). y ++ x) h ∙ append-assoc (take n o) (take i f) x ∙ ap (λ (y : List ℕ). take n o ++ y) (sym (take-suc f i 0 l)))
+      rw (e, add-one i) (take-suc-set u (n + i) (getD f i 0) k ∙ ap (λ (y : List ℕ). y ++ x) h
+      ∙ append-assoc (take n o) (take i f) x ∙ ap (λ (y : List ℕ). take n o ++ y) (sym (take-suc f i 0 l)))
 
 -- ---- the types that bytes are
 pub tys-append : (bs cs : List ℕ) → tysOf (bs ++ cs) ≡ tysOf bs ++ tysOf cs
@@ -49,22 +52,29 @@ unfolding thenSight
 then-length env vs = omega (arith, length-append (env ++ vs) (number ∷ []), length-append env vs)
 
 -- bs and cs, with a type byte 1 stored behind them, are what `then` sees
-then-is : (types out : List ℕ) (c n : ℕ) (cs : List ℕ) → n < length out → take n out ≡ take c types ++ cs → sightOf (set out n 1) (n + 1) ≡ thenSight (sightOf types c) (tysOf cs)
+then-is : (types out : List ℕ) (c n : ℕ) (cs : List ℕ) → n < length out → take n out ≡ take c types ++ cs
+    → sightOf (set out n 1) (n + 1) ≡ thenSight (sightOf types c) (tysOf cs)
 unfolding thenSight tysOf tyOf
 then-is types out c n cs l h =
-    rw (add-one n, take-suc-set out n 1 l, h) (tys-append (take c types ++ cs) (1 ∷ []) ∙ ap (λ (x : List Ty). x ++ (number ∷ [])) (tys-append (take c types) cs))
+    rw (add-one n, take-suc-set out n 1 l, h)
+    (tys-append (take c types ++ cs) (1 ∷ [])
+    ∙ ap (λ (x : List Ty). x ++ (number ∷ [])) (tys-append (take c types) cs))
 
 -- ---- what `then` sees of a reading
-sees-at : (A : List ℕ) (env : List Ty) (w : ℕ) (s : Sees A env w) → (1 ≤ w) × (w - 1 < byte A 9) × (s .values ≡ readingType (pieceAt A (readingPlace A (w - 1))))
+sees-at : (A : List ℕ) (env : List Ty) (w : ℕ) (s : Sees A env w) → (1 ≤ w) × (w - 1 < byte A 9)
+    × (s .values ≡ readingType (pieceAt A (readingPlace A (w - 1))))
 unfolding readingOfType
 sees-at A env zero s = let z : _≡_ {A = ℕ} 0 1 = cc (s .is) in absurd (omega arith)
 sees-at A env (suc k) s = go (decLe (byte A 9) k)
   where
-    go : Dec (byte A 9 ≤ k) → (1 ≤ suc k) × (suc k - 1 < byte A 9) × (s .values ≡ readingType (pieceAt A (readingPlace A (suc k - 1))))
+    go : Dec (byte A 9 ≤ k) → (1 ≤ suc k) × (suc k - 1 < byte A 9)
+        × (s .values ≡ readingType (pieceAt A (readingPlace A (suc k - 1))))
     go (yes h) = let e = sym (readings-past A k h) ∙ s .is in let z : _≡_ {A = ℕ} 0 1 = cc in absurd (omega arith)
-    go (no h) = let j : suc k - 1 ≡ k = omega arith in (omega arith, omega arith, rw j (some-inj (sym (s .is) ∙ readings-at A k (omega arith))))
+    go (no h) = let j : suc k - 1 ≡ k = omega arith in
+        (omega arith, omega arith, rw j (some-inj (sym (s .is) ∙ readings-at A k (omega arith))))
 
-module _ {places A : List ℕ} {w : ℕ} (types : List ℕ) (count : ℕ) (pre : Indexed places A × (length types ≡ 16) × (count ≤ 16) × Sees A (sightOf types count) w) where
+module _ {places A : List ℕ} {w : ℕ} (types : List ℕ) (count : ℕ)
+    (pre : Indexed places A × (length types ≡ 16) × (count ≤ 16) × Sees A (sightOf types count) w) where
   pub named : (1 ≤ w) × (w - 1 < byte A 9)
   named = let h = sees-at A (sightOf types count) w (pre .3) in (h .0, h .1)
 
@@ -73,26 +83,47 @@ module _ {places A : List ℕ} {w : ℕ} (types : List ℕ) (count : ℕ) (pre :
     piece-length = sym (ap length (part-piece A p q)) ∙ length-part A a e (omega (arith, record-end-within A a))
 
     pub values-room : (a + 5 ≤ e) × (e ≤ length A)
-    values-room = (omega (arith, piece-length, reading-facts (pre .0) (w - 1) (named .1) .long, record-end-after A a (omega (arith, reading-within (pre .0) (w - 1)))), omega (arith, record-end-within A a))
+    values-room = (
+      omega (
+        arith,
+        piece-length,
+        reading-facts (pre .0) (w - 1) (named .1) .long,
+        record-end-after A a (omega (arith, reading-within (pre .0) (w - 1))),
+      ),
+      omega (arith, record-end-within A a),
+    )
 
     values-are : pre .3 .values ≡ tysOf (part A (a + 5) e)
     unfolding readingType
     values-are =
         let s = pieceAt A (readingPlace A (w - 1)) in
-        let same : part s 5 (length s) ≡ part A (a + 5) e = ap (λ (u : List ℕ). part u 5 (length s)) (sym (part-piece A p q)) ∙ part-part A a e 5 (length s) (omega (arith, piece-length, values-room)) ∙ ap (λ (z : ℕ). part A (a + 5) z) (omega (arith, piece-length, values-room)) in
+        let same : part s 5 (length s) ≡ part A (a + 5) e = ap (λ (u : List ℕ). part u 5 (length s))
+        (sym (part-piece A p q)) ∙ part-part A a e 5 (length s) (omega (arith, piece-length, values-room))
+        ∙ ap (λ (z : ℕ). part A (a + 5) z) (omega (arith, piece-length, values-room)) in
         sees-at A (sightOf types count) w (pre .3) .2 ∙ ap tysOf same
 
     pub sight-room : count + (e - a - 5) + 1 ≤ 16
     unfolding tysOf
     sight-room =
         let v = values-room in
-        omega (arith, pre .3 .few, then-length (sightOf types count) (pre .3 .values), sight-length types count (omega (arith, pre .1, pre .2)), ap length values-are, length-map (part A (a + 5) e) tyOf, length-part A (a + 5) e (v .1))
+        omega (
+          arith,
+          pre .3 .few,
+          then-length (sightOf types count) (pre .3 .values),
+          sight-length types count (omega (arith, pre .1, pre .2)),
+          ap length values-are,
+          length-map (part A (a + 5) e) tyOf,
+          length-part A (a + 5) e (v .1),
+        )
 
     pub part-room : length (part A (a + 5) e) ≡ e - a - 5
     part-room = omega (arith, length-part A (a + 5) e (values-room .1))
 
-    pub sight-is : (out : List ℕ) → length out ≡ 16 → take (count + length (part A (a + 5) e)) out ≡ take count types ++ part A (a + 5) e → sightOf (set out (count + (e - a - 5)) 1) (count + (e - a - 5) + 1) ≡ thenSight (sightOf types count) (orNil (readingOfType (agreementOf A .readings) w))
+    pub sight-is : (out : List ℕ) → length out ≡ 16 → take (count + length (part A (a + 5) e)) out ≡ take count types
+        ++ part A (a + 5) e → sightOf (set out (count + (e - a - 5)) 1) (count + (e - a - 5) + 1) ≡ thenSight
+        (sightOf types count) (orNil (readingOfType (agreementOf A .readings) w))
     unfolding orNil
     sight-is out l h =
         let n = count + (e - a - 5) in
-        rw (pre .3 .is, values-are) (then-is types out count n (part A (a + 5) e) (omega (arith, sight-room)) (rw part-room at h))
+        rw (pre .3 .is, values-are) (then-is types out count n (part A (a + 5) e) (omega (arith, sight-room))
+        (rw part-room at h))

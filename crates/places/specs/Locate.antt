@@ -68,16 +68,22 @@ pub record Sees (a : List ℕ) (env : List Ty) (wanted : ℕ) : Type 0 where
   pub few : length (thenSight env values) ≤ 16
 
 -- ---- one step down: not in this clause, this clause, or only in the clause from x up to e, m in sight there
-pub record GoesInto (a : List ℕ) (d p : ℕ) (s : List ℕ) (place : ℕ) (env : List Ty) (out : List ℕ) (x e m : ℕ) : Type 0 where
+pub record GoesInto (a : List ℕ) (d p : ℕ) (s : List ℕ) (place : ℕ) (env : List Ty) (out : List ℕ) (x e m : ℕ) : Type
+    0 where
   pub from : 4 ≤ x
   pub ordered : x ≤ e
   pub within : e ≤ length s
   pub few : m ≤ 16
   pub typed : TypedAt a (d - 1) (p + x) (part s x e) (sightOf out m)
-  pub same : (n : ℕ) → findAt a n place (clauseIn a d p s) env ≡ findAt a n place (clauseIn a (d - 1) (p + x) (part s x e)) (sightOf out m)
+  pub same : (n : ℕ) → findAt a n place (clauseIn a d p s) env ≡ findAt a n place
+      (clauseIn a (d - 1) (p + x) (part s x e)) (sightOf out m)
 
 pub record IsHere (a : List ℕ) (d p : ℕ) (s : List ℕ) (place : ℕ) (env : List Ty) (k : ℕ) : Type 0 where
-  pub is : (n : ℕ) → findAt a n place (clauseIn a d p s) env ≡ some (record { clause = clauseIn a d p s; sight = env; params = n })
+  pub is : (n : ℕ) → findAt a n place (clauseIn a d p s) env ≡ some (record {
+    clause = clauseIn a d p s;
+    sight = env;
+    params = n;
+  })
   pub kind : waitNumber (clauseIn a d p s) ≡ k
 
 unfoldable pub StepAt : List ℕ → ℕ → ℕ → List ℕ → ℕ → ℕ → List ℕ → List ℕ → Step → Type 0
@@ -89,12 +95,16 @@ StepAt a d p s place c types out (Into x e m) = GoesInto a d p s place (sightOf 
 pub record StepIs (a : List ℕ) (p : ℕ) (s : List ℕ) (place c : ℕ) (types out : List ℕ) (r : Step) : Type 0 where
   pub each : (d : ℕ) → TypedAt a d p s (sightOf types c) → StepAt a d p s place c types out r
 
-pub record DescentIs (a : List ℕ) (p : ℕ) (s : List ℕ) (place params c : ℕ) (types out : List ℕ) (r : Located) : Type 0 where
-  pub each : (d : ℕ) → TypedAt a d p s (sightOf types c) → Locates (findAt a params place (clauseIn a d p s) (sightOf types c)) out r
+pub record DescentIs (a : List ℕ) (p : ℕ) (s : List ℕ) (place params c : ℕ) (types out : List ℕ) (r : Located) : Type
+    0 where
+  pub each : (d : ℕ) → TypedAt a d p s (sightOf types c)
+      → Locates (findAt a params place (clauseIn a d p s) (sightOf types c)) out r
 
 -- what is found in the body of template k
 unfoldable pub inTemplate : List ℕ → ℕ → ℕ → Option Found
-inTemplate a k place = findAt a (headAt a k .params) place (bodyOf (headsOf a) (record { place = templatePlace a k; bytes = pieceAt a (templatePlace a k) })) (headAt a k .values)
+inTemplate a k place = findAt a (headAt a k .params) place
+    (bodyOf (headsOf a) (record { place = templatePlace a k; bytes = pieceAt a (templatePlace a k) }))
+    (headAt a k .values)
 
 -- ---- what check established of the bytes
 unfoldable pub mainsIn : Checked → List ℕ

@@ -43,9 +43,15 @@ module _ (a : Agreement) (w : run.Raw) where
   unfolding typedReading given _>>=_
   typed-none e = rw e refl
 
-  typed-some : (ts : List Ty) → valuesWanted a (w .type) ≡ some ts → given (typedReading a w) ≡ eqb (length ts) (length (w .numbers)) && given (valuesOf (a .parties) ts (w .numbers))
+  typed-some : (ts : List Ty) → valuesWanted a (w .type) ≡ some ts
+      → given (typedReading a w) ≡ eqb (length ts) (length (w .numbers))
+      && given (valuesOf (a .parties) ts (w .numbers))
   unfolding typedReading _>>=_
-  typed-some ts e = rw e (given-then (eqb (length ts) (length (w .numbers))) (valuesOf (a .parties) ts (w .numbers)) (λ vs. record { time = w .time; type = w .type; values = vs .0 }))
+  typed-some ts e = rw e (given-then (eqb (length ts) (length (w .numbers))) (valuesOf (a .parties) ts (w .numbers)) (λ vs. record {
+    time = w .time;
+    type = w .type;
+    values = vs .0;
+  }))
 
   typed-kept : (d : Reading) → typedReading a w ≡ some d → Kept w d
   unfolding typedReading
@@ -80,10 +86,14 @@ typed-mark s vs {k} {n} e l = record {
 
 -- ---- "type over the reading count"
 pub typed-past : (s : List ℕ) (zs : List ℤ) {k b : ℕ} → b ≡ byte s 9 → b < k → TypedIs s k zs false
-typed-past s zs {k} p l = record { is = λ w h q. typed-none (agreementOf s) w (rw (← h) (wanted-at (agreementOf s) k (omega arith) ∙ readings-past s (k - 1) (omega arith))) }
+typed-past s zs {k} p l = record {
+  is = λ w h q. typed-none (agreementOf s) w
+      (rw (← h) (wanted-at (agreementOf s) k (omega arith) ∙ readings-past s (k - 1) (omega arith)));
+}
 
 -- ---- the record of reading type k is s from a to e
-module _ {places s : List ℕ} (x : Indexed places s) {k b a e : ℕ} (f : k ≡ 0 → ⊥) (p : b ≡ byte s 9) (l : k ≤ b) (q : a ≡ readingPlace s (k - 1)) (g : e ≡ recordEnd s a) where
+module _ {places s : List ℕ} (x : Indexed places s) {k b a e : ℕ} (f : k ≡ 0 → ⊥) (p : b ≡ byte s 9) (l : k ≤ b)
+    (q : a ≡ readingPlace s (k - 1)) (g : e ≡ recordEnd s a) where
   listed : k - 1 < byte s 9
   listed = omega (arith, some-bits f)
 
@@ -121,8 +131,10 @@ module _ {places s : List ℕ} (x : Indexed places s) {k b a e : ℕ} (f : k ≡
     pub typed-count : (d ≡ n → ⊥) → TypedIs s k (take n vs) false
     typed-count i = record {
       is = λ w y z.
-          let c : length (tysOf (part s (a + 5) e)) ≡ length (w .numbers) → ⊥ = λ j. i (h ∙ sym count ∙ j ∙ sym (ap length z) ∙ length-take-le n vs m) in
-          sym (typed-some (agreementOf s) w (tysOf (part s (a + 5) e)) (wanted w y) ∙ rw (ne-eqb (length (tysOf (part s (a + 5) e))) (length (w .numbers)) c) refl);
+          let c : length (tysOf (part s (a + 5) e)) ≡ length (w .numbers)
+          → ⊥ = λ j. i (h ∙ sym count ∙ j ∙ sym (ap length z) ∙ length-take-le n vs m) in
+          sym (typed-some (agreementOf s) w (tysOf (part s (a + 5) e)) (wanted w y)
+          ∙ rw (ne-eqb (length (tysOf (part s (a + 5) e))) (length (w .numbers)) c) refl);
     }
 
     module _ (i : d ≡ n) where
@@ -130,13 +142,16 @@ module _ {places s : List ℕ} (x : Indexed places s) {k b a e : ℕ} (f : k ≡
       types-room = omega (arith, types-many, length-take-le n vs m)
 
       -- "value not of its type or out of its range"
-      pub typed-values : {ps : ℕ} {r : Bool} → ps ≡ byte s 8 → r ≡ AllFit ps (part s (a + 5) e) (take n vs) → TypedIs s k (take n vs) r
+      pub typed-values : {ps : ℕ} {r : Bool} → ps ≡ byte s 8 → r ≡ AllFit ps (part s (a + 5) e) (take n vs)
+          → TypedIs s k (take n vs) r
       unfolding agreementOf
       typed-values u v = record {
         is = λ w y z.
-            let c : length (tysOf (part s (a + 5) e)) ≡ length (w .numbers) = count ∙ sym h ∙ i ∙ sym (length-take-le n vs m) ∙ ap length z in
+            let c : length (tysOf (part s (a + 5) e)) ≡ length (w .numbers) = count ∙ sym h ∙ i
+            ∙ sym (length-take-le n vs m) ∙ ap length z in
             v ∙ ap (λ j. AllFit j (part s (a + 5) e) (take n vs)) u ∙ ap (AllFit (byte s 8) (part s (a + 5) e)) z
-            ∙ sym (typed-some (agreementOf s) w (tysOf (part s (a + 5) e)) (wanted w y) ∙ rw (eq-eqb (length (tysOf (part s (a + 5) e))) (length (w .numbers)) c) refl);
+            ∙ sym (typed-some (agreementOf s) w (tysOf (part s (a + 5) e)) (wanted w y)
+            ∙ rw (eq-eqb (length (tysOf (part s (a + 5) e))) (length (w .numbers)) c) refl);
       }
 
 -- ---- the answer
@@ -147,12 +162,17 @@ module _ (bytes : List ℕ) (vs : List ℤ) {r : Raw} where
   pub was-read : {t k n : ℕ} → r ≡ Read t k n → RawIs bytes vs r → RawRead bytes vs t k n
   was-read e x = subst (RawIs bytes vs) e x
 
-module _ {s bytes : List ℕ} {vs : List ℤ} {t k n : ℕ} {u : Bool} (x : RawRead bytes vs t k n) (y : TypedIs s k (take n vs) u) where
+module _ {s bytes : List ℕ} {vs : List ℤ} {t k n : ℕ} {u : Bool} (x : RawRead bytes vs t k n)
+    (y : TypedIs s k (take n vs) u) where
   told : u ≡ given (typedReading (agreementOf s) (x .raw))
   told = y .is (x .raw) (x .type) (x .numbers)
 
   pub gives-untyped : u ≡ false → UntypedRead s bytes
-  gives-untyped e = record { raw = x .raw; is = x .is; untyped = given-none (typedReading (agreementOf s) (x .raw)) (sym told ∙ e) }
+  gives-untyped e = record {
+    raw = x .raw;
+    is = x .is;
+    untyped = given-none (typedReading (agreementOf s) (x .raw)) (sym told ∙ e);
+  }
 
   pub gives-fitting : u ≡ true → FittingRead s bytes vs t k n
   gives-fitting e = given-some (typedReading (agreementOf s) (x .raw)) (sym told ∙ e) λ d h.

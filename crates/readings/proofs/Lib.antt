@@ -2,4 +2,3 @@ mod Options
 mod Reading
 pub mod Values
 mod Fitting
-pub mod Answers

@@ -34,7 +34,8 @@ module _ {A : Type 0} where
   given-needs true false x = refl
   given-needs false b x = refl
 
-  pub some-needs : (a b : Bool) (x : A) → given (need a >>= λ _. need b >>= λ _. some x) ≡ true → need a >>= (λ _. need b >>= λ _. some x) ≡ some x
+  pub some-needs : (a b : Bool) (x : A) → given (need a >>= λ _. need b >>= λ _. some x) ≡ true
+      → need a >>= (λ _. need b >>= λ _. some x) ≡ some x
   unfolding given _>>=_ need
   some-needs true true x e = refl
   some-needs true false x e = absurd (false≢true e)
@@ -57,7 +58,8 @@ given-need false x = refl
 
 module _ {A B : Type 0} where
   -- one after the other, joined by g
-  pub given-both : {C : Type 0} (o : Option A) (p : Option B) (g : A → B → C) → given (o >>= λ x. p >>= λ y. some (g x y)) ≡ given o && given p
+  pub given-both : {C : Type 0} (o : Option A) (p : Option B) (g : A → B → C)
+      → given (o >>= λ x. p >>= λ y. some (g x y)) ≡ given o && given p
   unfolding given _>>=_
   given-both none p g = refl
   given-both (some x) none g = refl
@@ -70,12 +72,14 @@ module _ {A B : Type 0} where
   given-then false o g = refl
 
   -- what was there, handed on
-  pub from-bind : {C : Type 0} (o : Option A) (f : A → Option B) (y : B) → o >>= f ≡ some y → ((x : A) → o ≡ some x → f x ≡ some y → C) → C
+  pub from-bind : {C : Type 0} (o : Option A) (f : A → Option B) (y : B) → o >>= f ≡ some y
+      → ((x : A) → o ≡ some x → f x ≡ some y → C) → C
   unfolding _>>=_
   from-bind none f y e k = none-some e
   from-bind (some x) f y e k = k x refl e
 
-pub from-need : {B C : Type 0} (b : Bool) (f : Unit {0} → Option B) (y : B) → need b >>= f ≡ some y → (T b → f tt ≡ some y → C) → C
+pub from-need : {B C : Type 0} (b : Bool) (f : Unit {0} → Option B) (y : B) → need b >>= f ≡ some y
+    → (T b → f tt ≡ some y → C) → C
 unfolding _>>=_ need
 from-need true f y e k = k tt e
 from-need false f y e k = none-some e

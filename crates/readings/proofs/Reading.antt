@@ -47,14 +47,24 @@ module _ (s : List ℕ) where
       T-both (isRecord s) (eqb (kindNumber s) 64) t₁ λ h₁ h₂.
       T-both (between 9 25 (length s)) _ t₂ λ t₃ h₅.
       T-both (leb 9 (length s)) (leb (length s) 25) t₃ λ h₃ h₄.
-      record { isOne = T-true (isRecord s) h₁; kind = eqb→eq (kindNumber s) 64 h₂; long = leb→le 9 (length s) h₃; short = leb→le (length s) 25 h₄ }
+      record {
+        isOne = T-true (isRecord s) h₁;
+        kind = eqb→eq (kindNumber s) 64 h₂;
+        long = leb→le 9 (length s) h₃;
+        short = leb→le (length s) 25 h₄;
+      }
 
   pub raw-no : (Holds s → ⊥) → false ≡ given (rawReading s)
   raw-no f = refused (given (rawReading s)) λ e. f (holds e)
 
   pub raw-last : Holds s → eqb ((length s - 9) % 4) 0 ≡ given (rawReading s)
   unfolding between
-  raw-last h = sym (tests ∙ rw (h .isOne, eq-eqb (kindNumber s) 64 (h .kind), le-leb 9 (length s) (h .long), le-leb (length s) 25 (h .short)) refl)
+  raw-last h = sym (tests ∙ rw (
+    h .isOne,
+    eq-eqb (kindNumber s) 64 (h .kind),
+    le-leb 9 (length s) (h .long),
+    le-leb (length s) 25 (h .short),
+  ) refl)
 
 -- ---- its numbers
 numbers-length : (n : ℕ) (s : List ℕ) (i : ℕ) → length (numbersFrom n s i) ≡ n
@@ -62,7 +72,8 @@ unfolding numbersFrom
 numbers-length zero s i = refl
 numbers-length (suc n) s i = ap suc (numbers-length n s (i + 4))
 
-numbers-suc : (n : ℕ) (s : List ℕ) (i : ℕ) → numbersFrom (suc n) s i ≡ numbersFrom n s i ++ (signed32 s (i + 4 * n) ∷ [])
+numbers-suc : (n : ℕ) (s : List ℕ) (i : ℕ) → numbersFrom (suc n) s i ≡ numbersFrom n s i
+    ++ (signed32 s (i + 4 * n) ∷ [])
 unfolding numbersFrom
 numbers-suc zero s i = simp unary-clauses refl
 numbers-suc (suc n) s i =
@@ -70,7 +81,8 @@ numbers-suc (suc n) s i =
     ap (λ (t : List ℤ). signed32 s i ∷ t) (rw k at (numbers-suc n s (i + 4)))
 
 -- one number more, read at a
-pub numbers-more : (s : List ℕ) (vs : List ℤ) (i : ℕ) {a : ℕ} {z : ℤ} → take i vs ≡ numbersFrom i s 9 → a ≡ 9 + 4 * i → z ≡ signed32 s a → i < length vs → take (i + 1) (set vs i z) ≡ numbersFrom (i + 1) s 9
+pub numbers-more : (s : List ℕ) (vs : List ℤ) (i : ℕ) {a : ℕ} {z : ℤ} → take i vs ≡ numbersFrom i s 9 → a ≡ 9 + 4 * i
+    → z ≡ signed32 s a → i < length vs → take (i + 1) (set vs i z) ≡ numbersFrom (i + 1) s 9
 numbers-more s vs i {z} h p q l = rw (add-one i, take-suc-set vs i z l, h, q, p) (sym (numbers-suc i s 9))
 
 -- ---- u is what the code was told
@@ -80,7 +92,9 @@ raw-bad s e f = given-none (rawReading s) (told-no e f)
 pub raw-long : (s : List ℕ) {u : Bool} → u ≡ given (rawReading s) → not u ≡ false → Holds s
 raw-long s e f = holds s (told-yes e f)
 
-pub raw-read : (s : List ℕ) (vs : List ℤ) {u : Bool} {t k n : ℕ} → u ≡ given (rawReading s) → not u ≡ false → n ≡ (length s - 9) / 4 → take n vs ≡ numbersFrom n s 9 → t ≡ le32 s 4 → t < 4_294_967_296 → k ≡ byte s 8 → RawRead s vs t k n
+pub raw-read : (s : List ℕ) (vs : List ℤ) {u : Bool} {t k n : ℕ} → u ≡ given (rawReading s) → not u ≡ false
+    → n ≡ (length s - 9) / 4 → take n vs ≡ numbersFrom n s 9 → t ≡ le32 s 4 → t < 4_294_967_296 → k ≡ byte s 8
+    → RawRead s vs t k n
 unfolding rawReading
 raw-read s vs {n} e f p q g l h =
     let y = told-yes e f in

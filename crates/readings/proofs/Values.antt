@@ -83,10 +83,12 @@ module _ (ps ty : ℕ) (z : ℤ) (f : SFits w64 z) where
     unfolding tyOf
     is-number = rw n (sym (number-given ps z))
 
-    pub number-high : leZ (negsuc 999_999_999) (seen z) ≡ true → leZ (seen z) (pos 1_000_000_000) ≡ given (valueOf ps (tyOf ty) z)
+    pub number-high : leZ (negsuc 999_999_999) (seen z) ≡ true
+        → leZ (seen z) (pos 1_000_000_000) ≡ given (valueOf ps (tyOf ty) z)
     number-high h = rw (read f) (high-range z (rw (read f) at h) ∙ is-number)
 
-    pub number-low : leZ (negsuc 999_999_999) (seen z) ≡ false → leZ (negsuc 999_999_999) (seen z) ≡ given (valueOf ps (tyOf ty) z)
+    pub number-low : leZ (negsuc 999_999_999) (seen z) ≡ false
+        → leZ (negsuc 999_999_999) (seen z) ≡ given (valueOf ps (tyOf ty) z)
     number-low h = h ∙ low-range z (rw (read f) at h) ∙ is-number
 
   module _ (n : ty ≡ 1 → ⊥) where
@@ -108,24 +110,28 @@ module _ (ps ty : ℕ) (z : ℤ) (f : SFits w64 z) where
 
       pub truth-fits : ty ≡ 2 → ltb (natAbs (seen z)) 2 ≡ given (valueOf ps (tyOf ty) z)
       unfolding tyOf
-      truth-fits e = rw e (truth-given ps (natAbs (seen z)) ∙ ap (λ x. given (valueOf ps truth x)) (index-given f from-nought))
+      truth-fits e = rw e (truth-given ps (natAbs (seen z))
+          ∙ ap (λ x. given (valueOf ps truth x)) (index-given f from-nought))
 
       pub party-fits : (ty ≡ 2 → ⊥) → ltb (natAbs (seen z)) ps ≡ given (valueOf ps (tyOf ty) z)
-      party-fits e = rw (not-number ty n, ne-eqb ty 2 e) (party-given ps (natAbs (seen z)) ∙ ap (λ x. given (valueOf ps party x)) (index-given f from-nought))
+      party-fits e = rw (not-number ty n, ne-eqb ty 2 e)
+          (party-given ps (natAbs (seen z)) ∙ ap (λ x. given (valueOf ps party x)) (index-given f from-nought))
 
 -- ---- values of the types, one for each
 abbrev pub AllFit : ℕ → List ℕ → List ℤ → Bool
 AllFit ps ts zs = given (valuesOf ps (tysOf ts) zs)
 
 module _ (ps : ℕ) (ts : List ℕ) (zs : List ℤ) (i : ℕ) (h : AllFit ps ts zs ≡ AllFit ps (drop i ts) (drop i zs)) where
-  module _ (l : i < length ts) (m : length ts ≤ length zs) {b : ℕ} {z : ℤ} {u : Bool} (p : b ≡ byte ts i) (q : z ≡ getD zs i (pos 0)) (g : u ≡ given (valueOf ps (tyOf b) z)) where
+  module _ (l : i < length ts) (m : length ts ≤ length zs) {b : ℕ} {z : ℤ} {u : Bool} (p : b ≡ byte ts i)
+      (q : z ≡ getD zs i (pos 0)) (g : u ≡ given (valueOf ps (tyOf b) z)) where
     fit-step : AllFit ps ts zs ≡ u && AllFit ps (drop (i + 1) ts) (drop (i + 1) zs)
     unfolding tysOf valuesOf
     fit-step =
         let k : i < length zs = omega arith in
         let e = g ∙ ap (λ x. given (valueOf ps (tyOf x) z)) p ∙ ap (λ x. given (valueOf ps (tyOf (byte ts i)) x)) q in
         h ∙ rw (drop-cons ts i 0 l, drop-cons zs i (pos 0) k, e, add-one i)
-        (given-both (valueOf ps (tyOf (byte ts i)) (getD zs i (pos 0))) (valuesOf ps (tysOf (drop (suc i) ts)) (drop (suc i) zs)) (λ v r. (v ∷ r .0, r .1)))
+        (given-both (valueOf ps (tyOf (byte ts i)) (getD zs i (pos 0)))
+        (valuesOf ps (tysOf (drop (suc i) ts)) (drop (suc i) zs)) (λ v r. (v ∷ r .0, r .1)))
 
     pub fit-no : not u ≡ true → false ≡ AllFit ps ts zs
     fit-no f = sym (fit-step ∙ rw (not-true u f) refl)
@@ -138,7 +144,8 @@ module _ (ps : ℕ) (ts : List ℕ) (zs : List ℤ) (i : ℕ) (h : AllFit ps ts 
   fit-end l = sym (h ∙ rw (drop-of-length-le ts l) refl)
 
 -- the cells of the values are the numbers
-pub values-cells : (ps : ℕ) (ts : List Ty) (zs : List ℤ) (r : List Val × List ℤ) → length ts ≡ length zs → valuesOf ps ts zs ≡ some r → (zs ≡ cellsOf (r .0)) × (length zs ≡ length (r .0))
+pub values-cells : (ps : ℕ) (ts : List Ty) (zs : List ℤ) (r : List Val × List ℤ) → length ts ≡ length zs
+    → valuesOf ps ts zs ≡ some r → (zs ≡ cellsOf (r .0)) × (length zs ≡ length (r .0))
 unfolding valuesOf cellsOf
 values-cells ps [] [] r l e = rw (← some-inj e) (refl, refl)
 values-cells ps [] (z ∷ zs) r l e = absurd (omega arith)

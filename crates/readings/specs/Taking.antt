@@ -1,4 +1,5 @@
--- What the code answers for a reading's bytes, by csl's functions. The cases exclude one another, so each answer is given just where its case holds.
+-- What the code answers for a reading's bytes, by csl's functions. The cases exclude one another, so each answer is
+-- given just where its case holds.
 use mathlib.Core.Path.{_≡_}
 use mathlib.Core.Bool.{Bool, true, false}
 use mathlib.Core.List.{List}

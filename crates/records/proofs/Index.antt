@@ -1,4 +1,5 @@
--- Laws for the parts of an agreement: where its records end, which records its lists have, and what the heads of an indexed agreement hold to.
+-- Laws for the parts of an agreement: where its records end, which records its lists have, and what the heads of an
+-- indexed agreement hold to.
 use mathlib.Core.Path.{_≡_, refl, sym, ap, subst, _∙_}
 use mathlib.Core.Bool.{Bool, true, false, cond, _&&_}
 use mathlib.Core.List.{List, [], _∷_, map}
@@ -14,7 +15,9 @@ use Rattle.arith.proofs.Bytes.{byte-part, le16-part, record-end-within, record-
 use Rattle.csl.specs.Lists.{all, at}
 use Rattle.csl.specs.Bytes.{byte, le16, part, isRecord, kindNumber, recordEnd}
 use Rattle.csl.specs.Syntax.{Head}
-use Rattle.csl.specs.Decode.{Piece, piecesEnd, pieces, templatesPlace, mainPlace, readingPieces, templatePieces, headsOf, bodyPlace, templateOf, agreementOf, isType, tyOf, tysOf, readingTypeOk, readingType, templateOk, templateHead, waitEnd}
+use Rattle.csl.specs.Decode.{Piece, piecesEnd, pieces, templatesPlace, mainPlace, readingPieces, templatePieces}
+use Rattle.csl.specs.Decode.{headsOf, bodyPlace, templateOf, agreementOf, isType, tyOf, tysOf, readingTypeOk}
+use Rattle.csl.specs.Decode.{readingType, templateOk, templateHead, waitEnd}
 use Rattle.csl.specs.Typing.{headsIn}
 use Rattle.records.specs.Index.{Indexed, readingPlace, templatePlace, pieceAt, headAt, firstClause}
 
@@ -59,7 +62,11 @@ some-within (suc n) s i l = pieces-within n s (recordEnd s i) (record-end-within
 pub pieces-from : (n : ℕ) (s : List ℕ) (i : ℕ) → i ≤ length s → i ≤ piecesEnd n s i
 unfolding piecesEnd
 pieces-from zero s i l = omega arith
-pieces-from (suc n) s i l = omega (arith, record-end-after s i l, pieces-from n s (recordEnd s i) (record-end-within s i))
+pieces-from (suc n) s i l = omega (
+  arith,
+  record-end-after s i l,
+  pieces-from n s (recordEnd s i) (record-end-within s i),
+)
 
 pieces-suc : (n : ℕ) (s : List ℕ) (i : ℕ) → piecesEnd (suc n) s i ≡ recordEnd s (piecesEnd n s i)
 unfolding piecesEnd
@@ -80,7 +87,8 @@ abbrev pub piece : List ℕ → ℕ → Piece
 piece s a = record { place = a; bytes = pieceAt s a }
 
 module _ {A : Type 0} (g : Piece → A) where
-  pub at-pieces : (n : ℕ) (s : List ℕ) (i k : ℕ) → k < n → at (map g (pieces n s i)) k ≡ some (g (piece s (piecesEnd k s i)))
+  pub at-pieces : (n : ℕ) (s : List ℕ) (i k : ℕ) → k < n
+      → at (map g (pieces n s i)) k ≡ some (g (piece s (piecesEnd k s i)))
   unfolding at pieces piecesEnd
   at-pieces zero s i k l = absurd (not-suc-le-zero l)
   at-pieces (suc n) s i zero l = refl
@@ -102,7 +110,8 @@ module _ (p : Piece → Bool) where
   unfolding all pieces piecesEnd
   all-pieces zero s i k t l = absurd (not-suc-le-zero l)
   all-pieces (suc n) s i zero t l = T-both (p (piece s i)) _ t λ h u. h
-  all-pieces (suc n) s i (suc k) t l = T-both (p (piece s i)) _ t λ h u. all-pieces n s (recordEnd s i) k u (le-of-suc-le-suc l)
+  all-pieces (suc n) s i (suc k) t l = T-both (p (piece s i)) _ t λ h u. all-pieces n s (recordEnd s i) k u
+      (le-of-suc-le-suc l)
 
 -- ---- the lists of an agreement, by the count of each
 module _ (s : List ℕ) (k : ℕ) where
@@ -122,27 +131,17 @@ module _ (s : List ℕ) (k : ℕ) where
   unfolding agreementOf readingPieces
   readings-past l = at-pieces-past (λ q. readingType (q .bytes)) (byte s 9) s 11 k l
 
-  pub templates-at : k < byte s 10 → at (agreementOf s .templates) k ≡ some (templateOf (headsOf s) (piece s (templatePlace s k)))
+  pub templates-at : k < byte s 10 → at (agreementOf s .templates) k ≡ some
+      (templateOf (headsOf s) (piece s (templatePlace s k)))
   unfolding agreementOf templatePieces
   templates-at l = at-pieces (templateOf (headsOf s)) (byte s 10) s (templatesPlace s) k l
-
-  pub templates-past : byte s 10 ≤ k → at (agreementOf s .templates) k ≡ none
-  unfolding agreementOf templatePieces
-  templates-past l = at-pieces-past (templateOf (headsOf s)) (byte s 10) s (templatesPlace s) k l
-
-pub heads-length : (s : List ℕ) → length (headsOf s) ≡ byte s 10
-unfolding headsOf templatePieces
-heads-length s = length-pieces (λ q. templateHead (q .bytes)) (byte s 10) s (templatesPlace s)
-
-pub readings-length : (s : List ℕ) → length (agreementOf s .readings) ≡ byte s 9
-unfolding agreementOf readingPieces
-readings-length s = length-pieces (λ q. readingType (q .bytes)) (byte s 9) s 11
 
 pub templates-length : (s : List ℕ) → length (agreementOf s .templates) ≡ byte s 10
 unfolding agreementOf templatePieces
 templates-length s = length-pieces (templateOf (headsOf s)) (byte s 10) s (templatesPlace s)
 
-heads-map : (hs : List Head) (qs : List Piece) → headsIn (map (templateOf hs) qs) ≡ map (λ q. templateHead (q .bytes)) qs
+heads-map : (hs : List Head) (qs : List Piece)
+    → headsIn (map (templateOf hs) qs) ≡ map (λ q. templateHead (q .bytes)) qs
 unfolding headsIn templateOf
 heads-map hs [] = refl
 heads-map hs (q ∷ qs) = ap (λ (r : List Head). templateHead (q .bytes) ∷ r) (heads-map hs qs)
@@ -171,13 +170,13 @@ reading-holds q t =
     T-both (a && b && c) d t₁ λ t₂ h₄.
     T-both (a && b) c t₂ λ t₃ h₃.
     T-both a b t₃ λ h₁ h₂.
-    record { isOne = T-true a h₁; kind = eqb→eq (kindNumber q) 2 h₂; few = leb→le (byte q 4) 4 h₃; long = eqb→eq (length q) (5 + byte q 4) h₄; types = h₅ }
-
-pub reading-length : (q : List ℕ) → T (readingTypeOk q) → length (readingType q) ≡ byte q 4
-unfolding readingType tysOf
-reading-length q t =
-    let h = reading-holds q t in
-    length-map (part q 5 (length q)) tyOf ∙ omega (arith, length-part q 5 (length q) (omega arith), h .long)
+    record {
+      isOne = T-true a h₁;
+      kind = eqb→eq (kindNumber q) 2 h₂;
+      few = leb→le (byte q 4) 4 h₃;
+      long = eqb→eq (length q) (5 + byte q 4) h₄;
+      types = h₅;
+    }
 
 -- ---- a template whose head is as listed
 pub record TemplateHolds (q : List ℕ) : Type 0 where
@@ -202,7 +201,14 @@ template-holds q t =
     T-both (a && b && c) d t₂ λ t₃ h₄.
     T-both (a && b) c t₃ λ t₄ h₃.
     T-both a b t₄ λ h₁ h₂.
-    record { isOne = T-true a h₁; kind = eqb→eq (kindNumber q) 3 h₂; few = leb→le (byte q 4) 8 h₃; long = leb→le (8 + byte q 4) (length q) h₄; types = h₅; fewParams = leb→le (byte q (5 + byte q 4)) 4 h₆ }
+    record {
+      isOne = T-true a h₁;
+      kind = eqb→eq (kindNumber q) 3 h₂;
+      few = leb→le (byte q 4) 8 h₃;
+      long = leb→le (8 + byte q 4) (length q) h₄;
+      types = h₅;
+      fewParams = leb→le (byte q (5 + byte q 4)) 4 h₆;
+    }
 
 pub values-length : (q : List ℕ) → T (templateOk q) → length (templateHead q .values) ≡ byte q 4
 unfolding templateHead tysOf
@@ -249,9 +255,6 @@ module _ {places s : List ℕ} (x : Indexed places s) where
   pub template-facts : (k : ℕ) → k < byte s 10 → TemplateHolds (pieceAt s (templatePlace s k))
   template-facts k l = template-holds (pieceAt s (templatePlace s k)) (template-ok k l)
 
-  pub reading-count : (k : ℕ) → k < byte s 9 → length (readingType (pieceAt s (readingPlace s k))) ≡ byte (pieceAt s (readingPlace s k)) 4
-  reading-count k l = reading-length (pieceAt s (readingPlace s k)) (reading-ok k l)
-
   pub value-count : (k : ℕ) → k < byte s 10 → length (headAt s k .values) ≡ byte (pieceAt s (templatePlace s k)) 4
   value-count k l = values-length (pieceAt s (templatePlace s k)) (template-ok k l)
 
@@ -262,7 +265,8 @@ module _ {places s : List ℕ} (x : Indexed places s) where
   few-params k l = params-few (pieceAt s (templatePlace s k)) (template-ok k l)
 
   -- the body of template k begins within its record, and that within the agreement
-  pub body-within : (k : ℕ) → k < byte s 10 → templatePlace s k + bodyPlace (pieceAt s (templatePlace s k)) ≤ recordEnd s (templatePlace s k)
+  pub body-within : (k : ℕ) → k < byte s 10
+      → templatePlace s k + bodyPlace (pieceAt s (templatePlace s k)) ≤ recordEnd s (templatePlace s k)
   unfolding bodyPlace
   body-within k l =
       let a = templatePlace s k in
@@ -283,7 +287,8 @@ module _ {places s : List ℕ} {k a : ℕ} (x : Indexed places s × (k < byte s 
   inside = body-within (x .0) k (x .1)
 
   at-byte : (i : ℕ) → i < 8 + byte head 4 → byte s (a + i) ≡ byte head i
-  at-byte i h = ap (λ (b : ℕ). byte s (b + i)) p ∙ sym (byte-part s (templatePlace s k) (recordEnd s (templatePlace s k)) i (omega (arith, inside)))
+  at-byte i h = ap (λ (b : ℕ). byte s (b + i)) p
+      ∙ sym (byte-part s (templatePlace s k) (recordEnd s (templatePlace s k)) i (omega (arith, inside)))
 
   pub count-read : {r : ℕ} → r ≡ byte s (a + 4) → (r ≡ byte head 4) × (r ≡ length (headAt s k .values)) × (r ≤ 8)
   count-read h =
@@ -306,7 +311,8 @@ module _ {places s : List ℕ} {k a : ℕ} (x : Indexed places s × (k < byte s 
 pub first-within : (k : ℕ) (s : List ℕ) → 4 ≤ length s → firstClause k s ≤ length s
 unfolding firstClause
 first-within k s l =
-    either (eqb k 17) (wait-within s 5) (either (eqb k 18) (wait-within s 4) (either (eqb k 19) (record-end-within s 4) l))
+    either (eqb k 17) (wait-within s 5) (either (eqb k 18) (wait-within s 4)
+    (either (eqb k 19) (record-end-within s 4) l))
   where
     either : (b : Bool) {x y : ℕ} → x ≤ length s → y ≤ length s → cond b x y ≤ length s
     either true h g = h
@@ -315,7 +321,9 @@ first-within k s l =
 pub first-from : (k : ℕ) (s : List ℕ) → 4 ≤ length s → 4 ≤ firstClause k s
 unfolding firstClause
 first-from k s l =
-    either (eqb k 17) (omega (arith, wait-from s 5)) (either (eqb k 18) (omega (arith, wait-from s 4)) (either (eqb k 19) (omega (arith, end-from s 4)) (omega arith)))
+    either (eqb k 17) (omega (arith, wait-from s 5))
+    (either (eqb k 18) (omega (arith, wait-from s 4))
+    (either (eqb k 19) (omega (arith, end-from s 4)) (omega arith)))
   where
     either : (b : Bool) {x y : ℕ} → 4 ≤ x → 4 ≤ y → 4 ≤ cond b x y
     either true h g = h

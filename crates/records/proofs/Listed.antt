@@ -15,9 +15,11 @@ use Rattle.arith.proofs.Lists.{length-part}
 use Rattle.arith.proofs.Bytes.{record-end-within}
 use Rattle.csl.specs.Lists.{all}
 use Rattle.csl.specs.Bytes.{byte, le16, part, isRecord, kindNumber, recordEnd}
-use Rattle.csl.specs.Decode.{pieces, piecesEnd, templatesPlace, mainPlace, readingPieces, templatePieces, between, bodyPlace, isType, readingTypeOk, templateOk, countsOk, listed, sized}
+use Rattle.csl.specs.Decode.{pieces, piecesEnd, templatesPlace, mainPlace, readingPieces, templatePieces, between}
+use Rattle.csl.specs.Decode.{bodyPlace, isType, readingTypeOk, templateOk, countsOk, listed, sized}
 use Rattle.records.specs.Index.{Indexed, pieceAt, recordOk}
-use Rattle.records.proofs.Index.{T-both, T-true, true-T, all-pieces, ReadingHolds, reading-holds, TemplateHolds, template-holds}
+use Rattle.records.proofs.Index.{T-both, T-true, true-T, all-pieces, ReadingHolds, reading-holds}
+use Rattle.records.proofs.Index.{TemplateHolds, template-holds}
 
 -- ---- a test that fails, since what it holds to does not hold
 pub refused : (b : Bool) → (T b → ⊥) → false ≡ b
@@ -59,9 +61,11 @@ module _ (s : List ℕ) {u : Bool} (e : u ≡ between 4 16_384 (length s)) where
   sized-yes f g = rw (told-yes e f, g)
 
 -- ---- types, from i on
-types-step : (ts : List ℕ) (i : ℕ) → i < length ts → all isType (drop i ts) ≡ isType (byte ts i) && all isType (drop (i + 1) ts)
+types-step : (ts : List ℕ) (i : ℕ) → i < length ts → all isType (drop i ts) ≡ isType (byte ts i)
+    && all isType (drop (i + 1) ts)
 unfolding all
-types-step ts i l = ap (all isType) (drop-cons ts i 0 l) ∙ ap (λ n. isType (byte ts i) && all isType (drop n ts)) (sym (add-one i))
+types-step ts i l = ap (all isType) (drop-cons ts i 0 l)
+    ∙ ap (λ n. isType (byte ts i) && all isType (drop n ts)) (sym (add-one i))
 
 module _ (ts : List ℕ) (i : ℕ) (h : all isType ts ≡ all isType (drop i ts)) where
   module _ {u : Bool} {b : ℕ} (l : i < length ts) (e : b ≡ byte ts i) (g : u ≡ between 1 3 b) where
@@ -86,13 +90,26 @@ reading-no q f = refused (readingTypeOk q) λ t. f (reading-holds q t)
 pub template-no : (q : List ℕ) → (TemplateHolds q → ⊥) → false ≡ templateOk q
 template-no q f = refused (templateOk q) λ t. f (template-holds q t)
 
-pub reading-last : (q : List ℕ) {t : Bool} → isRecord q ≡ true → kindNumber q ≡ 2 → byte q 4 ≤ 4 → length q ≡ 5 + byte q 4 → t ≡ all isType (part q 5 (length q)) → t ≡ readingTypeOk q
+pub reading-last : (q : List ℕ) {t : Bool} → isRecord q ≡ true → kindNumber q ≡ 2 → byte q 4 ≤ 4
+    → length q ≡ 5 + byte q 4 → t ≡ all isType (part q 5 (length q)) → t ≡ readingTypeOk q
 unfolding readingTypeOk
-reading-last q a b c d e = rw (a, eq-eqb (kindNumber q) 2 b, le-leb (byte q 4) 4 c, eq-eqb (length q) (5 + byte q 4) d) e
+reading-last q a b c d e = rw (
+  a,
+  eq-eqb (kindNumber q) 2 b,
+  le-leb (byte q 4) 4 c,
+  eq-eqb (length q) (5 + byte q 4) d,
+) e
 
-pub template-last : (q : List ℕ) → isRecord q ≡ true → kindNumber q ≡ 3 → byte q 4 ≤ 8 → 8 + byte q 4 ≤ length q → all isType (part q 5 (5 + byte q 4)) ≡ true → leb (byte q (5 + byte q 4)) 4 ≡ templateOk q
+pub template-last : (q : List ℕ) → isRecord q ≡ true → kindNumber q ≡ 3 → byte q 4 ≤ 8 → 8 + byte q 4 ≤ length q
+    → all isType (part q 5 (5 + byte q 4)) ≡ true → leb (byte q (5 + byte q 4)) 4 ≡ templateOk q
 unfolding templateOk bodyPlace
-template-last q a b c d e = rw (a, eq-eqb (kindNumber q) 3 b, le-leb (byte q 4) 8 c, le-leb (8 + byte q 4) (length q) d, e)
+template-last q a b c d e = rw (
+  a,
+  eq-eqb (kindNumber q) 3 b,
+  le-leb (byte q 4) 8 c,
+  le-leb (8 + byte q 4) (length q) d,
+  e,
+)
 
 -- ---- n records from a, of which the code tests the first
 module _ (k : ℕ) (s : List ℕ) where
@@ -121,10 +138,15 @@ module _ (k : ℕ) (s : List ℕ) where
 
 -- ---- cells filled one after another
 module _ (places : List ℕ) (base i a : ℕ) where
-  pub stored-more : (g : ℕ → ℕ) → base + i < length places → a ≡ g i → ((k : ℕ) → k < i → getD places (base + k) 0 ≡ g k) → (k : ℕ) → k < i + 1 → getD (set places (base + i) a) (base + k) 0 ≡ g k
-  stored-more g l e h = below-more (λ k. getD (set places (base + i) a) (base + k) 0 ≡ g k) i (λ k m. getD-set-other places (base + i) (base + k) a 0 (λ q. omega arith) ∙ h k m) (getD-set-same places (base + i) a 0 l ∙ e)
+  pub stored-more : (g : ℕ → ℕ) → base + i < length places → a ≡ g i
+      → ((k : ℕ) → k < i → getD places (base + k) 0 ≡ g k) → (k : ℕ) → k < i + 1
+      → getD (set places (base + i) a) (base + k) 0 ≡ g k
+  stored-more g l e h = below-more (λ k. getD (set places (base + i) a) (base + k) 0 ≡ g k) i
+      (λ k m. getD-set-other places (base + i) (base + k) a 0 (λ q. omega arith) ∙ h k m)
+      (getD-set-same places (base + i) a 0 l ∙ e)
 
-  pub others-more : (o : List ℕ) → ((k : ℕ) → k < base → getD places k 0 ≡ getD o k 0) → (k : ℕ) → k < base → getD (set places (base + i) a) k 0 ≡ getD o k 0
+  pub others-more : (o : List ℕ) → ((k : ℕ) → k < base → getD places k 0 ≡ getD o k 0) → (k : ℕ) → k < base
+      → getD (set places (base + i) a) k 0 ≡ getD o k 0
   others-more o h k m = getD-set-other places (base + i) k a 0 (λ q. omega arith) ∙ h k m
 
 -- ---- kind and counts
@@ -163,7 +185,12 @@ module _ (s : List ℕ) {k : ℕ} (e : k ≡ kindNumber s) where
 
       pub counted-last : {n : ℕ} → k ≡ 1 → not u ≡ false → not v ≡ false → n ≡ byte s 10 → leb n 32 ≡ counted s
       unfolding countsOk
-      counted-last i y z m = rw (eq-eqb (kindNumber s) 1 (sym e ∙ i), told-yes (p ∙ ap (between 1 16) q) y, told-yes (g ∙ ap (between 1 16) h) z, m)
+      counted-last i y z m = rw (
+        eq-eqb (kindNumber s) 1 (sym e ∙ i),
+        told-yes (p ∙ ap (between 1 16) q) y,
+        told-yes (g ∙ ap (between 1 16) h) z,
+        m,
+      )
 
 -- ---- the whole test
 abbrev readingsOk : List ℕ → Bool
@@ -205,7 +232,8 @@ module _ (s : List ℕ) {u : Bool} (e : u ≡ counted s) where
     pub listed-no-reading : not v ≡ true → false ≡ listed s
     listed-no-reading f = refused (listed s) λ t. from-listed s t λ h g. untold readings-told f g
 
-    module _ {r : Bool} {m f : ℕ} (y : not u ≡ false) (z : not v ≡ false) (g : m ≡ byte s 10) (h : f ≡ piecesEnd n s 11) (x : r ≡ AllOk 3 s m f) where
+    module _ {r : Bool} {m f : ℕ} (y : not u ≡ false) (z : not v ≡ false) (g : m ≡ byte s 10)
+        (h : f ≡ piecesEnd n s 11) (x : r ≡ AllOk 3 s m f) where
       first-is : f ≡ templatesPlace s
       unfolding templatesPlace
       first-is = h ∙ ap (λ i. piecesEnd i s 11) p
@@ -220,7 +248,10 @@ module _ (s : List ℕ) {u : Bool} (e : u ≡ counted s) where
 
       -- one and two are the cells after the reading types and after the templates
       module _ (one two : List ℕ) {w : ℕ} (long : 11 ≤ length s) (room : length two ≡ 49) where
-        pub indexed : ((k : ℕ) → k < n → getD one (0 + k) 0 ≡ piecesEnd k s 11) → ((k : ℕ) → k < m → getD two (16 + k) 0 ≡ piecesEnd k s f) → ((k : ℕ) → k < 16 → getD two k 0 ≡ getD one k 0) → w ≡ piecesEnd m s f → r ≡ true → Indexed (set two 48 w) s
+        pub indexed : ((k : ℕ) → k < n → getD one (0 + k) 0 ≡ piecesEnd k s 11)
+            → ((k : ℕ) → k < m → getD two (16 + k) 0 ≡ piecesEnd k s f)
+            → ((k : ℕ) → k < 16 → getD two k 0 ≡ getD one k 0) → w ≡ piecesEnd m s f → r ≡ true
+            → Indexed (set two 48 w) s
         unfolding mainPlace
         indexed stored stored₂ kept ends t =
             let c = counts-told s e y in
@@ -231,9 +262,12 @@ module _ (s : List ℕ) {u : Bool} (e : u ≡ counted s) where
               fewParties = range-holds 1 16 (byte s 8) (c .parties) .1;
               fewReadings = few;
               fewTemplates = c .templates;
-              readings = λ k l. getD-set-other two 48 k w 0 (λ q. omega arith) ∙ kept k (omega arith) ∙ sym (ap (λ i. getD one i 0) (zero-add k)) ∙ stored k (omega arith);
-              templates = λ k l. getD-set-other two 48 (16 + k) w 0 (λ q. omega (arith, c .templates)) ∙ stored₂ k (omega arith) ∙ ap (λ i. piecesEnd k s i) first-is;
-              main = getD-set-same two 48 w 0 (omega arith) ∙ ends ∙ ap (λ i. piecesEnd i s f) g ∙ ap (λ i. piecesEnd (byte s 10) s i) first-is;
+              readings = λ k l. getD-set-other two 48 k w 0 (λ q. omega arith) ∙ kept k (omega arith)
+                  ∙ sym (ap (λ i. getD one i 0) (zero-add k)) ∙ stored k (omega arith);
+              templates = λ k l. getD-set-other two 48 (16 + k) w 0 (λ q. omega (arith, c .templates))
+                  ∙ stored₂ k (omega arith) ∙ ap (λ i. piecesEnd k s i) first-is;
+              main = getD-set-same two 48 w 0 (omega arith) ∙ ends ∙ ap (λ i. piecesEnd i s f) g
+                  ∙ ap (λ i. piecesEnd (byte s 10) s i) first-is;
               readingsOk = true-T (told-yes readings-told z);
               templatesOk = true-T (sym templates-told ∙ t);
             }

@@ -11,7 +11,10 @@ use lib.Dec.{eqb}
 use lib.ListN.{length}
 use Rattle.csl.specs.Bytes.{byte, part, isRecord, kindNumber, recordEnd}
 use Rattle.csl.specs.Syntax.{Expr, badExpr, Clause, obligation, choice, if, join, badClause, Head}
-use Rattle.csl.specs.Decode.{ExprKind, numberKind, notKind, binaryKind, noExpr, leafKind, opOf, exprKind, exprBody, exprHead, expr, ClauseKind, fulfilledKind, obligationKind, choiceKind, ifKind, joinKind, instanceKind, noClause, joinOf, waitKind, clauseKind, waitAt, clauseBody, clauseHead, clause}
+use Rattle.csl.specs.Decode.{ExprKind, numberKind, notKind, binaryKind, noExpr, leafKind, opOf, exprKind, exprBody}
+use Rattle.csl.specs.Decode.{exprHead, expr, ClauseKind, fulfilledKind, obligationKind, choiceKind, ifKind, joinKind}
+use Rattle.csl.specs.Decode.{instanceKind, noClause, joinOf, waitKind, clauseKind, waitAt, clauseBody, clauseHead}
+use Rattle.csl.specs.Decode.{clause}
 use Rattle.records.specs.Index.{firstClause}
 
 -- ---- one step of the tree
@@ -20,7 +23,8 @@ unfolding expr
 expr-step zero s k p e = absurd (p refl)
 expr-step (suc d) s k p e = rw (sub-one, e)
 
-clause-step : (hs : List Head) (d p : ℕ) (s : List ℕ) (k : ClauseKind) → (d ≡ 0 → ⊥) → clauseHead s ≡ k → clause hs d p s ≡ clauseBody hs (expr (d - 1)) (clause hs (d - 1)) p s k
+clause-step : (hs : List Head) (d p : ℕ) (s : List ℕ) (k : ClauseKind) → (d ≡ 0 → ⊥) → clauseHead s ≡ k
+    → clause hs d p s ≡ clauseBody hs (expr (d - 1)) (clause hs (d - 1)) p s k
 unfolding clause
 clause-step hs zero p s k n e = absurd (n refl)
 clause-step hs (suc d) p s k n e = rw (sub-one, e)
@@ -36,7 +40,8 @@ module _ {A : Type 0} (f : Expr → A) (d : ℕ) (s : List ℕ) {r : A} where
   expr-none p e h q = q ∙ ap f (sym (expr-step d s noExpr p (rw (sym e ∙ h))))
 
   -- the body, by the kind's number
-  pub expr-at : {b : Bool} {n : ℕ} → (d ≡ 0 → ⊥) → b ≡ isRecord s → b ≡ true → n ≡ kindNumber s → r ≡ f (exprBody (expr (d - 1)) s (exprKind n)) → r ≡ f (expr d s)
+  pub expr-at : {b : Bool} {n : ℕ} → (d ≡ 0 → ⊥) → b ≡ isRecord s → b ≡ true → n ≡ kindNumber s
+      → r ≡ f (exprBody (expr (d - 1)) s (exprKind n)) → r ≡ f (expr d s)
   unfolding exprHead
   expr-at {n = n} p e h k q = q ∙ ap f (sym (expr-step d s (exprKind n) p (rw (sym e ∙ h, k))))
 
@@ -50,7 +55,8 @@ module _ {A : Type 0} (f : Clause → A) (hs : List Head) (d p : ℕ) (s : List 
   unfolding clauseHead clauseBody
   clause-none n e h q = q ∙ ap f (sym (clause-step hs d p s noClause n (rw (sym e ∙ h))))
 
-  pub clause-at : {b : Bool} {m : ℕ} → (d ≡ 0 → ⊥) → b ≡ isRecord s → b ≡ true → m ≡ kindNumber s → r ≡ f (clauseBody hs (expr (d - 1)) (clause hs (d - 1)) p s (clauseKind m)) → r ≡ f (clause hs d p s)
+  pub clause-at : {b : Bool} {m : ℕ} → (d ≡ 0 → ⊥) → b ≡ isRecord s → b ≡ true → m ≡ kindNumber s
+      → r ≡ f (clauseBody hs (expr (d - 1)) (clause hs (d - 1)) p s (clauseKind m)) → r ≡ f (clause hs d p s)
   unfolding clauseHead
   clause-at {m = m} n e h k q = q ∙ ap f (sym (clause-step hs d p s (clauseKind m) n (rw (sym e ∙ h, k))))
 
@@ -69,7 +75,12 @@ kind-not e = rw e refl
 
 pub kind-binary : (k : ℕ) → 37 ≤ k → k < 44 → exprKind k ≡ binaryKind (opOf k)
 unfolding exprKind
-kind-binary k l u = rw (ne-eqb k 36 (λ e. omega arith), le-ltb k 32 (omega arith), le-ltb k 36 (omega arith), lt-ltb k 44 u) refl
+kind-binary k l u = rw (
+  ne-eqb k 36 (λ e. omega arith),
+  le-ltb k 32 (omega arith),
+  le-ltb k 36 (omega arith),
+  lt-ltb k 44 u,
+) refl
 
 pub kind-no-expr-low : (k : ℕ) → k < 32 → exprKind k ≡ noExpr
 unfolding exprKind
@@ -77,7 +88,12 @@ kind-no-expr-low k u = rw (ne-eqb k 36 (λ e. omega arith), lt-ltb k 32 u) refl
 
 pub kind-no-expr-high : (k : ℕ) → 44 ≤ k → exprKind k ≡ noExpr
 unfolding exprKind
-kind-no-expr-high k l = rw (ne-eqb k 36 (λ e. omega arith), le-ltb k 32 (omega arith), le-ltb k 36 (omega arith), le-ltb k 44 l) refl
+kind-no-expr-high k l = rw (
+  ne-eqb k 36 (λ e. omega arith),
+  le-ltb k 32 (omega arith),
+  le-ltb k 36 (omega arith),
+  le-ltb k 44 l,
+) refl
 
 pub kind-fulfilled : {k : ℕ} → k ≡ 16 → clauseKind k ≡ fulfilledKind
 unfolding clauseKind
@@ -97,7 +113,15 @@ kind-if e = rw e refl
 
 pub kind-join : (k : ℕ) → 20 ≤ k → k < 22 → clauseKind k ≡ joinKind (joinOf k)
 unfolding clauseKind
-kind-join k l u = rw (ne-eqb k 16 (λ e. omega arith), ne-eqb k 19 (λ e. omega arith), ne-eqb k 22 (λ e. omega arith), le-ltb k 17 (omega arith), le-ltb k 19 (omega arith), le-ltb k 20 l, lt-ltb k 22 u) refl
+kind-join k l u = rw (
+  ne-eqb k 16 (λ e. omega arith),
+  ne-eqb k 19 (λ e. omega arith),
+  ne-eqb k 22 (λ e. omega arith),
+  le-ltb k 17 (omega arith),
+  le-ltb k 19 (omega arith),
+  le-ltb k 20 l,
+  lt-ltb k 22 u,
+) refl
 
 pub kind-instance : {k : ℕ} → k ≡ 22 → clauseKind k ≡ instanceKind
 unfolding clauseKind
@@ -105,38 +129,52 @@ kind-instance e = rw e refl
 
 pub kind-no-clause-low : (k : ℕ) → k < 16 → clauseKind k ≡ noClause
 unfolding clauseKind
-kind-no-clause-low k u = rw (ne-eqb k 16 (λ e. omega arith), ne-eqb k 19 (λ e. omega arith), ne-eqb k 22 (λ e. omega arith), lt-ltb k 17 (omega arith)) refl
+kind-no-clause-low k u = rw (
+  ne-eqb k 16 (λ e. omega arith),
+  ne-eqb k 19 (λ e. omega arith),
+  ne-eqb k 22 (λ e. omega arith),
+  lt-ltb k 17 (omega arith),
+) refl
 
 pub kind-no-clause-high : (k : ℕ) → 23 ≤ k → clauseKind k ≡ noClause
 unfolding clauseKind
-kind-no-clause-high k l = rw (ne-eqb k 16 (λ e. omega arith), ne-eqb k 19 (λ e. omega arith), ne-eqb k 22 (λ e. omega arith), le-ltb k 17 (omega arith), le-ltb k 19 (omega arith), le-ltb k 20 (omega arith), le-ltb k 22 (omega arith)) refl
-
--- as a `match` with the arms 16, 17, 18..=21 and 22 leaves them
-pub kind-no-clause-below : (k : ℕ) → (k ≡ 16 → ⊥) → (k ≡ 17 → ⊥) → k < 18 → clauseKind k ≡ noClause
-kind-no-clause-below k f g u = kind-no-clause-low k (omega arith)
+kind-no-clause-high k l = rw (
+  ne-eqb k 16 (λ e. omega arith),
+  ne-eqb k 19 (λ e. omega arith),
+  ne-eqb k 22 (λ e. omega arith),
+  le-ltb k 17 (omega arith),
+  le-ltb k 19 (omega arith),
+  le-ltb k 20 (omega arith),
+  le-ltb k 22 (omega arith),
+) refl
 
 pub kind-no-clause-from : (k : ℕ) → (k ≡ 22 → ⊥) → 22 ≤ k → clauseKind k ≡ noClause
 kind-no-clause-from k f l = kind-no-clause-high k (omega arith)
 
 -- ---- a clause of kind 18 to 21 has two sides
 unfoldable pub sided : (List ℕ → Expr) → ℕ → List ℕ → ℕ → Clause → Clause → Clause
-sided e p s k t f = cond (eqb k 18) (choice (waitAt e p s 4) t f) (cond (eqb k 19) (if (e (part s 4 (recordEnd s 4))) t f) (join (joinOf k) t f))
+sided e p s k t f = cond (eqb k 18) (choice (waitAt e p s 4) t f)
+    (cond (eqb k 19) (if (e (part s 4 (recordEnd s 4))) t f) (join (joinOf k) t f))
 
-pub sided-choice : (e : List ℕ → Expr) (p : ℕ) (s : List ℕ) {k : ℕ} (t f : Clause) → k ≡ 18 → sided e p s k t f ≡ choice (waitAt e p s 4) t f
+pub sided-choice : (e : List ℕ → Expr) (p : ℕ) (s : List ℕ) {k : ℕ} (t f : Clause) → k ≡ 18
+    → sided e p s k t f ≡ choice (waitAt e p s 4) t f
 unfolding sided
 sided-choice e p s t f h = rw h refl
 
-pub sided-if : (e : List ℕ → Expr) (p : ℕ) (s : List ℕ) {k : ℕ} (t f : Clause) → k ≡ 19 → sided e p s k t f ≡ if (e (part s 4 (recordEnd s 4))) t f
+pub sided-if : (e : List ℕ → Expr) (p : ℕ) (s : List ℕ) {k : ℕ} (t f : Clause) → k ≡ 19
+    → sided e p s k t f ≡ if (e (part s 4 (recordEnd s 4))) t f
 unfolding sided
 sided-if e p s t f h = rw h refl
 
-pub sided-join : (e : List ℕ → Expr) (p : ℕ) (s : List ℕ) (k : ℕ) (t f : Clause) → 20 ≤ k → sided e p s k t f ≡ join (joinOf k) t f
+pub sided-join : (e : List ℕ → Expr) (p : ℕ) (s : List ℕ) (k : ℕ) (t f : Clause) → 20 ≤ k
+    → sided e p s k t f ≡ join (joinOf k) t f
 unfolding sided
 sided-join e p s k t f l = rw (ne-eqb k 18 (λ h. omega arith), ne-eqb k 19 (λ h. omega arith)) refl
 
 first-join : (k : ℕ) (s : List ℕ) → 20 ≤ k → firstClause k s ≡ 4
 unfolding firstClause
-first-join k s l = rw (ne-eqb k 17 (λ h. omega arith), ne-eqb k 18 (λ h. omega arith), ne-eqb k 19 (λ h. omega arith)) refl
+first-join k s l = rw (ne-eqb k 17 (λ h. omega arith), ne-eqb k 18 (λ h. omega arith), ne-eqb k 19 (λ h. omega arith))
+    refl
 
 -- the body of a clause, by where its clause parts begin and end
 module _ (hs : List Head) (e : List ℕ → Expr) (inner : ℕ → List ℕ → Clause) (p : ℕ) (s : List ℕ) where
@@ -146,7 +184,8 @@ module _ (hs : List Head) (e : List ℕ → Expr) (inner : ℕ → List ℕ → 
       let f = recordEnd s c in
       sided e p s k (inner (p + c) (part s c f)) (inner (p + f) (part s f (length s)))
 
-  pub body-wait : {k : ℕ} → k ≡ 17 → clauseBody hs e inner p s (clauseKind k) ≡ obligation (byte s 4) (waitAt e p s 5) (inner (p + firstClause k s) (part s (firstClause k s) (length s)))
+  pub body-wait : {k : ℕ} → k ≡ 17 → clauseBody hs e inner p s (clauseKind k) ≡ obligation (byte s 4) (waitAt e p s 5)
+      (inner (p + firstClause k s) (part s (firstClause k s) (length s)))
   unfolding clauseBody clauseKind waitKind firstClause
   body-wait h = rw h refl
 
@@ -162,7 +201,11 @@ module _ (hs : List Head) (e : List ℕ → Expr) (inner : ℕ → List ℕ → 
   unfolding clauseBody
   two-join k l u =
       let t = recordEnd s 4 in
-      rw (kind-join k l u, first-join k s l, sided-join e p s k (inner (p + 4) (part s 4 t)) (inner (p + t) (part s t (length s))) l) refl
+      rw (
+        kind-join k l u,
+        first-join k s l,
+        sided-join e p s k (inner (p + 4) (part s 4 t)) (inner (p + t) (part s t (length s))) l,
+      ) refl
 
   pub body-two : (k : ℕ) → 18 ≤ k → k < 22 → clauseBody hs e inner p s (clauseKind k) ≡ Two k
   body-two k l u = first (decLe k 18) (decLe k 19)
@@ -173,9 +216,16 @@ module _ (hs : List Head) (e : List ℕ → Expr) (inner : ℕ → List ℕ → 
       first (no h) (no g) = two-join k (omega arith) u
 
 -- f of the tree, by what the code knows: c and z are what calls gave
-module _ {A : Type 0} (f : Clause → A) (hs : List Head) (d p : ℕ) (s : List ℕ) {r : A} {b : Bool} {m : ℕ} (n : d ≡ 0 → ⊥) (g : b ≡ isRecord s) (h : b ≡ true) (k : m ≡ kindNumber s) where
-  pub clause-wait : {c : ℕ} → m ≡ 17 → c ≡ firstClause m s → r ≡ f (obligation (byte s 4) (waitAt (expr (d - 1)) p s 5) (clause hs (d - 1) (p + c) (part s c (length s)))) → r ≡ f (clause hs d p s)
-  clause-wait {c} e i q = clause-at f hs d p s n g h k (q ∙ ap f (rw i (sym (body-wait hs (expr (d - 1)) (clause hs (d - 1)) p s e))))
+module _ {A : Type 0} (f : Clause → A) (hs : List Head) (d p : ℕ) (s : List ℕ) {r : A} {b : Bool} {m : ℕ}
+    (n : d ≡ 0 → ⊥) (g : b ≡ isRecord s) (h : b ≡ true) (k : m ≡ kindNumber s) where
+  pub clause-wait : {c : ℕ} → m ≡ 17 → c ≡ firstClause m s
+      → r ≡ f (obligation (byte s 4) (waitAt (expr (d - 1)) p s 5) (clause hs (d - 1) (p + c) (part s c (length s))))
+      → r ≡ f (clause hs d p s)
+  clause-wait {c} e i q = clause-at f hs d p s n g h k
+      (q ∙ ap f (rw i (sym (body-wait hs (expr (d - 1)) (clause hs (d - 1)) p s e))))
 
-  pub clause-two : {c z : ℕ} → 18 ≤ m → m < 22 → c ≡ firstClause m s → z ≡ recordEnd s c → r ≡ f (sided (expr (d - 1)) p s m (clause hs (d - 1) (p + c) (part s c z)) (clause hs (d - 1) (p + z) (part s z (length s)))) → r ≡ f (clause hs d p s)
-  clause-two {c} {z} l u i j q = clause-at f hs d p s n g h k (q ∙ ap f (rw (j, i) (sym (body-two hs (expr (d - 1)) (clause hs (d - 1)) p s m l u))))
+  pub clause-two : {c z : ℕ} → 18 ≤ m → m < 22 → c ≡ firstClause m s → z ≡ recordEnd s c
+      → r ≡ f (sided (expr (d - 1)) p s m (clause hs (d - 1) (p + c) (part s c z))
+      (clause hs (d - 1) (p + z) (part s z (length s)))) → r ≡ f (clause hs d p s)
+  clause-two {c} {z} l u i j q = clause-at f hs d p s n g h k
+      (q ∙ ap f (rw (j, i) (sym (body-two hs (expr (d - 1)) (clause hs (d - 1)) p s m l u))))

@@ -8,7 +8,8 @@ use lib.ListN.{length, getD}
 use Rattle.csl.specs.Lists.{all}
 use Rattle.csl.specs.Bytes.{byte, part, recordEnd}
 use Rattle.csl.specs.Syntax.{Head}
-use Rattle.csl.specs.Decode.{piecesEnd, templatesPlace, mainPlace, readingTypeOk, templateOk, templateHead, readingPieces, templatePieces, waitEnd}
+use Rattle.csl.specs.Decode.{piecesEnd, templatesPlace, mainPlace, readingTypeOk, templateOk, templateHead}
+use Rattle.csl.specs.Decode.{readingPieces, templatePieces, waitEnd}
 
 -- ---- the places of reading type k + 1 and of template k, and their bytes
 abbrev pub readingPlace : List ℕ → ℕ → ℕ

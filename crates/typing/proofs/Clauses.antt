@@ -34,7 +34,8 @@ module _ (k a b : ℕ) {u : ℕ} (e : u ≡ bitOr a b) where
   unfolding sidesAs
   sides-other q = rw (ne-eqb k 21 q, e)
 
-pub joined-both : (k : ℕ) (t f : Typed) {a b : ℕ} {r : Typed} → t ≡ Parties a → f ≡ Parties b → r ≡ sidesAs k a b → r ≡ joinedAs k t f
+pub joined-both : (k : ℕ) (t f : Typed) {a b : ℕ} {r : Typed} → t ≡ Parties a → f ≡ Parties b → r ≡ sidesAs k a b
+    → r ≡ joinedAs k t f
 unfolding joinedAs
 joined-both k t f p q e = rw (p, q) e
 
@@ -46,4 +47,14 @@ pub joined-left : (k : ℕ) (t f : Typed) → t ≡ Untyped → Untyped ≡ join
 unfolding joinedAs
 joined-left k t f p = rw p
 
-pub ruleset sets = (small-of, blamed-yes, blamed-no, sides-many, sides-few, sides-other, joined-both, joined-right, joined-left)
+pub ruleset sets = (
+  small-of,
+  blamed-yes,
+  blamed-no,
+  sides-many,
+  sides-few,
+  sides-other,
+  joined-both,
+  joined-right,
+  joined-left,
+)

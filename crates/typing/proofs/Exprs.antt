@@ -15,14 +15,17 @@ use lib.IntN.{ℤ, natAbs}
 use lib.Signed.{ltZ, mag}
 use Rattle.csl.specs.Numbers.{limit, top, bottom, inRange, Arithmetic}
 use Rattle.csl.specs.Bytes.{byte, signed32, part, isRecord, kindNumber, recordEnd}
-use Rattle.csl.specs.Syntax.{Ty, number, truth, party, Op, arithmetic, conj, less, equal, Expr, numberLit, truthLit, partyLit, variable, negation, binary, badExpr}
-use Rattle.csl.specs.Decode.{numberKind, truthKind, partyKind, variableKind, leafKind, arithmeticOf, opOf, exprBody, exprKind, exprHead, noExpr, ofLength, expr, tyOf, tysOf}
+use Rattle.csl.specs.Syntax.{Ty, number, truth, party, Op, arithmetic, conj, less, equal, Expr, numberLit, truthLit}
+use Rattle.csl.specs.Syntax.{partyLit, variable, negation, binary, badExpr}
+use Rattle.csl.specs.Decode.{numberKind, truthKind, partyKind, variableKind, leafKind, arithmeticOf, opOf, exprBody}
+use Rattle.csl.specs.Decode.{exprKind, exprHead, noExpr, ofLength, expr, tyOf, tysOf}
 use Rattle.csl.specs.Typing.{typeExpr, sameTy, operand, result}
 use Rattle.arith.proofs.Ints.{by, some-bits, seen, read! }
 use Rattle.arith.proofs.Linear.{ints, parts, up-pos, dn-pos, up-neg, dn-neg}
 use Rattle.arith.proofs.Bytes.{whole-from}
 use Rattle.records.proofs.Trees.{kind-leaf, kind-not, kind-binary, kind-no-expr-low, kind-no-expr-high}
-use Rattle.typing.specs.Types.{byteType, recordKind, tyNumber, typeNumber, sightType, literalType, leafType, notType, operandType, resultType, operationType}
+use Rattle.typing.specs.Types.{byteType, recordKind, tyNumber, typeNumber, sightType, literalType, leafType}
+use Rattle.typing.specs.Types.{notType, operandType, resultType, operationType}
 
 -- ---- the value in sight at i
 pub byte-type : (b : ℕ) → byteType b ≡ tyNumber (tyOf b)
@@ -46,34 +49,36 @@ sight-out [] i l = refl
 sight-out (b ∷ bs) zero l = absurd (not-suc-le-zero l)
 sight-out (b ∷ bs) (suc i) l = sight-out bs i (le-of-suc-le-suc l)
 
-pub ty-small : (t : Ty) → tyNumber t ≤ 3
-unfolding tyNumber
-ty-small number = omega arith
-ty-small truth = omega arith
-ty-small party = omega arith
-
 -- ---- leaves
 module _ (ps : ℕ) (bs : List ℕ) where
-  literal : (n : ℕ) (s : List ℕ) (b : Bool) (e : Expr) (t : Ty) → typeExpr ps (tysOf bs) e ≡ (need b >>= λ _. some t) → literalType n s b (tyNumber t) ≡ typeNumber (typeExpr ps (tysOf bs) (ofLength n s e))
+  literal : (n : ℕ) (s : List ℕ) (b : Bool) (e : Expr) (t : Ty) → typeExpr ps (tysOf bs) e ≡ (need b >>= λ _. some t)
+      → literalType n s b (tyNumber t) ≡ typeNumber (typeExpr ps (tysOf bs) (ofLength n s e))
   unfolding ofLength typeExpr need _>>=_ typeNumber
-  literal n s b e t q = by (λ x. cond x (cond b (tyNumber t) 0) 0 ≡ typeNumber (typeExpr ps (tysOf bs) (cond x e badExpr))) (eqb (length s) n)
-      (λ _. rw q (by (λ y. cond y (tyNumber t) 0 ≡ typeNumber (need y >>= λ _. some t)) b (λ _. refl) (λ _. refl))) (λ _. refl)
+  literal n s b e t q = by (λ x. cond x (cond b (tyNumber t) 0) 0 ≡ typeNumber
+      (typeExpr ps (tysOf bs) (cond x e badExpr))) (eqb (length s) n)
+      (λ _. rw q (by (λ y. cond y (tyNumber t) 0 ≡ typeNumber (need y >>= λ _. some t)) b (λ _. refl) (λ _. refl)))
+      (λ _. refl)
 
-  seen-by : (i : ℕ) (x : Bool) → cond x (sightType bs i) 0 ≡ typeNumber (typeExpr ps (tysOf bs) (cond x (variable i) badExpr))
+  seen-by : (i : ℕ) (x : Bool) → cond x (sightType bs i) 0 ≡ typeNumber
+      (typeExpr ps (tysOf bs) (cond x (variable i) badExpr))
   unfolding typeExpr typeNumber
   seen-by i true = refl
   seen-by i false = refl
 
   leaf-by : (f : List ℕ → Expr) (s : List ℕ) (x y z : Bool) →
-      cond x (literalType 8 s (inRange (signed32 s 4)) 1) (cond y (literalType 5 s (leb (byte s 4) 1) 2) (cond z (literalType 5 s (ltb (byte s 4) ps) 3) (cond (eqb (length s) 5) (sightType bs (byte s 4)) 0)))
-      ≡ typeNumber (typeExpr ps (tysOf bs) (exprBody f s (cond x numberKind (cond y truthKind (cond z partyKind variableKind)))))
+      cond x (literalType 8 s (inRange (signed32 s 4)) 1)
+      (cond y (literalType 5 s (leb (byte s 4) 1) 2)
+      (cond z (literalType 5 s (ltb (byte s 4) ps) 3) (cond (eqb (length s) 5) (sightType bs (byte s 4)) 0)))
+      ≡ typeNumber (typeExpr ps (tysOf bs) (exprBody f s
+      (cond x numberKind (cond y truthKind (cond z partyKind variableKind)))))
   unfolding exprBody typeExpr tyNumber ofLength
   leaf-by f s true y z = literal 8 s (inRange (signed32 s 4)) (numberLit (signed32 s 4)) number refl
   leaf-by f s false true z = literal 5 s (leb (byte s 4) 1) (truthLit (byte s 4)) truth refl
   leaf-by f s false false true = literal 5 s (ltb (byte s 4) ps) (partyLit (byte s 4)) party refl
   leaf-by f s false false false = seen-by (byte s 4) (eqb (length s) 5)
 
-  pub leaf-is : (f : List ℕ → Expr) (k : ℕ) (s : List ℕ) {r : ℕ} → r ≡ leafType ps bs k s → r ≡ typeNumber (typeExpr ps (tysOf bs) (exprBody f s (leafKind k)))
+  pub leaf-is : (f : List ℕ → Expr) (k : ℕ) (s : List ℕ) {r : ℕ} → r ≡ leafType ps bs k s
+      → r ≡ typeNumber (typeExpr ps (tysOf bs) (exprBody f s (leafKind k)))
   unfolding leafType leafKind
   leaf-is f k s e = e ∙ leaf-by f s (eqb k 32) (eqb k 33) (eqb k 34)
 
@@ -120,7 +125,10 @@ same-zero : (x : Bool) → _≡_ {A = ℕ} (cond x 0 0) 0
 same-zero true = refl
 same-zero false = refl
 
-sides : (s : Ty) (y : Option Ty) (w t : Ty) → cond (eqb (tyNumber s) 0) 0 (cond (eqb (tyNumber s) (tyNumber w)) (cond (eqb (typeNumber y) (tyNumber w)) (tyNumber t) 0) 0) ≡ typeNumber (y >>= λ u. need (sameTy s w && sameTy u w) >>= λ _. some t)
+sides : (s : Ty) (y : Option Ty) (w t : Ty)
+    → cond (eqb (tyNumber s) 0) 0 (cond (eqb (tyNumber s) (tyNumber w))
+    (cond (eqb (typeNumber y) (tyNumber w)) (tyNumber t) 0) 0) ≡ typeNumber
+    (y >>= λ u. need (sameTy s w && sameTy u w) >>= λ _. some t)
 unfolding typeNumber _>>=_ need
 sides s none w t = rw (no-zero s, zero-no w) (same-zero (eqb (tyNumber s) (tyNumber w)))
 sides s (some u) w t = rw (no-zero s, same-number s w, same-number u w) (two t (sameTy s w) (sameTy u w))
@@ -131,8 +139,12 @@ kindsOp p q r o = cond p conj (cond q less (cond r equal (arithmetic o)))
 abbrev wantedBy : Bool → Bool → Bool → ℕ → ℕ
 wantedBy p q r a = cond p 2 (cond q 1 (cond r a 1))
 
-operation-by : (p q r : Bool) (o : Arithmetic) (x y : Option Ty) → cond (eqb (typeNumber x) 0) 0 (cond (eqb (typeNumber x) (wantedBy p q r (typeNumber x))) (cond (eqb (typeNumber y) (wantedBy p q r (typeNumber x))) (cond p 2 (cond q 2 (cond r 2 1))) 0) 0)
-    ≡ typeNumber (x >>= λ s. y >>= λ t. need (sameTy s (operand (kindsOp p q r o) s) && sameTy t (operand (kindsOp p q r o) s)) >>= λ _. some (result (kindsOp p q r o)))
+operation-by : (p q r : Bool) (o : Arithmetic) (x y : Option Ty)
+    → cond (eqb (typeNumber x) 0) 0 (cond (eqb (typeNumber x) (wantedBy p q r (typeNumber x)))
+    (cond (eqb (typeNumber y) (wantedBy p q r (typeNumber x))) (cond p 2 (cond q 2 (cond r 2 1))) 0) 0)
+    ≡ typeNumber (x >>= λ s. y >>= λ t. need
+    (sameTy s (operand (kindsOp p q r o) s) && sameTy t (operand (kindsOp p q r o) s)) >>= λ _. some
+    (result (kindsOp p q r o)))
 unfolding typeNumber _>>=_ operand result tyNumber
 operation-by p q r o none y = refl
 operation-by true q r o (some s) y = sides s y truth truth
@@ -141,31 +153,48 @@ operation-by false false true o (some s) y = sides s y s truth
 operation-by false false false o (some s) y = sides s y number number
 
 module _ (ps : ℕ) (env : List Ty) where
-  pub not-is : (e : Expr) {x r : ℕ} → r ≡ notType x → x ≡ typeNumber (typeExpr ps env e) → r ≡ typeNumber (typeExpr ps env (negation e))
+  pub not-is : (e : Expr) {x r : ℕ} → r ≡ notType x → x ≡ typeNumber (typeExpr ps env e)
+      → r ≡ typeNumber (typeExpr ps env (negation e))
   unfolding typeExpr
   not-is e p q = p ∙ ap notType q ∙ not-by (typeExpr ps env e)
 
-  pub operation-is : (k : ℕ) (e f : Expr) {x y r : ℕ} → r ≡ operationType k x y → x ≡ typeNumber (typeExpr ps env e) → y ≡ typeNumber (typeExpr ps env f) → r ≡ typeNumber (typeExpr ps env (binary (opOf k) e f))
+  pub operation-is : (k : ℕ) (e f : Expr) {x y r : ℕ} → r ≡ operationType k x y → x ≡ typeNumber (typeExpr ps env e)
+      → y ≡ typeNumber (typeExpr ps env f) → r ≡ typeNumber (typeExpr ps env (binary (opOf k) e f))
   unfolding typeExpr operationType operandType resultType opOf
-  operation-is k e f {x} {y} p q r = p ∙ ap (λ (n : ℕ). operationType k n y) q ∙ ap (λ (n : ℕ). operationType k (typeNumber (typeExpr ps env e)) n) r ∙ operation-by (eqb k 41) (eqb k 42) (eqb k 43) (arithmeticOf k) (typeExpr ps env e) (typeExpr ps env f)
+  operation-is k e f {x} {y} p q r = p ∙ ap (λ (n : ℕ). operationType k n y) q
+      ∙ ap (λ (n : ℕ). operationType k (typeNumber (typeExpr ps env e)) n) r
+      ∙ operation-by (eqb k 41) (eqb k 42) (eqb k 43) (arithmeticOf k) (typeExpr ps env e) (typeExpr ps env f)
 
 -- ---- a number in range, in the machine's tests
 module _ {z : ℤ} (f : mag z < 2 ^ 63) (w : ℤ) (e : z ≡ w) where
   pub range-over : ltZ top (seen z) ≡ true → false ≡ inRange w
   unfolding inRange
-  range-over l = sym (lt-leb (natAbs w) limit (omega (ints, parts w, up-pos limit, dn-pos limit, up-neg top, dn-neg top, rw e at (rw (read! f) at l))))
+  range-over l = sym (lt-leb (natAbs w) limit
+      (omega (ints, parts w, up-pos limit, dn-pos limit, up-neg top, dn-neg top, rw e at (rw (read! f) at l))))
 
   pub range-under : ltZ (seen z) bottom ≡ true → false ≡ inRange w
   unfolding inRange
-  range-under l = sym (lt-leb (natAbs w) limit (omega (ints, parts w, up-pos limit, dn-pos limit, up-neg top, dn-neg top, rw e at (rw (read! f) at l))))
+  range-under l = sym (lt-leb (natAbs w) limit
+      (omega (ints, parts w, up-pos limit, dn-pos limit, up-neg top, dn-neg top, rw e at (rw (read! f) at l))))
 
   pub range-in : ltZ top (seen z) ≡ false → ltZ (seen z) bottom ≡ false → true ≡ inRange w
   unfolding inRange
-  range-in l u = sym (le-leb (natAbs w) limit (omega (ints, parts w, up-pos limit, dn-pos limit, up-neg top, dn-neg top, rw e at (rw (read! f) at l), rw e at (rw (read! f) at u))))
+  range-in l u = sym (le-leb (natAbs w) limit
+      (omega (
+        ints,
+        parts w,
+        up-pos limit,
+        dn-pos limit,
+        up-neg top,
+        dn-neg top,
+        rw e at (rw (read! f) at l),
+        rw e at (rw (read! f) at u),
+      )))
 
 -- ---- what `leaf_type` finds
 module _ (ps : ℕ) (bs : List ℕ) (k : ℕ) (s : List ℕ) where
-  pub leaf-number : {b : Bool} {r : ℕ} → k ≡ 32 → b ≡ inRange (signed32 s 4) → r ≡ literalType 8 s b 1 → r ≡ leafType ps bs k s
+  pub leaf-number : {b : Bool} {r : ℕ} → k ≡ 32 → b ≡ inRange (signed32 s 4) → r ≡ literalType 8 s b 1
+      → r ≡ leafType ps bs k s
   unfolding leafType
   leaf-number e q h = rw (e, ← q) h
 
@@ -193,23 +222,27 @@ no-kind : exprKind 0 ≡ noExpr
 unfolding exprKind
 no-kind = refl
 
-body-by : (f : List ℕ → Expr) (s : List ℕ) (n : ℕ) (b : Bool) → exprBody f s (cond b (exprKind n) noExpr) ≡ exprBody f s (exprKind (cond b n 0))
+body-by : (f : List ℕ → Expr) (s : List ℕ) (n : ℕ) (b : Bool)
+    → exprBody f s (cond b (exprKind n) noExpr) ≡ exprBody f s (exprKind (cond b n 0))
 body-by f s n true = refl
 body-by f s n false = ap (exprBody f s) (sym no-kind)
 
 pub expr-is : (d : ℕ) (s : List ℕ) {k : ℕ} → k ≡ recordKind d s → expr d s ≡ exprBody (expr (d - 1)) s (exprKind k)
 unfolding recordKind expr exprHead exprBody
 expr-is zero s e = rw (e, no-kind)
-expr-is (suc d) s e = rw (e, ne-eqb (suc d) 0 (λ q. omega arith), sub-one) (body-by (expr d) s (kindNumber s) (isRecord s))
+expr-is (suc d) s e = rw (e, ne-eqb (suc d) 0 (λ q. omega arith), sub-one)
+    (body-by (expr d) s (kindNumber s) (isRecord s))
 
 module _ (d : ℕ) (s : List ℕ) {k : ℕ} (e : k ≡ recordKind d s) where
   pub kind-deep : 0 < k → 1 ≤ d
   unfolding recordKind
-  kind-deep l = by (λ b. 0 < cond b 0 (cond (isRecord s) (kindNumber s) 0) → 1 ≤ d) (eqb d 0) (λ q. λ h. absurd (not-suc-le-zero h)) (λ q. λ h. some-bits (eqb-false d 0 q)) (rw e at l)
+  kind-deep l = by (λ b. 0 < cond b 0 (cond (isRecord s) (kindNumber s) 0) → 1 ≤ d) (eqb d 0)
+      (λ q. λ h. absurd (not-suc-le-zero h)) (λ q. λ h. some-bits (eqb-false d 0 q)) (rw e at l)
 
   pub kind-room : 0 < k → 4 ≤ length s
   unfolding recordKind
-  kind-room l = by (λ b. 0 < cond (eqb d 0) 0 (cond b (kindNumber s) 0) → 4 ≤ length s) (isRecord s) (λ q h. whole-from s q .room) (λ q h. absurd (not-zero (eqb d 0) h)) (rw e at l)
+  kind-room l = by (λ b. 0 < cond (eqb d 0) 0 (cond b (kindNumber s) 0) → 4 ≤ length s) (isRecord s)
+      (λ q h. whole-from s q .room) (λ q h. absurd (not-zero (eqb d 0) h)) (rw e at l)
     where
       not-zero : (b : Bool) → 0 < cond b 0 0 → ⊥
       not-zero true h = not-suc-le-zero h
@@ -245,16 +278,26 @@ module _ (d : ℕ) (s : List ℕ) {k : ℕ} (e : k ≡ recordKind d s) where
   expr-by f q = q ∙ ap f (sym (expr-is d s e))
 
 module _ (ps : ℕ) (bs : List ℕ) (d : ℕ) (s : List ℕ) {k : ℕ} (e : k ≡ recordKind d s) where
-  pub type-leaf : {r : ℕ} → 32 ≤ k → k < 36 → r ≡ leafType ps bs k s → r ≡ typeNumber (typeExpr ps (tysOf bs) (expr d s))
-  type-leaf l u q = expr-by d s e (λ x. typeNumber (typeExpr ps (tysOf bs) x)) (rw (kind-leaf k l u) (leaf-is ps bs (expr (d - 1)) k s q))
+  pub type-leaf : {r : ℕ} → 32 ≤ k → k < 36 → r ≡ leafType ps bs k s
+      → r ≡ typeNumber (typeExpr ps (tysOf bs) (expr d s))
+  type-leaf l u q = expr-by d s e (λ x. typeNumber (typeExpr ps (tysOf bs) x))
+      (rw (kind-leaf k l u) (leaf-is ps bs (expr (d - 1)) k s q))
 
-  pub type-not : {x r : ℕ} → k ≡ 36 → r ≡ notType x → x ≡ typeNumber (typeExpr ps (tysOf bs) (expr (d - 1) (part s 4 (length s)))) → r ≡ typeNumber (typeExpr ps (tysOf bs) (expr d s))
+  pub type-not : {x r : ℕ} → k ≡ 36 → r ≡ notType x
+      → x ≡ typeNumber (typeExpr ps (tysOf bs) (expr (d - 1) (part s 4 (length s))))
+      → r ≡ typeNumber (typeExpr ps (tysOf bs) (expr d s))
   unfolding exprBody
-  type-not l q t = expr-by d s e (λ x. typeNumber (typeExpr ps (tysOf bs) x)) (rw (kind-not l) (not-is ps (tysOf bs) (expr (d - 1) (part s 4 (length s))) q t))
+  type-not l q t = expr-by d s e (λ x. typeNumber (typeExpr ps (tysOf bs) x))
+      (rw (kind-not l) (not-is ps (tysOf bs) (expr (d - 1) (part s 4 (length s))) q t))
 
-  pub type-operation : {x y c r : ℕ} → r ≡ operationType k x y → c ≡ recordEnd s 4 → x ≡ typeNumber (typeExpr ps (tysOf bs) (expr (d - 1) (part s 4 c))) → y ≡ typeNumber (typeExpr ps (tysOf bs) (expr (d - 1) (part s c (length s)))) → 36 ≤ k → (k ≡ 36 → ⊥) → k < 44 → r ≡ typeNumber (typeExpr ps (tysOf bs) (expr d s))
+  pub type-operation : {x y c r : ℕ} → r ≡ operationType k x y → c ≡ recordEnd s 4
+      → x ≡ typeNumber (typeExpr ps (tysOf bs) (expr (d - 1) (part s 4 c)))
+      → y ≡ typeNumber (typeExpr ps (tysOf bs) (expr (d - 1) (part s c (length s)))) → 36 ≤ k → (k ≡ 36 → ⊥) → k < 44
+      → r ≡ typeNumber (typeExpr ps (tysOf bs) (expr d s))
   unfolding exprBody
-  type-operation q c t v l n u = expr-by d s e (λ x. typeNumber (typeExpr ps (tysOf bs) x)) (rw (kind-binary k (omega arith) u) (operation-is ps (tysOf bs) k (expr (d - 1) (part s 4 (recordEnd s 4))) (expr (d - 1) (part s (recordEnd s 4) (length s))) q (rw c at t) (rw c at v)))
+  type-operation q c t v l n u = expr-by d s e (λ x. typeNumber (typeExpr ps (tysOf bs) x))
+      (rw (kind-binary k (omega arith) u) (operation-is ps (tysOf bs) k (expr (d - 1) (part s 4 (recordEnd s 4)))
+      (expr (d - 1) (part s (recordEnd s 4) (length s))) q (rw c at t) (rw c at v)))
 
   pub type-low : k < 32 → 0 ≡ typeNumber (typeExpr ps (tysOf bs) (expr d s))
   unfolding exprBody typeExpr typeNumber

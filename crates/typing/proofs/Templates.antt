@@ -12,7 +12,8 @@ use Rattle.csl.specs.Lists.{_>>=_, need, all}
 use Rattle.csl.specs.Bytes.{byte, le16, part, recordEnd}
 use Rattle.csl.specs.Parties.{member, members}
 use Rattle.csl.specs.Syntax.{Ty}
-use Rattle.csl.specs.Decode.{tysOf, templatesPlace, clause, pieces, piecesEnd, headsOf, bodyPlace, bodyOf, templateOf, templateHead, mainPlace, mainOf, templatePieces, agreementOf}
+use Rattle.csl.specs.Decode.{tysOf, templatesPlace, clause, pieces, piecesEnd, headsOf, bodyPlace, bodyOf, templateOf}
+use Rattle.csl.specs.Decode.{templateHead, mainPlace, mainOf, templatePieces, agreementOf}
 use Rattle.csl.specs.Typing.{Names, namesOf, isConstant, typeClause, typeTemplate, typeTemplates, headsIn}
 use Rattle.csl.specs.Typing as typing
 use Rattle.arith.proofs.Lists.{length-part, part-part}
@@ -29,7 +30,8 @@ use Rattle.typing.proofs.Instances.{values-part, untyped}
 use Rattle.typing.proofs.Typings.{typed-place, valid}
 
 -- ---- the body of template k, as code cuts its bytes out of the agreement
-module _ {places g : List ℕ} (x : Indexed places g) {k a n e : ℕ} (l : k < byte g 10) (p : a ≡ templatePlace g k) (q : n ≡ byte (pieceAt g (templatePlace g k)) 4) (r : e ≡ recordEnd g a) where
+module _ {places g : List ℕ} (x : Indexed places g) {k a n e : ℕ} (l : k < byte g 10) (p : a ≡ templatePlace g k)
+    (q : n ≡ byte (pieceAt g (templatePlace g k)) 4) (r : e ≡ recordEnd g a) where
   body-long : templatePlace g k + 8 + byte (pieceAt g (templatePlace g k)) 4 ≤ recordEnd g (templatePlace g k)
   body-long =
       let t = templatePlace g k in
@@ -38,21 +40,27 @@ module _ {places g : List ℕ} (x : Indexed places g) {k a n e : ℕ} (l : k < b
   pub body-start : a + 8 + n ≤ e
   body-start = rw (r, q, p) body-long
 
-  body-part : part (pieceAt g (templatePlace g k)) (8 + byte (pieceAt g (templatePlace g k)) 4) (length (pieceAt g (templatePlace g k))) ≡ part g (a + 8 + n) e
+  body-part : part (pieceAt g (templatePlace g k)) (8 + byte (pieceAt g (templatePlace g k)) 4)
+      (length (pieceAt g (templatePlace g k))) ≡ part g (a + 8 + n) e
   body-part =
       let t = templatePlace g k in
       let z = recordEnd g t in
       let b = byte (pieceAt g t) 4 in
       let u : t + (z - t) ≡ z = omega (arith, body-long) in
       let v : t + (8 + b) ≡ t + 8 + b = omega arith in
-      rw (r, q, p) (ap (λ (m : ℕ). part (pieceAt g t) (8 + b) m) (length-part g t z (record-end-within g t)) ∙ part-part g t z (8 + b) (z - t) (omega arith) ∙ rw (u, v))
+      rw (r, q, p) (ap (λ (m : ℕ). part (pieceAt g t) (8 + b) m) (length-part g t z (record-end-within g t))
+      ∙ part-part g t z (8 + b) (z - t) (omega arith) ∙ rw (u, v))
 
-  pub body-typed : {m : ℕ} {t : Typed} → m ≡ headAt g k .params → t ≡ typedAs (typeClause (namesIn g m) (tysOf (part g (a + 5) (a + 5 + n))) (clause (headsOf g) 22 0 (part g (a + 8 + n) e))) → t ≡ typedAs (bodyTyped g k)
+  pub body-typed : {m : ℕ} {t : Typed} → m ≡ headAt g k .params
+      → t ≡ typedAs (typeClause (namesIn g m) (tysOf (part g (a + 5) (a + 5 + n)))
+      (clause (headsOf g) 22 0 (part g (a + 8 + n) e))) → t ≡ typedAs (bodyTyped g k)
   unfolding bodyOf bodyPlace
   body-typed {m} h f =
       let t = templatePlace g k in
       let b = 8 + byte (pieceAt g t) 4 in
-      f ∙ rw (h, ← values-part x l p q, ← body-part) (ap typedAs (typed-place (namesIn g (headAt g k .params)) (headsOf g) 22 (headAt g k .values) 0 (t + b) (part (pieceAt g t) b (length (pieceAt g t)))))
+      f ∙ rw (h, ← values-part x l p q, ← body-part)
+      (ap typedAs (typed-place (namesIn g (headAt g k .params)) (headsOf g) 22 (headAt g k .values) 0 (t + b)
+      (part (pieceAt g t) b (length (pieceAt g t)))))
 
 pub ruleset bodies = (body-start, body-typed)
 
@@ -63,7 +71,9 @@ within d qs = all (λ q. elim (isConstant q) [ true ↦ member q (members d) | f
 abbrev declaredAt : List ℕ → ℕ → ℕ
 declaredAt g k = le16 (pieceAt g (templatePlace g k)) (6 + byte (pieceAt g (templatePlace g k)) 4)
 
-template-is : (g : List ℕ) (k : ℕ) → templateTyped g k ≡ (need (all (λ p. ltb p (byte g 8)) (members (declaredAt g k))) >>= λ _. bodyTyped g k >>= λ qs. need (within (declaredAt g k) qs))
+template-is : (g : List ℕ) (k : ℕ) → templateTyped g
+    k ≡ (need (all (λ p. ltb p (byte g 8)) (members (declaredAt g k))) >>= λ _. bodyTyped g k >>= λ qs. need
+    (within (declaredAt g k) qs))
 unfolding typeTemplate templateOf templateHead namesOf
 template-is g k = rw (heads-in g, parties-is g)
 
@@ -77,7 +87,8 @@ unfolding holds need
 holds-is true = refl
 holds-is false = refl
 
-from-typed : {C : Type 0} (o : Option (List ℕ)) {t : Typed} {m : ℕ} → t ≡ typedAs o → t ≡ Parties m → ((ps : List ℕ) → o ≡ some ps → m ≡ maskOf ps → C) → C
+from-typed : {C : Type 0} (o : Option (List ℕ)) {t : Typed} {m : ℕ} → t ≡ typedAs o → t ≡ Parties m
+    → ((ps : List ℕ) → o ≡ some ps → m ≡ maskOf ps → C) → C
 unfolding typedAs
 from-typed none e f c = let z : _≡_ {A = ℕ} 0 1 = cc in absurd (omega arith)
 from-typed (some ps) e f c = c ps refl (cc)
@@ -103,10 +114,13 @@ module _ {places g : List ℕ} (x : Indexed places g) (k : ℕ) {d : ℕ} (l : k
       unfolding holds _>>=_
       template-untyped u = sym (unfolded ∙ rw (from-untyped (bodyTyped g k) f u))
 
-      pub template-within : {m a : ℕ} {r : Bool} → d < 65_536 → t ≡ Parties m → a ≡ m % 65_536 → r ≡ eqb (bitOr a d) d → r ≡ holds (templateTyped g k)
+      pub template-within : {m a : ℕ} {r : Bool} → d < 65_536 → t ≡ Parties m → a ≡ m % 65_536 → r ≡ eqb (bitOr a d) d
+          → r ≡ holds (templateTyped g k)
       unfolding _>>=_
       template-within {r = r} s u v w = from-typed (bodyTyped g k) f u (λ qs y z.
-          masks.body-within qs s (valid x (headAt g k .params) (few-params x k l) (headAt g k .values) (bodyOf (headsOf g) (pieceOf g k)) qs y) z v w ∙ sym (unfolded ∙ rw y (holds-is (within (declaredAt g k) qs)) ∙ ap (λ (m : ℕ). within m qs) (sym p)))
+          masks.body-within qs s (valid x (headAt g k .params) (few-params x k l) (headAt g k .values)
+          (bodyOf (headsOf g) (pieceOf g k)) qs y) z v w
+          ∙ sym (unfolded ∙ rw y (holds-is (within (declaredAt g k) qs)) ∙ ap (λ (m : ℕ). within m qs) (sym p)))
 
 pub ruleset templates = (template-beyond, template-untyped, template-within)
 
@@ -129,10 +143,13 @@ module _ (g : List ℕ) (k : ℕ) {n : ℕ} (h : n ≡ byte g 10) where
   module _ (l : k < n) where
     one-more : templatesTyped g k ≡ (templateTyped g k >>= λ _. templatesTyped g (k + 1))
     unfolding typeTemplates pieces
-    one-more = let z : byte g 10 - k ≡ suc (byte g 10 - (k + 1)) = omega arith in rw (z, pieces-more k g (templatesPlace g))
+    one-more = let z : byte g 10 - k ≡ suc (byte g 10 - (k + 1)) = omega arith in
+        rw (z, pieces-more k g (templatesPlace g))
 
-    pub templates-more : {b c : Bool} → b ≡ holds (templateTyped g k) → b ≡ true → c ≡ holds (templatesTyped g (k + 1)) → c ≡ holds (templatesTyped g k)
-    templates-more p e q = q ∙ sym (ap holds one-more ∙ holds-then (templateTyped g k) (templatesTyped g (k + 1)) (sym p ∙ e))
+    pub templates-more : {b c : Bool} → b ≡ holds (templateTyped g k) → b ≡ true
+        → c ≡ holds (templatesTyped g (k + 1)) → c ≡ holds (templatesTyped g k)
+    templates-more p e q = q ∙ sym (ap holds one-more
+        ∙ holds-then (templateTyped g k) (templatesTyped g (k + 1)) (sym p ∙ e))
 
     pub templates-stop : {b : Bool} → b ≡ holds (templateTyped g k) → b ≡ false → false ≡ holds (templatesTyped g k)
     templates-stop p e = sym (ap holds one-more ∙ holds-not (templateTyped g k) (templatesTyped g (k + 1)) (sym p ∙ e))
@@ -153,18 +170,24 @@ unfolding holds _>>=_
 then-some none p e = absurd (true≢false (sym e))
 then-some (some u) p e = refl
 
-templates-are : (g : List ℕ) → agreementOf g .templates ≡ map (templateOf (headsOf g)) (pieces (byte g 10 - 0) g (templatePlace g 0))
+templates-are : (g : List ℕ) → agreementOf g .templates ≡ map (templateOf (headsOf g))
+    (pieces (byte g 10 - 0) g (templatePlace g 0))
 unfolding agreementOf templatePieces piecesEnd
 templates-are g = let z : byte g 10 - 0 ≡ byte g 10 = omega arith in rw z
 
-all-templates : (g : List ℕ) → typeTemplates (agreementOf g .parties) (agreementOf g .readings) (headsIn (agreementOf g .templates)) (agreementOf g .templates) ≡ templatesTyped g 0
+all-templates : (g : List ℕ) → typeTemplates (agreementOf g .parties) (agreementOf g .readings)
+    (headsIn (agreementOf g .templates)) (agreementOf g .templates) ≡ templatesTyped g 0
 all-templates g = rw (parties-is g, heads-in g, templates-are g)
 
-main-is : (n : Names) (env : List Ty) (g : List ℕ) → typeClause n env (agreementOf g .main) ≡ typeClause n env (clause (headsOf g) 23 0 (part g (mainPlace g) (length g)))
+main-is : (n : Names) (env : List Ty) (g : List ℕ)
+    → typeClause n env (agreementOf g .main) ≡ typeClause n env
+    (clause (headsOf g) 23 0 (part g (mainPlace g) (length g)))
 unfolding agreementOf mainOf
 main-is n env g = typed-place n (headsOf g) 23 env (mainPlace g) 0 (part g (mainPlace g) (length g))
 
-typed-is : (g : List ℕ) → typing.typed (agreementOf g) ≡ (templatesTyped g 0 >>= λ _. typeClause (namesIn g 0) [] (clause (headsOf g) 23 0 (part g (mainPlace g) (length g))))
+typed-is : (g : List ℕ) → typing.typed (agreementOf g) ≡
+    (templatesTyped g 0 >>= λ _. typeClause (namesIn g 0) []
+    (clause (headsOf g) 23 0 (part g (mainPlace g) (length g))))
 unfolding typing.typed
 typed-is g =
     ap (λ (o : Option (Unit {0})). o >>= λ _. typeClause (namesIn g 0) [] (agreementOf g .main)) (all-templates g)
@@ -174,7 +197,9 @@ module _ (g : List ℕ) {b : Bool} (p : b ≡ holds (templatesTyped g 0)) where
   pub agreement-stop : b ≡ false → Untyped ≡ typedAs (typing.typed (agreementOf g))
   agreement-stop e = untyped (typed-is g ∙ then-none (templatesTyped g 0) _ (sym p ∙ e))
 
-  pub agreement-main : {a : ℕ} {r : Typed} → b ≡ true → a ≡ mainPlace g → r ≡ typedAs (typeClause (namesIn g 0) (tysOf (part g 0 0)) (clause (headsOf g) 23 0 (part g a (length g)))) → r ≡ typedAs (typing.typed (agreementOf g))
+  pub agreement-main : {a : ℕ} {r : Typed} → b ≡ true → a ≡ mainPlace g
+      → r ≡ typedAs (typeClause (namesIn g 0) (tysOf (part g 0 0)) (clause (headsOf g) 23 0 (part g a (length g))))
+      → r ≡ typedAs (typing.typed (agreementOf g))
   unfolding tysOf
   agreement-main e f q = q ∙ rw f (ap typedAs (sym (typed-is g ∙ then-some (templatesTyped g 0) _ (sym p ∙ e))))
 

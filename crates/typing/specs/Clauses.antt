@@ -11,8 +11,10 @@ use lib.ListN.{length, take}
 use Rattle.csl.specs.Lists.{_>>=_, need, all}
 use Rattle.csl.specs.Bytes.{byte, part, recordEnd}
 use Rattle.csl.specs.Syntax.{Ty, number, truth, Expr, Wait, Head}
-use Rattle.csl.specs.Decode.{tysOf, waitAt, arguments, argumentsEnd, Piece, pieces, headsOf, bodyOf, templateOf, agreementOf}
-use Rattle.csl.specs.Typing.{Names, blameOk, typeExpr, hasType, haveTypes, readingOfType, thenSight, typeWait, typeClause, typeTemplate, typeTemplates, namesOf}
+use Rattle.csl.specs.Decode.{tysOf, waitAt, arguments, argumentsEnd, Piece, pieces, headsOf, bodyOf, templateOf}
+use Rattle.csl.specs.Decode.{agreementOf}
+use Rattle.csl.specs.Typing.{Names, blameOk, typeExpr, hasType, haveTypes, readingOfType, thenSight, typeWait}
+use Rattle.csl.specs.Typing.{typeClause, typeTemplate, typeTemplates, namesOf}
 use Rattle.records.specs.Index.{templatePlace, pieceAt, headAt}
 use Rattle.parties.specs.Masks.{maskOf, maskEnd, mayBlame}
 use Rattle.typing.specs.Types.{tyNumber, typeNumber}
@@ -32,14 +34,16 @@ pub record JoinedSight (bs vs : List ℕ) (r : ℕ) (out : List ℕ) : Type 0 wh
 
 -- what `then` sees of a reading of type k
 unfoldable pub thenOf : List (List Ty) → List Ty → ℕ → Option (List Ty)
-thenOf rs env k = readingOfType rs k >>= λ vs. need (leb (length (thenSight env vs)) 16) >>= λ _. some (thenSight env vs)
+thenOf rs env k = readingOfType rs k >>= λ vs. need (leb (length (thenSight env vs)) 16) >>= λ _. some
+    (thenSight env vs)
 
 -- ---- a wait
 unfoldable pub isTyped : ℕ → List Ty → Expr → Ty → Bool
 isTyped ps env e t = eqb (typeNumber (typeExpr ps env e)) (tyNumber t)
 
 unfoldable pub waitTyped : ℕ → List Ty → List Ty → Wait → Bool
-waitTyped ps inner env w = isTyped ps inner (w .condition) truth && isTyped ps env (w .after) number && isTyped ps env (w .within) number
+waitTyped ps inner env w = isTyped ps inner (w .condition) truth && isTyped ps env (w .after) number
+    && isTyped ps env (w .within) number
 
 -- what `then` sees
 unfoldable pub waitSight : Names → List Ty → Wait → Option (List Ty)
@@ -103,11 +107,13 @@ pieceOf s k = record { place = templatePlace s k; bytes = pieceAt s (templatePla
 
 -- the parties of template k's body
 abbrev pub bodyTyped : List ℕ → ℕ → Option (List ℕ)
-bodyTyped s k = typeClause (namesOf (agreementOf s) (headAt s k .params)) (headAt s k .values) (bodyOf (headsOf s) (pieceOf s k))
+bodyTyped s k = typeClause (namesOf (agreementOf s) (headAt s k .params)) (headAt s k .values)
+    (bodyOf (headsOf s) (pieceOf s k))
 
 abbrev pub templateTyped : List ℕ → ℕ → Option (Unit {0})
 templateTyped s k = typeTemplate (byte s 8) (agreementOf s .readings) (headsOf s) (templateOf (headsOf s) (pieceOf s k))
 
 -- the templates from k on
 abbrev pub templatesTyped : List ℕ → ℕ → Option (Unit {0})
-templatesTyped s k = typeTemplates (byte s 8) (agreementOf s .readings) (headsOf s) (map (templateOf (headsOf s)) (pieces (byte s 10 - k) s (templatePlace s k)))
+templatesTyped s k = typeTemplates (byte s 8) (agreementOf s .readings) (headsOf s)
+    (map (templateOf (headsOf s)) (pieces (byte s 10 - k) s (templatePlace s k)))

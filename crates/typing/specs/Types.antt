@@ -1,4 +1,5 @@
--- Types as the code has them: numbers, 0 where there is no type. proofs/Exprs.antt has it that the rules below are csl's.
+-- Types as the code has them: numbers, 0 where there is no type. proofs/Exprs.antt has it that the rules below are
+-- csl's.
 use mathlib.Core.Bool.{Bool, cond}
 use mathlib.Core.List.{List}
 use mathlib.Core.Option.{Option, none, some}
@@ -54,4 +55,5 @@ unfoldable pub resultType : ℕ → ℕ
 resultType k = cond (eqb k 41) 2 (cond (eqb k 42) 2 (cond (eqb k 43) 2 1))
 
 unfoldable pub operationType : ℕ → ℕ → ℕ → ℕ
-operationType k a b = cond (eqb a 0) 0 (cond (eqb a (operandType k a)) (cond (eqb b (operandType k a)) (resultType k) 0) 0)
+operationType k a b = cond (eqb a 0) 0 (cond (eqb a (operandType k a))
+    (cond (eqb b (operandType k a)) (resultType k) 0) 0)

@@ -1,17 +1,17 @@
 -- Cells read as numbers, parties and values.
-use mathlib.Core.Path.{_≡_, refl, sym, ap, ap₂, subst, _∙_}
-use mathlib.Core.Bool.{Bool, true, false, cond, not, _&&_, and-true}
+use mathlib.Core.Path.{_≡_, refl, sym, ap, _∙_}
+use mathlib.Core.Bool.{Bool, true, false, not, _&&_, and-true}
 use mathlib.Core.List.{List, [], _∷_, _++_, append-nil, append-assoc}
 use mathlib.Core.Option.{Option, none, some}
-use Prim.Native.Nat.{ℕ, zero, suc, _+_, _-_, _^_, _≤_, _<_, min}
+use Prim.Native.Nat.{ℕ, zero, suc, _+_, _-_, _^_, _≤_, _<_}
 use native.Mathlib.Decide.{decLe}
 use native.Mathlib.Numerals.{add-one}
 use native.Mathlib.Omega.{arith}
-use borrow.Author.Tests.{lt-ltb, le-ltb, le-leb, lt-leb, eq-eqb, ne-eqb, ltb-true, ltb-false}
+use borrow.Author.Tests.{lt-ltb, le-ltb, le-leb, lt-leb, ne-eqb, ltb-true}
 use lib.Dec.{T, leb, ltb, eqb}
 use lib.IntN.{ℤ, pos, negsuc, natAbs}
 use lib.ListN.{length, getD, take, drop, set}
-use lib.Seq.{drop-cons, take-suc-set, drop-length, take-length}
+use lib.Seq.{drop-cons, take-suc-set, drop-length}
 use lib.Bits.{bitOr, or-zero-l, or-add-and, and-le-r}
 use lib.Signed.{mag, ltZ, nonNeg, _≤ℤ_}
 use mir.Syntax.{w64}
@@ -20,7 +20,7 @@ use Rattle.arith.proofs.Ints.{seen, read, index-asked, index-given}
 use Rattle.arith.proofs.Linear.{ints, parts, up, dn}
 use Rattle.csl.specs.Lists.{_>>=_, need, all}
 use Rattle.csl.specs.Numbers.{inRange, limit}
-use Rattle.csl.specs.Syntax.{Ty, number, truth, party}
+use Rattle.csl.specs.Syntax.{truth, party}
 use Rattle.csl.specs.Decode.{tyOf, tysOf}
 use Rattle.csl.specs.Values.{asNat}
 use Rattle.csl.specs.Table.{isZero}
@@ -78,7 +78,8 @@ no-ones (negsuc n) h = ne-eqb (2 ^ 64 - suc n) 0 (λ e. omega arith)
 
 or-none : (a b : ℕ) → eqb (bitOr a b) 0 ≡ (eqb a 0 && eqb b 0)
 or-none zero b = ap (λ (n : ℕ). eqb n 0) (or-zero-l b)
-or-none (suc a) b = rw (ne-eqb (suc a) 0 (λ e. omega arith)) (ne-eqb (bitOr (suc a) b) 0 (λ e. omega (arith, or-add-and (suc a) b, and-le-r (suc a) b)))
+or-none (suc a) b = rw (ne-eqb (suc a) 0 (λ e. omega arith))
+    (ne-eqb (bitOr (suc a) b) 0 (λ e. omega (arith, or-add-and (suc a) b, and-le-r (suc a) b)))
 
 and-assoc : (a b c : Bool) → ((a && b) && c) ≡ (a && (b && c))
 and-assoc true b c = refl
@@ -88,18 +89,29 @@ module _ (zs : List ℤ) where
   abbrev From : ℕ → ℕ → Type 0
   From ones i = (i ≤ length zs) × (all isZero zs ≡ (eqb ones 0 && all isZero (drop i zs)))
 
-  pub zeros-more : (ones : ℕ) {i : ℕ} → i < length zs → mag (getD zs i (pos 0)) < 2 ^ 63 → From ones i → From (bitOr ones (ofZ w64 (getD zs i (pos 0)))) (i + 1)
+  pub zeros-more : (ones : ℕ) {i : ℕ} → i < length zs → mag (getD zs i (pos 0)) < 2 ^ 63 → From ones i
+      → From (bitOr ones (ofZ w64 (getD zs i (pos 0)))) (i + 1)
   unfolding all
   zeros-more ones {i} l h f =
-      let x = getD zs i (pos 0) in
-      (omega arith, f .1 ∙ rw (drop-cons zs i (pos 0) l, add-one i, or-none ones (ofZ w64 x), no-ones x h, and-assoc (eqb ones 0) (isZero x) (all isZero (drop (suc i) zs))))
+      let x = getD zs i (pos 0) in (
+        omega arith,
+        f .1 ∙ rw (
+          drop-cons zs i (pos 0) l,
+          add-one i,
+          or-none ones (ofZ w64 x),
+          no-ones x h,
+          and-assoc (eqb ones 0) (isZero x) (all isZero (drop (suc i) zs)),
+        ),
+      )
 
   pub zeros-last : (ones : ℕ) {i : ℕ} → length zs ≤ i → From ones i → eqb ones 0 ≡ all isZero zs
   unfolding all
-  zeros-last ones {i} l f = let e : i ≡ length zs = omega arith in sym (f .1 ∙ rw (e, drop-length zs, and-true (eqb ones 0)))
+  zeros-last ones {i} l f = let e : i ≡ length zs = omega arith in
+      sym (f .1 ∙ rw (e, drop-length zs, and-true (eqb ones 0)))
 
 -- ---- parties
-party-is : {r : ℕ} (ps : ℕ) (z : ℤ) (rest : List ℤ) → r ≡ numberBelow ps z → r ≤ ps → (r ≡ ps → ⊥) → partiesIn ps (z ∷ rest) ≡ (partiesIn ps rest >>= λ ns. some (r ∷ ns))
+party-is : {r : ℕ} (ps : ℕ) (z : ℤ) (rest : List ℤ) → r ≡ numberBelow ps z → r ≤ ps → (r ≡ ps → ⊥)
+    → partiesIn ps (z ∷ rest) ≡ (partiesIn ps rest >>= λ ns. some (r ∷ ns))
 unfolding partiesIn numberBelow asNat need _>>=_
 party-is {r} ps (pos n) rest e l h =
     let same : n ≡ r = omega arith in
@@ -125,18 +137,29 @@ module _ (zs : List ℤ) (ps : ℕ) where
       go none = refl
       go (some ns) = refl
 
-  module _ {out : List ℕ} {i r : ℕ} (l : i < length zs) (e : r ≡ numberBelow ps (getD zs i (pos 0))) (h : Reads out i) where
-    pub reads-more : r ≤ ps → (r ≡ ps → ⊥) → i < length out → Reads (set out i r) (i + 1)
-    unfolding _>>=_
-    reads-more u f k = record { within = omega arith; same = h .same ∙ rw (drop-cons zs i (pos 0) l, party-is ps (getD zs i (pos 0)) (drop (suc i) zs) e u f, add-one i, take-suc-set out i r k) (go (partiesIn ps (drop (suc i) zs))) }
-      where
-        go : (o : Option (List ℕ)) → ((o >>= λ ns. some (r ∷ ns)) >>= λ ns. some (take i out ++ ns)) ≡ (o >>= λ ns. some ((take i out ++ (r ∷ [])) ++ ns))
-        go none = refl
-        go (some ns) = ap some (sym (append-assoc (take i out) (r ∷ []) ns))
+  module _ {out : List ℕ} {i r : ℕ} (l : i < length zs) (e : r ≡ numberBelow ps (getD zs i (pos 0))) (h : Reads out i)
+    where
+      pub reads-more : r ≤ ps → (r ≡ ps → ⊥) → i < length out → Reads (set out i r) (i + 1)
+      unfolding _>>=_
+      reads-more u f k = record {
+        within = omega arith;
+        same = h .same
+            ∙ rw (
+              drop-cons zs i (pos 0) l,
+              party-is ps (getD zs i (pos 0)) (drop (suc i) zs) e u f,
+              add-one i,
+              take-suc-set out i r k,
+            ) (go (partiesIn ps (drop (suc i) zs)));
+      }
+        where
+          go : (o : Option (List ℕ)) → ((o >>= λ ns. some (r ∷ ns)) >>= λ ns. some (take i out ++ ns)) ≡
+              (o >>= λ ns. some ((take i out ++ (r ∷ [])) ++ ns))
+          go none = refl
+          go (some ns) = ap some (sym (append-assoc (take i out) (r ∷ []) ns))
 
-    pub reads-not : r ≡ ps → partiesIn ps zs ≡ none
-    unfolding _>>=_
-    reads-not f = h .same ∙ rw (drop-cons zs i (pos 0) l, party-not ps (getD zs i (pos 0)) (drop (suc i) zs) e f) refl
+      pub reads-not : r ≡ ps → partiesIn ps zs ≡ none
+      unfolding _>>=_
+      reads-not f = h .same ∙ rw (drop-cons zs i (pos 0) l, party-not ps (getD zs i (pos 0)) (drop (suc i) zs) e f) refl
 
   pub reads-last : {out : List ℕ} {i : ℕ} → length zs ≤ i → Reads out i → partiesIn ps zs ≡ some (take (length zs) out)
   unfolding _>>=_ partiesIn
@@ -196,7 +219,8 @@ module _ (ps : ℕ) (ts : List ℕ) (zs : List ℤ) (room : length ts ≤ length
   pub values-first : ValuesFrom 0
   values-first = (omega arith, refl)
 
-  module _ {i : ℕ} {b : Bool} (l : i < length ts) (e : b ≡ valueOk ps (tyOf (getD ts i 0)) (getD zs i (pos 0))) (h : ValuesFrom i) where
+  module _ {i : ℕ} {b : Bool} (l : i < length ts) (e : b ≡ valueOk ps (tyOf (getD ts i 0)) (getD zs i (pos 0)))
+      (h : ValuesFrom i) where
     one-more : valuesOk ps (tysOf ts) zs ≡ (b && valuesOk ps (tysOf (drop (i + 1) ts)) (drop (i + 1) zs))
     unfolding valuesOk tysOf
     one-more = h .1 ∙ rw (drop-cons ts i 0 l, drop-cons zs i (pos 0) (omega arith), add-one i, e)

@@ -34,4 +34,5 @@ pub record WholeIn (a s : List ℕ) : Type 0 where
 -- r has the bits of the parties that its blames stand for, wherever it stands and at each depth
 pub record PartiesAre (a s params : List ℕ) (r : ℕ) : Type 0 where
   pub small : r < 65_536
-  pub each : (d p : ℕ) → T (whole (clauseIn a d p s)) → r ≡ bitsOf (standFor params (blamesOf (headsOf a) (clauseIn a d p s)))
+  pub each : (d p : ℕ) → T (whole (clauseIn a d p s))
+      → r ≡ bitsOf (standFor params (blamesOf (headsOf a) (clauseIn a d p s)))

@@ -1,12 +1,10 @@
 -- What is read out of a unit's cells.
-use mathlib.Core.Path.{_≡_}
 use mathlib.Core.Bool.{Bool, true, false, _&&_}
 use mathlib.Core.List.{List, [], _∷_}
-use mathlib.Core.Option.{Option, none, some}
-use Prim.Native.Nat.{ℕ, _≤_, _<_, min}
+use mathlib.Core.Option.{Option, some}
+use Prim.Native.Nat.{ℕ, min}
 use lib.Dec.{leb, ltb}
 use lib.IntN.{ℤ, pos, negsuc}
-use lib.ListN.{length, take}
 use Rattle.csl.specs.Lists.{_>>=_, need}
 use Rattle.csl.specs.Numbers.{inRange}
 use Rattle.csl.specs.Syntax.{Ty, number, truth, party}

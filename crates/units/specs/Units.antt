@@ -1,15 +1,15 @@
 -- What a waiting unit's cells show.
 use mathlib.Core.Path.{_≡_}
-use mathlib.Core.Bool.{Bool, true, false, cond, _&&_}
+use mathlib.Core.Bool.{true, cond}
 use mathlib.Core.List.{List, [], _∷_, _++_}
 use mathlib.Core.Option.{Option, none, some}
 use Prim.Native.Nat.{ℕ, _+_, _-_, _≤_, _<_}
 use lib.Dec.{eqb}
-use lib.IntN.{ℤ, pos, negsuc}
+use lib.IntN.{ℤ}
 use lib.ListN.{length, take, drop}
 use Rattle.csl.specs.Lists.{_>>=_, all}
 use Rattle.csl.specs.Parties.{member, bitsOf, subset}
-use Rattle.csl.specs.Syntax.{Ty, Agreement}
+use Rattle.csl.specs.Syntax.{Ty}
 use Rattle.csl.specs.Bytes.{byte, part, recordEnd}
 use Rattle.csl.specs.Decode.{tysOf, headsOf, agreementOf}
 use Rattle.csl.specs.Outcomes.{Sort, anObligation, aChoice, Residue, unit, both, units}
@@ -85,5 +85,6 @@ pub record UnitShows (a : List ℕ) (now : ℕ) (o : Option Residue) (bits n c :
   pub one : units residue ≡ 1
 
 unfoldable pub WaitingIs : List ℕ → ℕ → Sort → List ℤ → Waiting → Type 0
-WaitingIs a now s zs Damaged = (waitingUnit (agreementOf a) s zs >>= residueParties (agreementOf a) (mainsOf a) now) ≡ none
+WaitingIs a now s zs Damaged = (waitingUnit (agreementOf a) s zs >>= residueParties (agreementOf a) (mainsOf a) now) ≡
+    none
 WaitingIs a now s zs (Of bits n c) = UnitShows a now (waitingUnit (agreementOf a) s zs) bits n c

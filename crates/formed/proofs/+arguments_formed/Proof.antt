@@ -32,7 +32,14 @@ arguments-formed-below t =
 
 -- what a member may assume of its callees
 abbrev claims : ℕ → arguments-formed-lts.Claims
-claims t = (record-end-reads.Asked, record-end-reads.Learnt, expr-formed-reads.Asked, expr-formed-reads.Learnt, arguments-formed-below t, arguments-formed.Post)
+claims t = (
+  record-end-reads.Asked,
+  record-end-reads.Learnt,
+  expr-formed-reads.Asked,
+  expr-formed-reads.Learnt,
+  arguments-formed-below t,
+  arguments-formed.Post,
+)
 
 pub +arguments-formed-spec : {M : Type 1} → statement M
 +arguments-formed-spec = close μ-arguments-formed λ t. arguments-formed-lts.spec (claims t)

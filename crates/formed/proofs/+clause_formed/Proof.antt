@@ -34,7 +34,22 @@ clause-formed-below t =
 
 -- what a member may assume of its callees
 abbrev claims : ℕ → clause-formed-lts.Claims
-claims t = (is-record-reads.Asked, is-record-reads.Learnt, kind-reads.Asked, kind-reads.Learnt, first-clause-reads.Asked, first-clause-reads.Learnt, tests-formed-reads.Asked, tests-formed-reads.Learnt, clause-formed-below t, clause-formed.Post, instance-formed-reads.Asked, instance-formed-reads.Learnt, record-end-reads.Asked, record-end-reads.Learnt)
+claims t = (
+  is-record-reads.Asked,
+  is-record-reads.Learnt,
+  kind-reads.Asked,
+  kind-reads.Learnt,
+  first-clause-reads.Asked,
+  first-clause-reads.Learnt,
+  tests-formed-reads.Asked,
+  tests-formed-reads.Learnt,
+  clause-formed-below t,
+  clause-formed.Post,
+  instance-formed-reads.Asked,
+  instance-formed-reads.Learnt,
+  record-end-reads.Asked,
+  record-end-reads.Learnt,
+)
 
 pub +clause-formed-spec : {M : Type 1} → statement M
 +clause-formed-spec = close μ-clause-formed λ t. clause-formed-lts.spec (claims t) (clause-formed-at t)
@@ -42,8 +57,11 @@ pub +clause-formed-spec : {M : Type 1} → statement M
     (λ c. search clauses) (λ c κs. search clauses) (λ c. search clauses) (λ c. search clauses)
     (λ c κs. search clauses) (λ c κs. search clauses) (λ c κs. search clauses) (λ c. search clauses)
     (λ c. search clauses) (λ c. search clauses) (λ c κs. search clauses) (λ c κs. search clauses)
-    (λ c κs. search clauses) (λ c κs. search clauses) (λ c κs. search clauses) (λ c. search (sides-formed, both-off, not-true, not-false))
+    (λ c κs. search clauses) (λ c κs. search clauses) (λ c κs. search clauses)
+    (λ c. search (sides-formed, both-off, not-true, not-false))
     (λ c. search clauses) (λ c. search clauses) (λ c. search clauses) (λ c κs. search clauses)
     (λ c. search clauses) (λ c. search clauses) (λ c. search clauses) (λ c κs. search clauses)
-    (λ c. search clauses) (λ c. search (obligation-formed, both-on, not-false)) (λ c. search clauses) (λ c. search clauses)
-    (λ c. search (sides-formed, both-on, not-false)) (λ c. search (sides-formed, both-on, both-off, not-false)) (λ c. search clauses) (λ c. search clauses)
+    (λ c. search clauses) (λ c. search (obligation-formed, both-on, not-false)) (λ c. search clauses)
+    (λ c. search clauses)
+    (λ c. search (sides-formed, both-on, not-false)) (λ c. search (sides-formed, both-on, both-off, not-false))
+    (λ c. search clauses) (λ c. search clauses)

@@ -25,7 +25,16 @@ expr-formed-below t =
 
 -- what a member may assume of its callees
 abbrev claims : ℕ → expr-formed-lts.Claims
-claims t = (is-record-reads.Asked, is-record-reads.Learnt, kind-reads.Asked, kind-reads.Learnt, expr-formed-below t, expr-formed.Post, record-end-reads.Asked, record-end-reads.Learnt)
+claims t = (
+  is-record-reads.Asked,
+  is-record-reads.Learnt,
+  kind-reads.Asked,
+  kind-reads.Learnt,
+  expr-formed-below t,
+  expr-formed.Post,
+  record-end-reads.Asked,
+  record-end-reads.Learnt,
+)
 
 pub +expr-formed-spec : {M : Type 1} → statement M
 +expr-formed-spec = close μ-expr-formed λ t. expr-formed-lts.spec (claims t) (expr-formed-at t)

@@ -16,6 +16,10 @@ pub body-formed-spec : {M : Type 1} → statement M
 body-formed-spec = tie.close (tie.spec
     (λ c κs. search needs) (λ c κs. search needs) (λ c. search needs) (λ c. search needs) (λ c. search needs)
     (λ c κs. search needs) (λ c. search needs)
-    (λ c. body-room (c .before .before .before .before .before .before .pre) (c .before .before .before .template-place .ensures .0) (c .before .before .record-end .ensures .0) (c .value-count .ensures .0))
-    (λ c. body-room (c .before .before .before .before .before .before .pre) (c .before .before .before .template-place .ensures .0) (c .before .before .record-end .ensures .0) (c .value-count .ensures .0))
+    (λ c. body-room (c .before .before .before .before .before .before .pre)
+    (c .before .before .before .template-place .ensures .0) (c .before .before .record-end .ensures .0)
+    (c .value-count .ensures .0))
+    (λ c. body-room (c .before .before .before .before .before .before .pre)
+    (c .before .before .before .template-place .ensures .0) (c .before .before .record-end .ensures .0)
+    (c .value-count .ensures .0))
     (λ c. search needs) (λ c κs. search needs) returns)

@@ -11,4 +11,5 @@ unfolding testsWhole
 tests-formed-spec = tie.close (tie.spec
     (λ c κs. search needs) (λ c κs. search needs) (λ c κs. search needs) (λ c. search needs)
     (λ c. search needs) (λ c. search needs) (λ c κs. search needs)
-    (λ c. search (ends-at, keys)) (λ c. search (ends-at, keys)) (λ c. search (ends-at, keys)) (λ c. search (ends-at, keys)))
+    (λ c. search (ends-at, keys)) (λ c. search (ends-at, keys)) (λ c. search (ends-at, keys))
+    (λ c. search (ends-at, keys)))

@@ -30,7 +30,18 @@ ruleset laws = (guards, sides, formed, parts, needs)
 
 -- what a member may assume of its callees
 abbrev claims : ℕ → guarded-in-lts.Claims
-claims t = (kind-reads.Asked, kind-reads.Learnt, first-clause-reads.Asked, first-clause-reads.Learnt, record-end-reads.Asked, record-end-reads.Learnt, guarded-in-below t, guarded-in.Post, byte-reads.Asked, byte-reads.Learnt)
+claims t = (
+  kind-reads.Asked,
+  kind-reads.Learnt,
+  first-clause-reads.Asked,
+  first-clause-reads.Learnt,
+  record-end-reads.Asked,
+  record-end-reads.Learnt,
+  guarded-in-below t,
+  guarded-in.Post,
+  byte-reads.Asked,
+  byte-reads.Learnt,
+)
 
 pub +guarded-in-spec : {M : Type 1} → statement M
 +guarded-in-spec = close μ-guarded-in λ t. guarded-in-lts.spec (claims t) (guarded-in-at t) guarded-in.Post

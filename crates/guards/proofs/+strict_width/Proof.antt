@@ -36,7 +36,22 @@ ruleset laws = (stricts, formed, parts, needs)
 
 -- what a member may assume of its callees
 abbrev claims : ℕ → strict-width-lts.Claims
-claims t = (kind-reads.Asked, kind-reads.Learnt, first-clause-reads.Asked, first-clause-reads.Learnt, strict-width-below t, strict-width.Post, record-end-reads.Asked, record-end-reads.Learnt, with-sides-reads.Asked, with-sides-reads.Learnt, byte-reads.Asked, byte-reads.Learnt, width-of-reads.Asked, width-of-reads.Learnt)
+claims t = (
+  kind-reads.Asked,
+  kind-reads.Learnt,
+  first-clause-reads.Asked,
+  first-clause-reads.Learnt,
+  strict-width-below t,
+  strict-width.Post,
+  record-end-reads.Asked,
+  record-end-reads.Learnt,
+  with-sides-reads.Asked,
+  with-sides-reads.Learnt,
+  byte-reads.Asked,
+  byte-reads.Learnt,
+  width-of-reads.Asked,
+  width-of-reads.Learnt,
+)
 
 pub +strict-width-spec : {M : Type 1} → statement M
 +strict-width-spec = close μ-strict-width λ t. strict-width-lts.spec (claims t) (strict-width-at t)

@@ -30,7 +30,22 @@ ruleset laws = (widths, formed, parts, needs)
 
 -- what a member may assume of its callees
 abbrev claims : ℕ → width-lts.Claims
-claims t = (kind-reads.Asked, kind-reads.Learnt, first-clause-reads.Asked, first-clause-reads.Learnt, record-end-reads.Asked, record-end-reads.Learnt, width-below t, width.Post, with-sides-reads.Asked, with-sides-reads.Learnt, byte-reads.Asked, byte-reads.Learnt, width-of-reads.Asked, width-of-reads.Learnt)
+claims t = (
+  kind-reads.Asked,
+  kind-reads.Learnt,
+  first-clause-reads.Asked,
+  first-clause-reads.Learnt,
+  record-end-reads.Asked,
+  record-end-reads.Learnt,
+  width-below t,
+  width.Post,
+  with-sides-reads.Asked,
+  with-sides-reads.Learnt,
+  byte-reads.Asked,
+  byte-reads.Learnt,
+  width-of-reads.Asked,
+  width-of-reads.Learnt,
+)
 
 pub +width-spec : {M : Type 1} → statement M
 +width-spec = close μ-width λ t. width-lts.spec (claims t) (width-at t) width.Post

@@ -13,7 +13,9 @@ use Rattle.guards.proofs.bodies_narrow.Statement.{statement}
 use Rattle.guards.proofs.bodies_narrow.Tie as tie
 
 abbrev Inv-loop : tie.InvT-loop
-Inv-loop agreement places widths k₀ k-end k = (k ≤ k-end) × (all (λ t. allNarrow widths (t .body)) (agreementOf agreement .templates) ≡ all (λ t. allNarrow widths (t .body)) (templatesFrom agreement k))
+Inv-loop agreement places widths k₀ k-end k = (k ≤ k-end)
+    × (all (λ t. allNarrow widths (t .body)) (agreementOf agreement .templates) ≡ all
+    (λ t. allNarrow widths (t .body)) (templatesFrom agreement k))
 
 abbrev μ-loop : tie.MeasureT-loop
 μ-loop agreement places widths k₀ k-end k = k-end - k

@@ -12,7 +12,8 @@ use Rattle.guards.proofs.guarded.Statement.{statement}
 use Rattle.guards.proofs.guarded.Tie as tie
 
 abbrev Inv-loop : tie.InvT-loop
-Inv-loop agreement places k₀ k-end k = (k ≤ k-end) × (guardedFrom 0 (agreementOf agreement .templates) ≡ guardedFrom k (templatesFrom agreement k))
+Inv-loop agreement places k₀ k-end k = (k ≤ k-end)
+    × (guardedFrom 0 (agreementOf agreement .templates) ≡ guardedFrom k (templatesFrom agreement k))
 
 abbrev μ-loop : tie.MeasureT-loop
 μ-loop agreement places k₀ k-end k = k-end - k

@@ -81,8 +81,20 @@ descend-returns-3 t c =
 pub +descend-spec : {M : Type 1} → statement M
 +descend-spec = close μ-descend λ t. descend-lts.spec (claims t) (descend-at t) descend.Post
     (λ c κs. search needs) (λ c. search needs) (λ c. search needs) (λ c. search needs)
-    (λ c. omega (arith, into-room (c .before .before .before .before .before .step-down .ensures) (c .before .a .given .1) (c .before .before .before .before .before .before .before .before .before .before .before .pre .1 .3)))
-    (λ c. omega (arith, into-room (c .before .before .before .before .before .step-down .ensures) (c .before .a .given .1) (c .before .before .before .before .before .before .before .before .before .before .before .pre .1 .3)))
-    (λ c. omega (arith, into-room (c .before .before .before .before .before .step-down .ensures) (c .before .a .given .1) (c .before .before .before .before .before .before .before .before .before .before .before .pre .1 .3)))
+    (λ c. omega (
+      arith,
+      into-room (c .before .before .before .before .before .step-down .ensures)
+          (c .before .a .given .1) (c .before .before .before .before .before .before .before .before .before .before .before .pre .1 .3),
+    ))
+    (λ c. omega (
+      arith,
+      into-room (c .before .before .before .before .before .step-down .ensures)
+          (c .before .a .given .1) (c .before .before .before .before .before .before .before .before .before .before .before .pre .1 .3),
+    ))
+    (λ c. omega (
+      arith,
+      into-room (c .before .before .before .before .before .step-down .ensures)
+          (c .before .a .given .1) (c .before .before .before .before .before .before .before .before .before .before .before .pre .1 .3),
+    ))
     (descend-add-descend t) (descend-descend-requires t) (λ c. search needs) (descend-returns t)
     (λ c. search needs) (descend-returns-2 t) (λ c. search needs) (descend-returns-3 t)

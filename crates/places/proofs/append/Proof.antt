@@ -1,6 +1,6 @@
 -- At each turn what was there and the first i of `from` stand at the front.
 use borrow.Author.Needs.{needs}
-use mathlib.Core.Path.{_≡_, refl, _∙_}
+use mathlib.Core.Path.{_≡_, refl}
 use mathlib.Core.List.{_++_}
 use Prim.Native.Nat.{_+_, _-_, _≤_}
 use lib.ListN.{length, take, length-set}
@@ -9,7 +9,8 @@ use Rattle.places.proofs.append.Statement.{statement}
 use Rattle.places.proofs.append.Tie as tie
 
 abbrev Inv-loop : tie.InvT-loop
-Inv-loop out₀ n from i₀ out i = (i ≤ length from) × (length out ≡ length out₀) × (take (n + i) out ≡ take n out₀ ++ take i from)
+Inv-loop out₀ n from i₀ out i = (i ≤ length from) × (length out ≡ length out₀)
+    × (take (n + i) out ≡ take n out₀ ++ take i from)
 
 abbrev μ-loop : tie.MeasureT-loop
 μ-loop out₀ n from i₀ out i = length from - i

@@ -53,9 +53,21 @@ returns c =
 pub in-template-spec : {M : Type 1} → statement M
 in-template-spec = tie.close (tie.spec
     (λ c κs. search needs) (λ c κs. search needs) (λ c κs. search needs) (λ c κs. search needs)
-    (λ c. omega (arith, template-room (c .before .before .before .before .before .before .before .before .pre .0) (c .before .before .before .before .before .before .before .before .pre .1) (c .before .before .before .before .template-place .ensures .0) (c .before .before .before .record-end .ensures .0) (c .before .before .value-count .ensures .0)))
+    (λ c. omega (
+      arith,
+      template-room (c .before .before .before .before .before .before .before .before .pre .0)
+          (c .before .before .before .before .before .before .before .before .pre .1)
+          (c .before .before .before .before .template-place .ensures .0)
+          (c .before .before .before .record-end .ensures .0) (c .before .before .value-count .ensures .0),
+    ))
     (λ c. search needs) (λ c. search needs) (λ c. search needs) (λ c. search needs)
-    (λ c. omega (arith, template-room (c .before .before .before .before .before .before .before .before .pre .0) (c .before .before .before .before .before .before .before .before .pre .1) (c .before .before .before .before .template-place .ensures .0) (c .before .before .before .record-end .ensures .0) (c .before .before .value-count .ensures .0)))
+    (λ c. omega (
+      arith,
+      template-room (c .before .before .before .before .before .before .before .before .pre .0)
+          (c .before .before .before .before .before .before .before .before .pre .1)
+          (c .before .before .before .before .template-place .ensures .0)
+          (c .before .before .before .record-end .ensures .0) (c .before .before .value-count .ensures .0),
+    ))
     (λ c κs. search needs) (λ c. search needs) (λ c. search needs)
     (λ c. omega (arith, template-room (c .before .before .before .before .before .before .before .before .before .before .before .before .pre .0) (c .before .before .before .before .before .before .before .before .before .before .before .before .pre .1) (c .before .before .before .before .before .before .before .before .template-place .ensures .0) (c .before .before .before .before .before .before .before .record-end .ensures .0) (c .before .before .before .before .before .before .value-count .ensures .0)))
     (λ c. omega (arith, template-room (c .before .before .before .before .before .before .before .before .before .before .before .before .pre .0) (c .before .before .before .before .before .before .before .before .before .before .before .before .pre .1) (c .before .before .before .before .before .before .before .before .template-place .ensures .0) (c .before .before .before .before .before .before .before .record-end .ensures .0) (c .before .before .before .before .before .before .value-count .ensures .0)))

@@ -5,13 +5,14 @@ use Rattle.places.proofs.Descents.{Left, left-first, left-more, left-he
 use Rattle.arith.proofs.Lists.{length-part}
 use Rattle.csl.specs.Bytes.{byte}
 use lib.ListN.{length}
-use Prim.Native.Nat.{_-_, _≤_}
+use Prim.Native.Nat.{_-_}
 use native.Mathlib.Omega.{arith}
 use Rattle.places.proofs.locate.Statement.{statement}
 use Rattle.places.proofs.locate.Tie as tie
 
 abbrev Inv-loop : tie.InvT-loop
-Inv-loop agreement places place types₀ m k₀ k-end types k = (types ≡ types₀) × (k-end ≡ byte agreement 10) × Left agreement place k
+Inv-loop agreement places place types₀ m k₀ k-end types k = (types ≡ types₀) × (k-end ≡ byte agreement 10)
+    × Left agreement place k
 
 abbrev μ-loop : tie.MeasureT-loop
 μ-loop agreement places place types₀ m k₀ k-end types k = k-end - k

@@ -1,7 +1,9 @@
 -- Places increase in the order of the bytes, so one comparison tells which part holds the place.
 use borrow.Author.Needs.{needs}
 use mathlib.Core.Path.{refl}
-use Rattle.places.proofs.Steps.{typed-room, obligation-here, obligation-sees, obligation-into, choice-here, choice-sees, choice-then, choice-else, sides-left, sides-right, absent-low, absent-high}
+use Rattle.places.proofs.Steps.{typed-room, obligation-here, obligation-sees, obligation-into, choice-here}
+use Rattle.places.proofs.Steps.{choice-sees, choice-then, choice-else, sides-left, sides-right, absent-low}
+use Rattle.places.proofs.Steps.{absent-high}
 use Rattle.places.specs.Locate.{StepAt}
 use native.Mathlib.Omega.{arith}
 use Rattle.places.proofs.step_down.Statement.{statement}

@@ -54,13 +54,47 @@ returns c =
 pub then-sight-spec : {M : Type 1} → statement M
 then-sight-spec = tie.close (tie.spec
     sub-reading-place reading-place-requires (λ c κs. search needs)
-    (λ c. omega (arith, values-room (c .before .before .before .before .before .args .types .now) (c .before .before .before .before .before .args .count) (c .before .before .before .before .before .pre) (c .before .reading-place .ensures .0) (c .record-end .ensures .0)))
-    (λ c. omega (arith, values-room (c .before .before .before .before .before .args .types .now) (c .before .before .before .before .before .args .count) (c .before .before .before .before .before .pre) (c .before .reading-place .ensures .0) (c .record-end .ensures .0)))
+    (λ c. omega (
+      arith,
+      values-room (c .before .before .before .before .before .args .types .now)
+          (c .before .before .before .before .before .args .count) (c .before .before .before .before .before .pre)
+          (c .before .reading-place .ensures .0) (c .record-end .ensures .0),
+    ))
+    (λ c. omega (
+      arith,
+      values-room (c .before .before .before .before .before .args .types .now)
+          (c .before .before .before .before .before .args .count) (c .before .before .before .before .before .pre)
+          (c .before .reading-place .ensures .0) (c .record-end .ensures .0),
+    ))
     add-n
-    (λ c. omega (arith, values-room (c .before .before .before .before .before .before .args .types .now) (c .before .before .before .before .before .before .args .count) (c .before .before .before .before .before .before .pre) (c .before .before .reading-place .ensures .0) (c .before .record-end .ensures .0)))
-    (λ c. omega (arith, values-room (c .before .before .before .before .before .before .args .types .now) (c .before .before .before .before .before .before .args .count) (c .before .before .before .before .before .before .pre) (c .before .before .reading-place .ensures .0) (c .before .record-end .ensures .0)))
-    (λ c. omega (arith, values-room (c .before .before .before .before .before .before .args .types .now) (c .before .before .before .before .before .before .args .count) (c .before .before .before .before .before .before .pre) (c .before .before .reading-place .ensures .0) (c .before .record-end .ensures .0)))
-    (λ c. omega (arith, values-room (c .before .before .before .before .before .before .args .types .now) (c .before .before .before .before .before .before .args .count) (c .before .before .before .before .before .before .pre) (c .before .before .reading-place .ensures .0) (c .before .record-end .ensures .0)))
+    (λ c. omega (
+      arith,
+      values-room (c .before .before .before .before .before .before .args .types .now)
+          (c .before .before .before .before .before .before .args .count)
+          (c .before .before .before .before .before .before .pre) (c .before .before .reading-place .ensures .0)
+          (c .before .record-end .ensures .0),
+    ))
+    (λ c. omega (
+      arith,
+      values-room (c .before .before .before .before .before .before .args .types .now)
+          (c .before .before .before .before .before .before .args .count)
+          (c .before .before .before .before .before .before .pre) (c .before .before .reading-place .ensures .0)
+          (c .before .record-end .ensures .0),
+    ))
+    (λ c. omega (
+      arith,
+      values-room (c .before .before .before .before .before .before .args .types .now)
+          (c .before .before .before .before .before .before .args .count)
+          (c .before .before .before .before .before .before .pre) (c .before .before .reading-place .ensures .0)
+          (c .before .record-end .ensures .0),
+    ))
+    (λ c. omega (
+      arith,
+      values-room (c .before .before .before .before .before .before .args .types .now)
+          (c .before .before .before .before .before .before .args .count)
+          (c .before .before .before .before .before .before .pre) (c .before .before .reading-place .ensures .0)
+          (c .before .record-end .ensures .0),
+    ))
     append-requires
     (λ c. omega (arith, sight-room (c .before .before .before .before .before .before .before .before .before .before .args .types .now) (c .before .before .before .before .before .before .before .before .before .before .args .count) (c .before .before .before .before .before .before .before .before .before .before .pre) (c .before .before .before .before .before .before .reading-place .ensures .0) (c .before .before .before .before .before .record-end .ensures .0)))
     (λ c. omega (arith, sight-room (c .before .before .before .before .before .before .before .before .before .before .args .types .now) (c .before .before .before .before .before .before .before .before .before .before .args .count) (c .before .before .before .before .before .before .before .before .before .before .pre) (c .before .before .before .before .before .before .reading-place .ensures .0) (c .before .before .before .before .before .record-end .ensures .0)))

@@ -41,4 +41,5 @@ returns-5 c =
     }
 
 pub is-reading-spec : {M : Type 1} → statement M
-is-reading-spec = tie.close (tie.spec (λ c κs. search needs) returns (λ c κs. search needs) returns-2 returns-3 returns-4 returns-5)
+is-reading-spec = tie.close (tie.spec (λ c κs. search needs) returns (λ c κs. search needs) returns-2 returns-3
+    returns-4 returns-5)

@@ -58,4 +58,7 @@ returns-4 c =
     (at-byte3 .byte3 .ensures .0) (c .values-fit .ensures)
 
 pub is-typed-spec : {M : Type 1} → statement M
-is-typed-spec = tie.close (tie.spec returns (λ c κs. search needs) returns-2 (λ c. search needs) (λ c κs. search needs) (λ c κs. search needs) (λ c. search needs) (λ c. search needs) (λ c. search needs) (λ c κs. search needs) returns-3 (λ c κs. search needs) (λ c. search needs) sub-values-fit part-values-fit-start (λ c. search needs) slice-aggregate-values-fit values-fit-requires returns-4)
+is-typed-spec = tie.close (tie.spec returns (λ c κs. search needs) returns-2 (λ c. search needs)
+    (λ c κs. search needs) (λ c κs. search needs) (λ c. search needs) (λ c. search needs) (λ c. search needs)
+    (λ c κs. search needs) returns-3 (λ c κs. search needs) (λ c. search needs) sub-values-fit part-values-fit-start
+    (λ c. search needs) slice-aggregate-values-fit values-fit-requires returns-4)

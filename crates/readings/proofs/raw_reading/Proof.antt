@@ -38,4 +38,5 @@ returns-2 c =
     )
 
 pub raw-reading-spec : {M : Type 1} → statement M
-raw-reading-spec = tie.close (tie.spec (λ c κs. search needs) returns sub-n read-numbers-requires (λ c κs. search needs) (λ c κs. search needs) (λ c. search needs) returns-2)
+raw-reading-spec = tie.close (tie.spec (λ c κs. search needs) returns sub-n read-numbers-requires
+    (λ c κs. search needs) (λ c κs. search needs) (λ c. search needs) returns-2)

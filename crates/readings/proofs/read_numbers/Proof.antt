@@ -11,7 +11,8 @@ use Rattle.readings.proofs.read_numbers.Statement.{statement}
 use Rattle.readings.proofs.read_numbers.Tie as tie
 
 abbrev Inv-loop : tie.InvT-loop
-Inv-loop reading n values₀ i₀ a₀ values i a = (i ≤ n) × (length values ≡ 4) × (a ≡ 9 + 4 * i) × (take i values ≡ numbersFrom i reading 9)
+Inv-loop reading n values₀ i₀ a₀ values i a = (i ≤ n) × (length values ≡ 4) × (a ≡ 9 + 4 * i)
+    × (take i values ≡ numbersFrom i reading 9)
 
 abbrev μ-loop : tie.MeasureT-loop
 μ-loop reading n values₀ i₀ a₀ values i a = n - i
@@ -41,4 +42,5 @@ returns c =
     (l .inv .1, rw all at (l .inv .3))
 
 pub read-numbers-spec : {M : Type 1} → statement M
-read-numbers-spec = tie.close (tie.spec Inv-loop μ-loop loop-holds (λ c κs. search needs) (λ c. search needs) (λ c. omega arith) (λ c. omega arith) (λ c. search needs) (λ c. search needs) loop-again same-length returns)
+read-numbers-spec = tie.close (tie.spec Inv-loop μ-loop loop-holds (λ c κs. search needs) (λ c. search needs)
+    (λ c. omega arith) (λ c. omega arith) (λ c. search needs) (λ c. search needs) loop-again same-length returns)

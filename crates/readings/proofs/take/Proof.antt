@@ -46,4 +46,5 @@ returns-3 c =
     )
 
 pub take-spec : {M : Type 1} → statement M
-take-spec = tie.close (tie.spec (λ c κs. search needs) (λ c. search needs) (λ c. search needs) is-typed-requires (λ c. search needs) returns (λ c. search needs) returns-2 (λ c. search needs) returns-3)
+take-spec = tie.close (tie.spec (λ c κs. search needs) (λ c. search needs) (λ c. search needs) is-typed-requires
+    (λ c. search needs) returns (λ c. search needs) returns-2 (λ c. search needs) returns-3)

@@ -12,7 +12,8 @@ use Rattle.readings.proofs.values_fit.Tie as tie
 
 -- the values before i fit, so that all do where those from i on do
 abbrev Inv-loop : tie.InvT-loop
-Inv-loop types values parties i₀ i = (i ≤ length types) × (AllFit parties types values ≡ AllFit parties (drop i types) (drop i values))
+Inv-loop types values parties i₀ i = (i ≤ length types)
+    × (AllFit parties types values ≡ AllFit parties (drop i types) (drop i values))
 
 abbrev μ-loop : tie.MeasureT-loop
 μ-loop types values parties i₀ i = length types - i

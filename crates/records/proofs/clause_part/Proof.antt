@@ -23,4 +23,5 @@ unfolding firstClause
 returns-4 c = (search keys depth 9, omega arith, omega arith)
 
 pub clause-part-spec : {M : Type 1} → statement M
-clause-part-spec = tie.close (tie.spec (λ c κs. search needs) (λ c κs. search needs) (λ c κs. search needs) returns returns-2 returns-3 returns-4)
+clause-part-spec = tie.close (tie.spec (λ c κs. search needs) (λ c κs. search needs) (λ c κs. search needs) returns
+    returns-2 returns-3 returns-4)

@@ -29,4 +29,5 @@ returns-4 c =
     (b .before .before .if1 .left) (d .before .before .if2 .left) (c .before .if3 .left) (c .byte3 .ensures .0)
 
 pub counts-ok-spec : {M : Type 1} → statement M
-counts-ok-spec = tie.close (tie.spec (λ c κs. search needs) returns (λ c κs. search needs) (λ c κs. search needs) returns-2 (λ c κs. search needs) (λ c κs. search needs) returns-3 (λ c κs. search needs) returns-4)
+counts-ok-spec = tie.close (tie.spec (λ c κs. search needs) returns (λ c κs. search needs) (λ c κs. search needs)
+    returns-2 (λ c κs. search needs) (λ c κs. search needs) returns-3 (λ c κs. search needs) returns-4)

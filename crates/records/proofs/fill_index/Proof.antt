@@ -4,7 +4,8 @@ use mathlib.Core.Path.{_≡_, _∙_}
 use mathlib.Core.Bool.{false≢true}
 use native.Mathlib.Omega.{arith}
 use lib.ListN.{length, length-set}
-use Rattle.records.proofs.Listed.{counts-told, few-readings, listed-short, listed-uncounted, listed-no-reading, listed-last, indexed}
+use Rattle.records.proofs.Listed.{counts-told, few-readings, listed-short, listed-uncounted, listed-no-reading}
+use Rattle.records.proofs.Listed.{listed-last, indexed}
 use Rattle.records.proofs.fill_index.Statement.{statement}
 use Rattle.records.proofs.fill_index.Tie as tie
 
@@ -80,4 +81,6 @@ returns-4 c =
     )
 
 pub fill-index-spec : {M : Type 1} → statement M
-fill-index-spec = tie.close (tie.spec returns (λ c κs. search needs) returns-2 (λ c κs. search needs) (λ c κs. search needs) (λ c κs. search needs) returns-3 place-records-requires place-records-requires-2 (λ c. search needs) (λ c κs. search needs) same-length returns-4)
+fill-index-spec = tie.close (tie.spec returns (λ c κs. search needs) returns-2 (λ c κs. search needs)
+    (λ c κs. search needs) (λ c κs. search needs) returns-3 place-records-requires place-records-requires-2
+    (λ c. search needs) (λ c κs. search needs) same-length returns-4)

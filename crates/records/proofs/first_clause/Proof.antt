@@ -10,4 +10,5 @@ returns c =
     rw (part-all (at-start .args .s .now)) at (c .clause-part .ensures)
 
 pub first-clause-spec : {M : Type 1} → statement M
-first-clause-spec = tie.close (tie.spec (λ c. search needs) (λ c. search needs) (λ c. search needs) (λ c κs. search needs) returns)
+first-clause-spec = tie.close (tie.spec (λ c. search needs) (λ c. search needs) (λ c. search needs)
+    (λ c κs. search needs) returns)

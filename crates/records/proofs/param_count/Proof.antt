@@ -11,4 +11,5 @@ returns c =
     (c .byte .ensures .0)
 
 pub param-count-spec : {M : Type 1} → statement M
-param-count-spec = tie.close (tie.spec (λ c κs. search needs) (λ c κs. search needs) (λ c. search needs) (λ c. search needs) (λ c κs. search needs) returns)
+param-count-spec = tie.close (tie.spec (λ c κs. search needs) (λ c κs. search needs) (λ c. search needs)
+    (λ c. search needs) (λ c κs. search needs) returns)

@@ -13,7 +13,9 @@ use Rattle.records.proofs.place_records.Statement.{statement}
 use Rattle.records.proofs.place_records.Tie as tie
 
 abbrev Inv-loop : tie.InvT-loop
-Inv-loop agreement places₀ base from n a₀ i₀ places a i = (i ≤ n) × (length places ≡ length places₀) × (a ≡ piecesEnd i agreement from) × ((k : ℕ) → k < i → getD places (base + k) 0 ≡ piecesEnd k agreement from) × ((k : ℕ) → k < base → getD places k 0 ≡ getD places₀ k 0)
+Inv-loop agreement places₀ base from n a₀ i₀ places a i = (i ≤ n) × (length places ≡ length places₀)
+    × (a ≡ piecesEnd i agreement from) × ((k : ℕ) → k < i → getD places (base + k) 0 ≡ piecesEnd k agreement from)
+    × ((k : ℕ) → k < base → getD places k 0 ≡ getD places₀ k 0)
 
 abbrev μ-loop : tie.MeasureT-loop
 μ-loop agreement places₀ base from n a₀ i₀ places a i = n - i
@@ -61,4 +63,5 @@ returns c =
     )
 
 pub place-records-spec : {M : Type 1} → statement M
-place-records-spec = tie.close (tie.spec Inv-loop μ-loop loop-holds (λ c. omega arith) (λ c. search needs) slice-write-places (λ c κs. search needs) (λ c. omega arith) (λ c. omega arith) loop-again same-length returns)
+place-records-spec = tie.close (tie.spec Inv-loop μ-loop loop-holds (λ c. omega arith) (λ c. search needs)
+    slice-write-places (λ c κs. search needs) (λ c. omega arith) (λ c. omega arith) loop-again same-length returns)

@@ -35,4 +35,6 @@ returns-5 c =
     (sym (k .kind .ensures) ∙ b .before .if2 .left) (omega arith) (omega arith) (c .types-ok .ensures)
 
 pub reading-ok-spec : {M : Type 1} → statement M
-reading-ok-spec = tie.close (tie.spec (λ c κs. search needs) returns (λ c κs. search needs) returns-2 (λ c κs. search needs) returns-3 (λ c. search needs) returns-4 (λ c. search needs) (λ c. search needs) (λ c. search needs) (λ c κs. search needs) returns-5)
+reading-ok-spec = tie.close (tie.spec (λ c κs. search needs) returns (λ c κs. search needs) returns-2
+    (λ c κs. search needs) returns-3 (λ c. search needs) returns-4 (λ c. search needs) (λ c. search needs)
+    (λ c. search needs) (λ c κs. search needs) returns-5)

@@ -10,7 +10,8 @@ use Rattle.records.proofs.records_ok.Tie as tie
 
 -- the records before a are as listed, so that all are where those from a on are
 abbrev Inv-loop : tie.InvT-loop
-Inv-loop agreement from n kind a₀ left₀ a left = (a ≤ length agreement) × (AllOk kind agreement n from ≡ AllOk kind agreement left a)
+Inv-loop agreement from n kind a₀ left₀ a left = (a ≤ length agreement)
+    × (AllOk kind agreement n from ≡ AllOk kind agreement left a)
 
 abbrev μ-loop : tie.MeasureT-loop
 μ-loop agreement from n kind a₀ left₀ a left = left
@@ -42,4 +43,6 @@ returns-2 c =
     (c .loop-test .left) ∙ sym (l .inv .1)
 
 pub records-ok-spec : {M : Type 1} → statement M
-records-ok-spec = tie.close (tie.spec Inv-loop μ-loop loop-holds (λ c κs. search needs) (λ c. search needs) (λ c. search needs) (λ c. search needs) (λ c κs. search needs) returns (λ c. omega arith) (λ c. omega arith) loop-again returns-2)
+records-ok-spec = tie.close (tie.spec Inv-loop μ-loop loop-holds (λ c κs. search needs) (λ c. search needs)
+    (λ c. search needs) (λ c. search needs) (λ c κs. search needs) returns (λ c. omega arith) (λ c. omega arith)
+    loop-again returns-2)

@@ -52,4 +52,7 @@ returns-6 c =
     (sym (k .kind .ensures) ∙ at-byte .before .if2 .left) (omega arith) (omega arith) types
 
 pub template-ok-spec : {M : Type 1} → statement M
-template-ok-spec = tie.close (tie.spec (λ c κs. search needs) returns (λ c κs. search needs) returns-2 (λ c κs. search needs) returns-3 (λ c. search needs) returns-4 (λ c. search needs) (λ c. search needs) (λ c. search needs) (λ c. search needs) (λ c κs. search needs) returns-5 (λ c. search needs) (λ c κs. search needs) returns-6)
+template-ok-spec = tie.close (tie.spec (λ c κs. search needs) returns (λ c κs. search needs) returns-2
+    (λ c κs. search needs) returns-3 (λ c. search needs) returns-4 (λ c. search needs) (λ c. search needs)
+    (λ c. search needs) (λ c. search needs) (λ c κs. search needs) returns-5 (λ c. search needs)
+    (λ c κs. search needs) returns-6)

@@ -40,4 +40,5 @@ returns-2 c =
     types-end (l .before .before .args .types .now) (l .loop .i) (l .loop .inv .1) (c .loop-test .left)
 
 pub types-ok-spec : {M : Type 1} → statement M
-types-ok-spec = tie.close (tie.spec Inv-loop μ-loop loop-holds (λ c κs. search needs) (λ c κs. search needs) returns (λ c. omega arith) (λ c. omega arith) loop-again returns-2)
+types-ok-spec = tie.close (tie.spec Inv-loop μ-loop loop-holds (λ c κs. search needs) (λ c κs. search needs) returns
+    (λ c. omega arith) (λ c. omega arith) loop-again returns-2)

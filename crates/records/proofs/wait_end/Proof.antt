@@ -16,4 +16,5 @@ returns c =
     (c .record-end3 .ensures .0 ∙ e, omega arith, omega arith)
 
 pub wait-end-spec : {M : Type 1} → statement M
-wait-end-spec = tie.close (tie.spec (λ c. search needs) (λ c κs. search needs) (λ c κs. search needs) (λ c κs. search needs) returns)
+wait-end-spec = tie.close (tie.spec (λ c. search needs) (λ c κs. search needs) (λ c κs. search needs)
+    (λ c κs. search needs) returns)

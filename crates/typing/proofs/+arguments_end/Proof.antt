@@ -31,7 +31,16 @@ arguments-end-below t =
 
 -- what a member may assume of its callees
 abbrev claims : ℕ → arguments-end-lts.Claims
-claims t = (record-end-reads.Asked, record-end-reads.Learnt, part-type-reads.Asked, part-type-reads.Learnt, type-number-reads.Asked, type-number-reads.Learnt, arguments-end-below t, arguments-end.Post)
+claims t = (
+  record-end-reads.Asked,
+  record-end-reads.Learnt,
+  part-type-reads.Asked,
+  part-type-reads.Learnt,
+  type-number-reads.Asked,
+  type-number-reads.Learnt,
+  arguments-end-below t,
+  arguments-end.Post,
+)
 
 pub +arguments-end-spec : {M : Type 1} → statement M
 +arguments-end-spec = close μ-arguments-end λ t. arguments-end-lts.spec (claims t) (arguments-end-at t)

@@ -35,7 +35,16 @@ blamed-parties-below t =
 
 -- what a member may assume of its callees
 abbrev claims : ℕ → blamed-parties-lts.Claims
-claims t = (byte-reads.Asked, byte-reads.Learnt, blame-mask-reads.Asked, blame-mask-reads.Learnt, blamed-parties-below t, blamed-parties.Post, blamed-reads.Asked, blamed-reads.Learnt)
+claims t = (
+  byte-reads.Asked,
+  byte-reads.Learnt,
+  blame-mask-reads.Asked,
+  blame-mask-reads.Learnt,
+  blamed-parties-below t,
+  blamed-parties.Post,
+  blamed-reads.Asked,
+  blamed-reads.Learnt,
+)
 
 pub +blamed-parties-spec : {M : Type 1} → statement M
 +blamed-parties-spec = close μ-blamed-parties λ t. blamed-parties-lts.spec (claims t) (blamed-parties-at t)

@@ -47,7 +47,30 @@ ruleset laws = (clauses, rooms, small-typed, needs)
 
 -- what a member may assume of its callees
 abbrev claims : ℕ → clause-parties-lts.Claims
-claims t = (record-kind-reads.Asked, record-kind-reads.Learnt, fulfilled-parties-reads.Asked, fulfilled-parties-reads.Learnt, instance-parties-reads.Asked, instance-parties-reads.Learnt, first-sight-reads.Asked, first-sight-reads.Learnt, first-clause-reads.Asked, first-clause-reads.Learnt, first-end-reads.Asked, first-end-reads.Learnt, clause-parties-below t, clause-parties.Post, byte-reads.Asked, byte-reads.Learnt, blame-mask-reads.Asked, blame-mask-reads.Learnt, blamed-reads.Asked, blamed-reads.Learnt, joined-reads.Asked, joined-reads.Learnt)
+claims t = (
+  record-kind-reads.Asked,
+  record-kind-reads.Learnt,
+  fulfilled-parties-reads.Asked,
+  fulfilled-parties-reads.Learnt,
+  instance-parties-reads.Asked,
+  instance-parties-reads.Learnt,
+  first-sight-reads.Asked,
+  first-sight-reads.Learnt,
+  first-clause-reads.Asked,
+  first-clause-reads.Learnt,
+  first-end-reads.Asked,
+  first-end-reads.Learnt,
+  clause-parties-below t,
+  clause-parties.Post,
+  byte-reads.Asked,
+  byte-reads.Learnt,
+  blame-mask-reads.Asked,
+  blame-mask-reads.Learnt,
+  blamed-reads.Asked,
+  blamed-reads.Learnt,
+  joined-reads.Asked,
+  joined-reads.Learnt,
+)
 
 clause-parties-returns : (t : ℕ) → clause-parties-lts.Need-returns (claims t) (clause-parties-at t) clause-parties.Post
 clause-parties-returns t c =
@@ -59,10 +82,12 @@ clause-parties-returns t c =
     (f .first-sight .ensures) (c .if3 .taken)
 
 clause-parties-slice-aggregate-clause-parties :
-    (t : ℕ) → clause-parties-lts.Need-slice-aggregate-clause-parties (claims t) (clause-parties-at t) clause-parties.Post
+    (t : ℕ) → clause-parties-lts.Need-slice-aggregate-clause-parties (claims t) (clause-parties-at t)
+    clause-parties.Post
 clause-parties-slice-aggregate-clause-parties t c = simp length-take (omega arith)
 
-clause-parties-clause-parties-requires : (t : ℕ) → clause-parties-lts.Need-clause-parties-requires (claims t) (clause-parties-at t) clause-parties.Post
+clause-parties-clause-parties-requires : (t : ℕ)
+    → clause-parties-lts.Need-clause-parties-requires (claims t) (clause-parties-at t) clause-parties.Post
 clause-parties-clause-parties-requires t c κs =
     let s = c .before .before .before .before .before .before .before .before .before .before .before .before
     .before .before .before .before in (
@@ -70,13 +95,15 @@ clause-parties-clause-parties-requires t c κs =
       (s .pre .1 .0, simp length-take (omega arith), s .pre .1 .2),
     )
 
-clause-parties-blame-mask-requires : (t : ℕ) → clause-parties-lts.Need-blame-mask-requires (claims t) (clause-parties-at t) clause-parties.Post
+clause-parties-blame-mask-requires : (t : ℕ)
+    → clause-parties-lts.Need-blame-mask-requires (claims t) (clause-parties-at t) clause-parties.Post
 clause-parties-blame-mask-requires t c κs =
     let s = c .before .before .before .before .before .before .before .before .before .before .before .before
     .before .before .before .before .before .before .before .before in
     (omega (arith, s .pre .1 .0 .fewParties), s .pre .1 .2)
 
-clause-parties-returns-2 : (t : ℕ) → clause-parties-lts.Need-returns-2 (claims t) (clause-parties-at t) clause-parties.Post
+clause-parties-returns-2 : (t : ℕ) → clause-parties-lts.Need-returns-2 (claims t) (clause-parties-at t)
+    clause-parties.Post
 clause-parties-returns-2 t c =
     let at-byte = c .before .before .before in
     let p = c .before .before .before .before .before in let h = p .before .before .before in let f =
@@ -90,7 +117,8 @@ clause-parties-returns-2 t c =
     (at-byte .byte .ensures .0) (c .before .before .byte2 .ensures .0) (c .before .blame-mask .ensures)
     (c .blamed .ensures)
 
-clause-parties-returns-5 : (t : ℕ) → clause-parties-lts.Need-returns-5 (claims t) (clause-parties-at t) clause-parties.Post
+clause-parties-returns-5 : (t : ℕ) → clause-parties-lts.Need-returns-5 (claims t) (clause-parties-at t)
+    clause-parties.Post
 clause-parties-returns-5 t c =
     let at-if4 = c .before .before .before in
     let p = c .before .before .before .before in let h = p .before .before .before in let f =
@@ -103,7 +131,8 @@ clause-parties-returns-5 t c =
     (h .first-end .ensures .0) (p .clause-parties .ensures) (at-if4 .if4 .left)
     (c .before .clause-parties2 .ensures) (c .joined .ensures)
 
-clause-parties-returns-6 : (t : ℕ) → clause-parties-lts.Need-returns-6 (claims t) (clause-parties-at t) clause-parties.Post
+clause-parties-returns-6 : (t : ℕ) → clause-parties-lts.Need-returns-6 (claims t) (clause-parties-at t)
+    clause-parties.Post
 clause-parties-returns-6 t c =
     let k = c .before .before in let s = k .before .before .before .before .before in clause-low (s .pre .1 .0)
     (s .args .params) (s .pre .1 .2) (s .args .types .now) (s .args .depth) (s .args .s .now)

@@ -35,7 +35,14 @@ templates-typed-below t =
 
 -- what a member may assume of its callees
 abbrev claims : ℕ → templates-typed-lts.Claims
-claims t = (byte-reads.Asked, byte-reads.Learnt, template-typed-reads.Asked, template-typed-reads.Learnt, templates-typed-below t, templates-typed.Post)
+claims t = (
+  byte-reads.Asked,
+  byte-reads.Learnt,
+  template-typed-reads.Asked,
+  template-typed-reads.Learnt,
+  templates-typed-below t,
+  templates-typed.Post,
+)
 
 pub +templates-typed-spec : {M : Type 1} → statement M
 +templates-typed-spec = close μ-templates-typed λ t. templates-typed-lts.spec (claims t)

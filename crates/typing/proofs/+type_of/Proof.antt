@@ -26,7 +26,20 @@ type-of-below t = and 2 type-of-kinds.ps (falls 2 type-of-kinds.ps _<_ μ-type-o
 
 -- what a member may assume of its callees
 abbrev claims : ℕ → type-of-lts.Claims
-claims t = (record-kind-reads.Asked, record-kind-reads.Learnt, type-of-below t, type-of.Post, negated-reads.Asked, negated-reads.Learnt, leaf-type-reads.Asked, leaf-type-reads.Learnt, record-end-reads.Asked, record-end-reads.Learnt, operation-type-reads.Asked, operation-type-reads.Learnt)
+claims t = (
+  record-kind-reads.Asked,
+  record-kind-reads.Learnt,
+  type-of-below t,
+  type-of.Post,
+  negated-reads.Asked,
+  negated-reads.Learnt,
+  leaf-type-reads.Asked,
+  leaf-type-reads.Learnt,
+  record-end-reads.Asked,
+  record-end-reads.Learnt,
+  operation-type-reads.Asked,
+  operation-type-reads.Learnt,
+)
 
 pub +type-of-spec : {M : Type 1} → statement M
 +type-of-spec = close μ-type-of λ t. type-of-lts.spec (claims t) (type-of-at t) type-of.Post

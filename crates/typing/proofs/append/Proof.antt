@@ -10,7 +10,8 @@ use Rattle.typing.proofs.append.Statement.{statement}
 use Rattle.typing.proofs.append.Tie as tie
 
 abbrev Inv-loop : tie.InvT-loop
-Inv-loop out₀ n from i₀ out i = (i ≤ length from) × (length out ≡ length out₀) × (take (n + i) out ≡ take n out₀ ++ take i from)
+Inv-loop out₀ n from i₀ out i = (i ≤ length from) × (length out ≡ length out₀)
+    × (take (n + i) out ≡ take n out₀ ++ take i from)
 
 abbrev μ-loop : tie.MeasureT-loop
 μ-loop out₀ n from i₀ out i = length from - i

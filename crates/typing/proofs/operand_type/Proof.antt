@@ -7,4 +7,5 @@ use Rattle.typing.proofs.operand_type.Tie as tie
 
 pub operand-type-spec : {M : Type 1} → statement M
 unfolding operandType
-operand-type-spec = tie.close (tie.spec (λ c. search (keys, needs) depth 9) (λ c. search (keys, needs) depth 9) (λ c. search (keys, needs) depth 9) (λ c. search (keys, needs) depth 9))
+operand-type-spec = tie.close (tie.spec (λ c. search (keys, needs) depth 9) (λ c. search (keys, needs) depth 9)
+    (λ c. search (keys, needs) depth 9) (λ c. search (keys, needs) depth 9))

@@ -8,4 +8,5 @@ use Rattle.typing.proofs.record_kind.Tie as tie
 pub record-kind-spec : {M : Type 1} → statement M
 unfolding recordKind
 record-kind-spec = tie.close (tie.spec
-    (λ c κs. search needs) (λ c κs. search needs) (λ c. search (keys, needs) depth 9) (λ c. search (keys, needs) depth 9) (λ c. search (keys, needs) depth 9))
+    (λ c κs. search needs) (λ c κs. search needs) (λ c. search (keys, needs) depth 9)
+    (λ c. search (keys, needs) depth 9) (λ c. search (keys, needs) depth 9))

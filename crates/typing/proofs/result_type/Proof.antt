@@ -7,4 +7,5 @@ use Rattle.typing.proofs.result_type.Tie as tie
 
 pub result-type-spec : {M : Type 1} → statement M
 unfolding resultType
-result-type-spec = tie.close (tie.spec (λ c. search (keys, needs) depth 9) (λ c. search (keys, needs) depth 9) (λ c. search (keys, needs) depth 9) (λ c. search (keys, needs) depth 9))
+result-type-spec = tie.close (tie.spec (λ c. search (keys, needs) depth 9) (λ c. search (keys, needs) depth 9)
+    (λ c. search (keys, needs) depth 9) (λ c. search (keys, needs) depth 9))

@@ -7,4 +7,5 @@ use Rattle.typing.proofs.type_number.Tie as tie
 
 pub type-number-spec : {M : Type 1} → statement M
 unfolding byteType
-type-number-spec = tie.close (tie.spec (λ c. search (keys, needs) depth 9) (λ c. search (keys, needs) depth 9) (λ c. search (keys, needs) depth 9))
+type-number-spec = tie.close (tie.spec (λ c. search (keys, needs) depth 9) (λ c. search (keys, needs) depth 9)
+    (λ c. search (keys, needs) depth 9))

@@ -1,6 +1,7 @@
 -- Each arm gives the parties that the rule of its kind gives, parameters replaced; a part is shorter than its clause.
 use mathlib.Core.Path.{sym, _∙_}
-use Rattle.units.proofs.Blames.{whole-room, then-in, then-parties, sides-in, sides-parties, low-parties, high-parties}
+use Rattle.units.proofs.Blames.{whole-room, then-in, then-parties, sides-in, sides-parties, low-parties}
+use Rattle.units.proofs.Blames.{high-parties}
 use Rattle.arith.proofs.Lists.{length-part}
 use lib.ListN.{length}
 use mathlib.Core.Path.{sym, _∙_}
@@ -44,14 +45,35 @@ clause-parties-below t =
 
 -- what a member may assume of its callees
 abbrev claims : ℕ → clause-parties-lts.Claims
-claims t = (kind-reads.Asked, kind-reads.Learnt, first-clause-reads.Asked, first-clause-reads.Learnt, byte-reads.Asked, byte-reads.Learnt, stands-for-reads.Asked, stands-for-reads.Learnt, party-bit-reads.Asked, party-bit-reads.Learnt, clause-parties-below t, clause-parties.Post, union-reads.Asked, union-reads.Learnt, instance-parties-reads.Asked, instance-parties-reads.Learnt, record-end-reads.Asked, record-end-reads.Learnt)
+claims t = (
+  kind-reads.Asked,
+  kind-reads.Learnt,
+  first-clause-reads.Asked,
+  first-clause-reads.Learnt,
+  byte-reads.Asked,
+  byte-reads.Learnt,
+  stands-for-reads.Asked,
+  stands-for-reads.Learnt,
+  party-bit-reads.Asked,
+  party-bit-reads.Learnt,
+  clause-parties-below t,
+  clause-parties.Post,
+  union-reads.Asked,
+  union-reads.Learnt,
+  instance-parties-reads.Asked,
+  instance-parties-reads.Learnt,
+  record-end-reads.Asked,
+  record-end-reads.Learnt,
+)
 
-clause-parties-first-clause-requires : (t : ℕ) → clause-parties-lts.Need-first-clause-requires (claims t) (clause-parties-at t) clause-parties.Post
+clause-parties-first-clause-requires : (t : ℕ)
+    → clause-parties-lts.Need-first-clause-requires (claims t) (clause-parties-at t) clause-parties.Post
 clause-parties-first-clause-requires t c κs =
     let at-start = c .before .before .before .before .before .before in
     whole-room (at-start .pre .1 .1)
 
-clause-parties-clause-parties-requires : (t : ℕ) → clause-parties-lts.Need-clause-parties-requires (claims t) (clause-parties-at t) clause-parties.Post
+clause-parties-clause-parties-requires : (t : ℕ)
+    → clause-parties-lts.Need-clause-parties-requires (claims t) (clause-parties-at t) clause-parties.Post
 clause-parties-clause-parties-requires t c κs =
     let at-first-clause = c .before .before .before .before in
     let at-start = at-first-clause .before .before .before .before .before .before .before in
@@ -71,7 +93,8 @@ clause-parties-clause-parties-requires t c κs =
       ),
     )
 
-clause-parties-union-requires : (t : ℕ) → clause-parties-lts.Need-union-requires (claims t) (clause-parties-at t) clause-parties.Post
+clause-parties-union-requires : (t : ℕ) → clause-parties-lts.Need-union-requires (claims t) (clause-parties-at t)
+    clause-parties.Post
 clause-parties-union-requires t c κs =
     (omega (arith, c .before .before .party-bit .ensures .1), omega (arith, c .clause-parties .ensures .small))
 
@@ -81,7 +104,8 @@ clause-parties-instance-parties-requires t c κs =
     let at-start = c .before .before .before .before .before .before in
     (at-start .pre .1 .0, at-start .pre .1 .1, sym (c .before .kind .ensures) ∙ c .match .keys2)
 
-clause-parties-first-clause-requires-2 : (t : ℕ) → clause-parties-lts.Need-first-clause-requires-2 (claims t) (clause-parties-at t) clause-parties.Post
+clause-parties-first-clause-requires-2 : (t : ℕ)
+    → clause-parties-lts.Need-first-clause-requires-2 (claims t) (clause-parties-at t) clause-parties.Post
 clause-parties-first-clause-requires-2 t c κs =
     let at-start = c .before .before .before .before .before .before .before .before in
     whole-room (at-start .pre .1 .1)
@@ -137,7 +161,8 @@ clause-parties-clause-parties-requires-3 t c κs =
       ),
     )
 
-clause-parties-union-requires-2 : (t : ℕ) → clause-parties-lts.Need-union-requires-2 (claims t) (clause-parties-at t) clause-parties.Post
+clause-parties-union-requires-2 : (t : ℕ)
+    → clause-parties-lts.Need-union-requires-2 (claims t) (clause-parties-at t) clause-parties.Post
 clause-parties-union-requires-2 t c κs = (
   omega (arith, c .before .before .clause-parties2 .ensures .small),
   omega
@@ -154,10 +179,12 @@ clause-parties-returns t c =
     (at-party-bit .before .before .byte .ensures .0) (at-party-bit .before .stands-for .ensures)
     (at-party-bit .party-bit .ensures .0) (c .before .clause-parties .ensures) (c .union .ensures .0)
 
-clause-parties-returns-2 : (t : ℕ) → clause-parties-lts.Need-returns-2 (claims t) (clause-parties-at t) clause-parties.Post
+clause-parties-returns-2 : (t : ℕ) → clause-parties-lts.Need-returns-2 (claims t) (clause-parties-at t)
+    clause-parties.Post
 clause-parties-returns-2 t c = c .instance-parties .ensures
 
-clause-parties-returns-3 : (t : ℕ) → clause-parties-lts.Need-returns-3 (claims t) (clause-parties-at t) clause-parties.Post
+clause-parties-returns-3 : (t : ℕ) → clause-parties-lts.Need-returns-3 (claims t) (clause-parties-at t)
+    clause-parties.Post
 clause-parties-returns-3 t c =
     let at-clause-parties2 = c .before .before .before in
     let at-first-clause2 = at-clause-parties2 .before .before .before in
@@ -169,13 +196,15 @@ clause-parties-returns-3 t c =
     (at-clause-parties2 .before .before .record-end .ensures .0) (at-clause-parties2 .clause-parties2 .ensures)
     (c .before .clause-parties3 .ensures) (c .union2 .ensures .0)
 
-clause-parties-returns-4 : (t : ℕ) → clause-parties-lts.Need-returns-4 (claims t) (clause-parties-at t) clause-parties.Post
+clause-parties-returns-4 : (t : ℕ) → clause-parties-lts.Need-returns-4 (claims t) (clause-parties-at t)
+    clause-parties.Post
 clause-parties-returns-4 t c =
     let at-start = c .before .before .before .before .before .before .before in
     low-parties (at-start .pre .1 .1) (c .before .before .kind .ensures) (omega (arith, c .if1 .taken))
     (λ e. omega (arith, c .before .match .rest))
 
-clause-parties-returns-5 : (t : ℕ) → clause-parties-lts.Need-returns-5 (claims t) (clause-parties-at t) clause-parties.Post
+clause-parties-returns-5 : (t : ℕ) → clause-parties-lts.Need-returns-5 (claims t) (clause-parties-at t)
+    clause-parties.Post
 clause-parties-returns-5 t c =
     let at-kind = c .before .before .before in
     let at-start = at-kind .before .before .before .before .before in

@@ -70,7 +70,19 @@ returns-3 c =
 pub located-unit-spec : {M : Type 1} → statement M
 located-unit-spec = tie.close (tie.spec
     (λ c κs. search needs) (λ c. search needs) unit-cells-requires returns (λ c κs. search needs)
-    (λ c. omega (arith, there-room (c .before .before .before .before .before .before .before .before .before .pre .1) (c .before .before .before .before .before .before .before .before .before .pre .3) (c .before .before .before .before .before .before .before .before .before .args .cells .now), c .record-end .ensures))
-    (λ c. omega (arith, there-room (c .before .before .before .before .before .before .before .before .before .pre .1) (c .before .before .before .before .before .before .before .before .before .pre .3) (c .before .before .before .before .before .before .before .before .before .args .cells .now), c .record-end .ensures))
+    (λ c. omega (
+      arith,
+      there-room (c .before .before .before .before .before .before .before .before .before .pre .1)
+          (c .before .before .before .before .before .before .before .before .before .pre .3)
+          (c .before .before .before .before .before .before .before .before .before .args .cells .now),
+      c .record-end .ensures,
+    ))
+    (λ c. omega (
+      arith,
+      there-room (c .before .before .before .before .before .before .before .before .before .pre .1)
+          (c .before .before .before .before .before .before .before .before .before .pre .3)
+          (c .before .before .before .before .before .before .before .before .before .args .cells .now),
+      c .record-end .ensures,
+    ))
     (λ c. search needs) (λ c. search needs) (λ c. search needs) part-clause-parties-end-2
     clause-parties-requires (λ c κs. search needs) returns-2 returns-3)

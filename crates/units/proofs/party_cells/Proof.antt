@@ -4,8 +4,8 @@ use Rattle.units.specs.Cells.{numberBelow}
 use Rattle.arith.proofs.Ints.{read! }
 use lib.ListN.{length, length-set}
 use native.Mathlib.Omega.{arith}
-use Prim.Native.Nat.{_-_, _≤_}
-use mathlib.Core.Path.{_≡_, refl, sym, ap, _∙_}
+use Prim.Native.Nat.{_-_}
+use mathlib.Core.Path.{_≡_, refl, ap, _∙_}
 use mathlib.Core.Bool.{true≢false, false≢true}
 use borrow.Author.Needs.{needs}
 use Rattle.units.proofs.party_cells.Statement.{statement}

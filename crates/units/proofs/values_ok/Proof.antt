@@ -12,7 +12,8 @@ use Rattle.units.proofs.values_ok.Statement.{statement}
 use Rattle.units.proofs.values_ok.Tie as tie
 
 abbrev Inv-loop : tie.InvT-loop
-Inv-loop types cells parties i₀ i = (i ≤ length types) × (valuesOk parties (tysOf types) cells ≡ valuesOk parties (tysOf (drop i types)) (drop i cells))
+Inv-loop types cells parties i₀ i = (i ≤ length types)
+    × (valuesOk parties (tysOf types) cells ≡ valuesOk parties (tysOf (drop i types)) (drop i cells))
 
 abbrev μ-loop : tie.MeasureT-loop
 μ-loop types cells parties i₀ i = length types - i

@@ -1,5 +1,6 @@
 -- Place, time and sort are tested before the cells, and the clause found at the place decides the rest.
-use Rattle.units.proofs.Waits.{wait-negative, wait-late, wait-early, wait-nowhere, wait-room, found-there, wait-other, wait-located}
+use Rattle.units.proofs.Waits.{wait-negative, wait-late, wait-early, wait-nowhere, wait-room, found-there}
+use Rattle.units.proofs.Waits.{wait-other, wait-located}
 use Rattle.units.specs.Cells.{numberBelow}
 use Rattle.arith.proofs.Ints.{read! }
 use Prim.Native.Nat.{_+_}
