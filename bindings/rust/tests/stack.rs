@@ -1,7 +1,9 @@
 //! The stack: the worst call that we could build runs in what the header states, and too small a stack is noticed.
 
 use givuntha::{check, record, Table, STACK};
-use reference::build::{agreement, and, fulfilled, if_clause, instance, not, reading_type, simple, template, truth, Wait};
+use reference::build::{
+    agreement, and, fulfilled, if_clause, instance, not, reading_type, simple, template, truth, Wait,
+};
 use std::process::Command;
 use std::thread;
 
