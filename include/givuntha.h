@@ -135,7 +135,10 @@ enum givuntha_unit {
     GIVUNTHA_UNIT_VALUES = 8      /* to 23: values in sight */
 };
 
-/* Stack for a call. The worst call that we could build, a reading, runs in 325 KB on x86-64. */
+/*
+ * Stack for a call on x86-64. bench/stack derives from the compiled code that no call takes more; the deepest that we
+ * could build, a reading, takes 394,864 bytes.
+ */
 #define GIVUNTHA_STACK_BYTES 524288
 
 /* Checks an agreement. *parties becomes the parties that it can blame. */

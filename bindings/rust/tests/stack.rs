@@ -1,8 +1,9 @@
 //! The stack: the worst call that we could build runs in what the header states, and too small a stack is noticed.
 
 use givuntha::{check, record, Table, STACK};
-use reference::agreement::Type;
-use reference::build::{agreement, and, fulfilled, instance, not, reading_type, simple, template, truth, Wait};
+use reference::build::{
+    agreement, and, fulfilled, if_clause, instance, not, reading_type, simple, template, truth, Wait,
+};
 use std::process::Command;
 use std::thread;
 
@@ -21,23 +22,30 @@ fn nots(count: usize) -> Vec<u8> {
     (0..count).fold(truth(1), |inner, _| not(&inner))
 }
 
-/// 32 templates: each unfolds to the one below, under joins; the last waits, and begins again with the first.
-/// The 111 joins make the width 254, and the value that template 0 takes makes the deepest expression.
+/// The template's body: so many `and`s within one another, then the template before it.
+fn joined(n: u8, joins: usize) -> Vec<u8> {
+    (0..joins).fold(instance_of(n - 1), |inner, _| and(&fulfilled(), &inner))
+}
+
+/// 20 choices within one another, each late as soon as it is activated, then the clause.
+fn late(clause: Vec<u8>) -> Vec<u8> {
+    (0..20).fold(clause, |inner, _| wait_for(2, -1, fulfilled()).choice(&inner))
+}
+
+/// 32 templates, each unfolding to the one before. From 31 to 20, choices that are all late; at their end a reading of
+/// type 1 is taken, and from 19 to 1, `and`s; at their end the deepest expression.
 fn chain() -> Vec<Vec<u8>> {
-    let joined = |joins, clause: Vec<u8>| (0..joins).fold(clause, |inner, _| and(&fulfilled(), &inner));
-    let again = wait_for(2, LONG, instance_of(31)).obligation(0);
-    let mut templates = vec![template(&[Type::Truth], 0, 1, &again)];
-    templates.push(template(&[], 0, 1, &instance(0, &[nots(20)], &[])));
-    for n in 2..32 {
-        let joins = if n < 23 { 4 } else { 3 };
-        templates.push(template(&[], 0, 1, &joined(joins, instance_of(n - 1))));
-    }
-    templates
+    let last = if_clause(&nots(20), &wait_for(1, 1000, fulfilled()).obligation(0), &fulfilled());
+    let mut bodies = vec![last, instance_of(0)];
+    bodies.extend((2..20).map(|n| joined(n, if n < 10 { 7 } else { 6 })));
+    bodies.push(late(wait_for(1, 1000, instance_of(19)).obligation(0)));
+    bodies.extend((21..32).map(|n| late(instance_of(n - 1))));
+    bodies.iter().map(|body| template(&[], 0, 1, body)).collect()
 }
 
 /// 64 obligations; the last of them leads to a choice whose else is the chain.
 fn worst() -> Vec<u8> {
-    let choice = wait_for(3, 0, fulfilled()).choice(&instance_of(31));
+    let choice = wait_for(2, 0, fulfilled()).choice(&instance_of(31));
     let last = wait_for(2, LONG, choice).obligation(0);
     let others = waiting(63);
     agreement(100, 1, &vec![reading_type(&[]); 3], &chain(), &and(&others, &last))
@@ -51,8 +59,8 @@ fn waiting(count: usize) -> Vec<u8> {
     }
 }
 
-/// All entries on the worst agreement. The second reading walks 127 units, unfolds the chain as the choice's else, and
-/// unfolds it again as the `then` at its end.
+/// All entries on the worst agreement. The second reading walks 127 units, follows the chain as the choice's else, and
+/// activates the rest of it as the `then` at its end: 394,864 bytes of stack.
 fn run_worst() {
     let agreement = worst();
     check(&agreement).unwrap();
@@ -60,7 +68,7 @@ fn run_worst() {
     table.reading(&agreement, &record::reading(101, 2, &[])).unwrap();
     assert_eq!(table.cells()[4], 127);
     table.forecast(&agreement).unwrap();
-    table.reading(&agreement, &record::reading(102, 2, &[])).unwrap();
+    table.reading(&agreement, &record::reading(102, 1, &[])).unwrap();
     assert_eq!(table.cells()[4], 127);
 }
 
@@ -84,7 +92,7 @@ fn overflow() {
 #[cfg(target_os = "linux")]
 #[test]
 fn too_small_a_stack_stops_the_program() {
-    for bytes in [16_384, 32_768, 49_152, 65_536, 131_072, 262_144] {
+    for bytes in [16_384, 32_768, 49_152, 65_536, 131_072, 262_144, 327_680] {
         let output = Command::new(std::env::current_exe().unwrap())
             .args(["--exact", "overflow", "--ignored", "--nocapture"])
             .env("STACK", bytes.to_string())

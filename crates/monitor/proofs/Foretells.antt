@@ -3,8 +3,9 @@ use mathlib.Core.Path.{_≡_, sym, ap, ap₂, subst, _∙_}
 use mathlib.Core.List.{List, [], _∷_}
 use Prim.Native.Nat.{ℕ, _-_, _*_, _^_, _<_}
 use native.Mathlib.Omega.{arith}
+use lib.Dec.{le→leb}
 use lib.IntN.{ℤ, pos}
-use lib.Signed.{mag}
+use lib.Signed.{mag, _≤ℤ_}
 use lib.ListN.{length, take, drop}
 use Rattle.arith.proofs.Ints.{seen, read! }
 use Rattle.csl.specs.Parties.{members}
@@ -17,7 +18,6 @@ use Rattle.soundness.proofs.Bits.{bits-members}
 use Rattle.soundness.proofs.Runs.{isFair}
 use Rattle.cells.specs.Reduce as cells
 use Rattle.cells.specs.Across as table
-use Rattle.cells.specs.Across.{natOf}
 use Rattle.places.specs.Locate.{mainsOf}
 use Rattle.bridge.proofs.Across.{forecast-across}
 use Rattle.bridge.proofs.Refusals.{forecast-refused, forecast-six, forecast-seven}
@@ -39,9 +39,16 @@ use Rattle.monitor.proofs.Begins.{goes-on}
 use Rattle.monitor.proofs.Tabled.{founds, sighted}
 use Rattle.monitor.proofs.Follows.{accepts, behind-head, residue-sights, shown-done, shown-breached, shown-damaged}
 
-time-read : {t : ℤ} {u : ℕ} → mag t < 2 ^ 63 → t ≡ pos u → natOf (seen t) ≡ u
-unfolding natOf
-time-read h e = ap natOf (read! h ∙ e)
+-- ---- a time u in a cell t, read as m
+module _ {t : ℤ} {u : ℕ} (fits : mag t < 2 ^ 63) (is : t ≡ pos u) where
+  not-below : pos 0 ≤ℤ seen t
+  not-below = subst (λ z. pos 0 ≤ℤ z) (sym (read! fits ∙ is)) (record { le = le→leb 0 u (omega arith) })
+
+  time-read : {m : ℕ} → pos m ≡ seen t → m ≡ u
+  time-read {m = m} e = same (e ∙ read! fits ∙ is)
+    where
+      same : pos m ≡ pos u → m ≡ u
+      same h = cc
 
 module _ {s places : List ℕ} {us : List ℤ} {sights : List ℕ} (o : Opened s places us sights) where
   abbrev ck : checked s ≡ accepted (agreementOf s) (mainsOf s)
@@ -76,12 +83,16 @@ module _ {s places : List ℕ} {us : List ℤ} {sights : List ℕ} (o : Opened s
         let i : Is (ahead .given) Done out = subst (λ q. Is (ahead .given) q out) e (ahead .isFor) in
         sym (ahead .answers ∙ ap foretold (is-done out (ahead .given) i))
 
-    pub ahead-breach : {t : ℤ} {b : ℕ} → mag t < 2 ^ 63 → r ≡ Breach t b → forecastAnswer (breachForetold (seen t) b) ≡ forecastOf s us
-    unfolding foretold
-    ahead-breach {t = t} {b = b} k e =
-        let i : Is (ahead .given) (Breach t b) out = subst (λ q. Is (ahead .given) q out) e (ahead .isFor) in
-        let g = is-breach out (ahead .given) i in
-        ap (λ u. entries.breachAt u b) (time-read k (g .2)) ∙ sym (ahead .answers ∙ ap foretold (g .1))
+    module _ {t : ℤ} {b : ℕ} (fits : mag t < 2 ^ 63) (e : r ≡ Breach t b) where
+      dated : (u : ℕ) × (ahead .given ≡ cells.breach u b) × (t ≡ pos u)
+      dated = is-breach out (ahead .given) (subst (λ q. Is (ahead .given) q out) e (ahead .isFor))
+
+      pub ahead-time : pos 0 ≤ℤ seen t
+      ahead-time = not-below fits (dated .2)
+
+      pub ahead-breach : {m : ℕ} → pos m ≡ seen t → forecastAnswer (breachForetold m b) ≡ forecastOf s us
+      unfolding foretold
+      ahead-breach h = ap (λ u. entries.breachAt u b) (time-read fits (dated .2) h) ∙ sym (ahead .answers ∙ ap foretold (dated .1))
 
     pub ahead-running : {m : ℕ} → r ≡ Running m → forecastAnswer Nothing ≡ forecastOf s us
     ahead-running {m = m} e =
@@ -97,10 +108,14 @@ module _ {s places : List ℕ} {us : List ℤ} {sights : List ℕ} (o : Opened s
     pub foretell-done : st ≡ Fulfilled → forecastAnswer Nothing ≡ forecastOf s us
     foretell-done e = let r = shown-done o v e in sym (forecast-done s (mainsOf s) ck us (o .isTable) (r .now) (r .is))
 
-    pub foretell-breach : {t : ℤ} {b : ℕ} → mag t < 2 ^ 63 → st ≡ Breached t b → forecastAnswer (breachForetold (seen t) b) ≡ forecastOf s us
-    foretell-breach {b = b} k e =
-        let r = shown-breached o v e in
-        ap₂ entries.breachAt (time-read k (r .isTime)) (sym (bits-members b (omega (arith, r .small)))) ∙ sym (forecast-breach s (mainsOf s) ck us (o .isTable) (r .shows .now) (r .time) (members b) (r .shows .is))
+    module _ {t : ℤ} {b : ℕ} (fits : mag t < 2 ^ 63) (e : st ≡ Breached t b) where
+      pub foretell-time : pos 0 ≤ℤ seen t
+      foretell-time = not-below fits (shown-breached o v e .isTime)
+
+      pub foretell-breach : {m : ℕ} → pos m ≡ seen t → forecastAnswer (breachForetold m b) ≡ forecastOf s us
+      foretell-breach h =
+          let r = shown-breached o v e in
+          ap₂ entries.breachAt (time-read fits (r .isTime) h) (sym (bits-members b (omega (arith, r .small)))) ∙ sym (forecast-breach s (mainsOf s) ck us (o .isTable) (r .shows .now) (r .time) (members b) (r .shows .is))
 
 -- ---- refusals 1 to 6
 pub foretell-checked : (s places : List ℕ) (us : List ℤ) {c : Checked} {why : Refusal} → Verified s places c → c ≡ Refused why → forecastAnswer (refusedForecast why) ≡ forecastOf s us

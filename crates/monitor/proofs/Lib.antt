@@ -4,3 +4,5 @@ pub mod Tabled
 pub mod Follows
 pub mod Foretells
 pub mod Demand3
+pub mod Apart
+pub mod WrongMonitors

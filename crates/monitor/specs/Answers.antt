@@ -17,7 +17,6 @@ use Rattle.csl.specs.Run.{Raw, rawReading, typedReading}
 use Rattle.csl.specs.Table.{cellsOf}
 use Rattle.records.specs.Index.{Indexed}
 use Rattle.cells.specs.Reduce as cells
-use Rattle.cells.specs.Across.{natOf}
 use Rattle.rules.specs.declared.Event.{Event}
 use Rattle.rules.specs.declared.Step.the-variants.{Follow}
 use Rattle.state.specs.declared.State.{State}
@@ -64,7 +63,7 @@ takenAnswer (refusedReading r) table = record { number = numberOf r; table = tab
 
 abbrev pub forecastAnswer : Foretold → entries.Forecast
 forecastAnswer Nothing = entries.noBreach
-forecastAnswer (Breach t b) = entries.breachAt (natOf t) b
+forecastAnswer (Breach t b) = entries.breachAt t b
 forecastAnswer (refusedForecast r) = entries.refusedForecast (numberOf r)
 
 -- what the entries go on with: the agreement is accepted, and the index of its records is filled

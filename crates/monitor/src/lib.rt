@@ -2,11 +2,12 @@
 ghost use mathlib.Core.Path.{_≡_};
 ghost use mathlib.Core.List.{List};
 ghost use Prim.Native.Nat.{ℕ, _≤_};
+ghost use lib.IntN.{pos};
 ghost use lib.ListN.{length};
+ghost use lib.Signed.{_≤ℤ_};
 ghost use Rattle.csl.specs.Check.{checkOf};
 ghost use Rattle.csl.specs.Entries.{startOf, readingOf, forecastOf};
 ghost use Rattle.records.specs.Index.{Indexed};
-ghost use Rattle.cells.specs.Across.{natOf};
 ghost use Rattle.rules.specs.Reduces.{Is};
 ghost use Rattle.state.specs.Shown.{RunningAs, Shows, runIn};
 ghost use Rattle.monitor.specs.Answers.{numberOf, checkAnswer, startAnswer, takenAnswer, forecastAnswer, Goes, Verified, mainReduced, Opened, Fitted, isDamaged};
@@ -61,7 +62,7 @@ pub enum Taken {
 // No breach ahead, or when and by whom, by bit.
 pub enum Foretold {
     Nothing,
-    Breach(i64, usize),
+    Breach { time: u64, parties: usize },
     Refused(Refusal),
 }
 
@@ -324,6 +325,14 @@ pub fn reading(agreement: &[u8], table: &mut [i64], reading: &[u8]) -> Taken
     }
 }
 
+// A time of a run, never below 0, as the callers take it.
+fn minutes(time: i64) -> u64
+    requires { ⌜ pos 0 ≤ℤ time ⌝ }
+    ensures { λ r. ⌜ pos r ≡ time ⌝ }
+{
+    time as u64
+}
+
 // The breach that a running run comes to without further readings.
 fn breach_ahead(
     agreement: &[u8],
@@ -356,7 +365,10 @@ fn breach_ahead(
         &mut out,
     ) {
         Reduced::Done => Foretold::Nothing,
-        Reduced::Breach(t, b) => Foretold::Breach(t, b),
+        Reduced::Breach(due, by) => {
+            let time = minutes(due);
+            Foretold::Breach { time, parties: by }
+        }
         // without readings no unit waits on
         Reduced::Running(_) => Foretold::Nothing,
     }
@@ -377,7 +389,10 @@ fn foretell(
         State::Damaged => Foretold::Refused(Refusal::TableContent),
         State::Running(used) => breach_ahead(agreement, places, sights, table, used),
         State::Fulfilled => Foretold::Nothing,
-        State::Breached(t, b) => Foretold::Breach(t, b),
+        State::Breached(t, b) => {
+            let time = minutes(t);
+            Foretold::Breach { time, parties: b }
+        }
     }
 }
 
@@ -416,14 +431,4 @@ pub fn number(refusal: Refusal) -> u32
         Refusal::ReadingTime => 10,
         Refusal::Units => 11,
     }
-}
-
-// A time as the callers take it: an unsigned number.
-pub fn minutes(time: i64) -> u64
-    ensures { λ r. ⌜ r ≡ natOf time ⌝ }
-{
-    if time < 0 {
-        return 0;
-    }
-    time as u64
 }

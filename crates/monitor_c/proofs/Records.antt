@@ -14,6 +14,3 @@ tableLeft cells n = record { number = n; table = cells }
 
 abbrev pub forecastRefused : ℕ → ForecastNumbers
 forecastRefused n = record { number = n; time = 0; parties = 0 }
-
-abbrev pub breachBy : ℕ → ℕ → ForecastNumbers
-breachBy b t = record { number = 0; time = t; parties = b }

@@ -59,8 +59,11 @@ pub extern "C" fn givuntha_forecast(
             *parties = 0;
             0
         }
-        Foretold::Breach(t, bits) => {
-            *time = monitor::minutes(t);
+        Foretold::Breach {
+            time: t,
+            parties: bits,
+        } => {
+            *time = t;
             *parties = bits as u64;
             0
         }

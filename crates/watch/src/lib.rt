@@ -6,7 +6,6 @@ use monitor::Foretold;
 use monitor::Refusal;
 use monitor::Started;
 use monitor::Taken;
-use monitor::minutes;
 use stream::flush;
 use stream::make_room;
 use stream::put;
@@ -54,9 +53,9 @@ fn put_number(out: &mut [u8], at: usize, number: u32) -> usize {
 // The forecast's time and parties, or NONE.
 fn put_forecast(out: &mut [u8], at: usize, agreement: &[u8], table: &[i64]) -> usize {
     match monitor::forecast(agreement, table) {
-        Foretold::Breach(t, bits) => {
-            let a = put_next(out, at, minutes(t));
-            put_next(out, a, bits as u64)
+        Foretold::Breach { time, parties } => {
+            let a = put_next(out, at, time);
+            put_next(out, a, parties as u64)
         }
         Foretold::Nothing => put_all(out, at, b" NONE"),
         Foretold::Refused(_) => at,

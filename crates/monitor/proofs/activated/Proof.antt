@@ -1,3 +1,4 @@
+-- The main clause stands where the index says, and nothing is in sight of it.
 use borrow.Author.Needs.{needs}
 use Rattle.monitor.proofs.Begins.{main-ready, main-fits, main-is}
 use Rattle.monitor.proofs.activated.Statement.{statement}

@@ -1,3 +1,4 @@
+-- The main clause's residue of at most 16 units is settled whole; a larger one is begun anew with more room.
 use borrow.Author.Needs.{needs}
 use mathlib.Core.Path.{_∙_}
 use native.Mathlib.Omega.{arith}

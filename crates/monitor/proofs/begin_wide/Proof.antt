@@ -1,3 +1,4 @@
+-- The main clause's residue is settled, unless it needs more than 128 units.
 use borrow.Author.Needs.{needs}
 use mathlib.Core.Path.{ap, _∙_}
 use mathlib.Core.Bool.{not}

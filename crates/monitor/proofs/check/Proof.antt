@@ -1,3 +1,4 @@
+-- The answer is that of `verify`.
 use borrow.Author.Needs.{needs}
 use Rattle.monitor.proofs.Checks.{checked-as}
 use Rattle.monitor.proofs.check.Statement.{statement}

@@ -1,3 +1,4 @@
+-- A residue that stays within 16 units is settled whole; any other is followed anew with more room.
 use borrow.Author.Needs.{needs}
 use native.Mathlib.Omega.{arith}
 use Rattle.monitor.proofs.Begins.{short, time-cell}

@@ -1,3 +1,4 @@
+-- What the units become is settled, unless it needs more than 128 units.
 use borrow.Author.Needs.{needs}
 use native.Mathlib.Omega.{arith}
 use Rattle.monitor.proofs.Begins.{short, time-cell}

@@ -1,3 +1,4 @@
+-- A forecast is refused by the agreement, then by the table's length, and else tells what the table's state says.
 use borrow.Author.Needs.{needs}
 use native.Mathlib.Omega.{arith}
 use Rattle.monitor.proofs.Follows.{state-asked, opened}

@@ -1,3 +1,4 @@
+-- A reading is refused by the agreement, then by the table's length, and else is one of the run that the table shows.
 use borrow.Author.Needs.{needs}
 use native.Mathlib.Omega.{arith}
 use Rattle.monitor.proofs.Follows.{state-asked, opened, read-checked, read-table}
@@ -11,7 +12,7 @@ state-of-requires : tie.Need-state-of-requires
 state-of-requires c κs = let g = state-asked _ _ (c .before .before .before .before .before .before .before .before .verify .ensures) (c .before .before .before .before .before .parties .given .1) in (g .0, g .1, g .2, c .before .before .before .if1 .left, omega arith)
 
 read-on-requires : tie.Need-read-on-requires
-read-on-requires c κs = (opened _ _ (c .before .before .before .before .before .before .before .before .before .before .before .before .before .verify .ensures) (c .before .before .before .before .before .before .before .before .before .before .parties .given .1) (c .before .before .before .before .before .before .before .before .if1 .left) (c .before .before .before .sights2 .given), c .before .before .before .before .state-of .ensures)
+read-on-requires c κs = (search (opened, needs), search needs)
 
 returns-2 : tie.Need-returns-2
 returns-2 c = read-checked _ _ _ _ (c .before .before .before .before .verify .ensures) (c .before .why .given .1)

@@ -1,3 +1,4 @@
+-- A start is refused by the agreement, then by the table's length, and else begins.
 use borrow.Author.Needs.{needs}
 use Rattle.monitor.proofs.Begins.{goes-on, start-checked, start-table}
 use Rattle.monitor.proofs.start.Statement.{statement}

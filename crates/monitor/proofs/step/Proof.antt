@@ -1,3 +1,4 @@
+-- Damaged is 7; a running run follows; of a fulfilled one the time moves; a breached one is left.
 use borrow.Author.Needs.{needs}
 use Rattle.monitor.proofs.Follows.{shown-running, read-damaged, read-done, read-breached}
 use Rattle.monitor.proofs.step.Statement.{statement}
