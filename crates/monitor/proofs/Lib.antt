@@ -3,4 +3,5 @@ pub mod Begins
 pub mod Tabled
 pub mod Follows
 pub mod Foretells
+pub mod Calls
 pub mod Demand3

@@ -24,7 +24,7 @@ use Rattle.soundness.proofs.Inversion.{some-inj}
 use Rattle.soundness.proofs.Members.{In, Sub, subset→sub, sub→subset}
 use Rattle.soundness.proofs.Good.{Good}
 use Rattle.soundness.proofs.Bits.{bits-pos, members-in}
-use Rattle.soundness.proofs.Runs.{Case, Inv, after, cases, early, few-mains, final, isFair, isTable-is, many, misfit, not-stuck, reading-is, runAt, same, written-zero}
+use Rattle.soundness.proofs.Runs.{Case, Inv, after, cases, early, few-mains, final, isFair, isTable-is, many, misfit, not-stuck, reading-is, runAt, same, written-number, written-zero}
 use Rattle.soundness.proofs.ReadBack.{runOf-good, table-back}
 use Rattle.soundness.proofs.Forecasts.{ForecastOk, Foresees, forecasts}
 
@@ -61,14 +61,6 @@ module _ (a : Agreement) (now : ℕ) (o : Outcome) (m : List ℕ) (d : Reading) 
           let same : d′ ≡ d = some-inj (sym f ∙ fd) in
           (subst (λ x. now ≤ x .time) same le, ap (λ s. s .run) e ∙ ap (λ x. runAt (x .time) (reached a o x)) same ∙ moved-on o ns nb)
       go (final d′ f le ib nd e) = (subst (λ x. now ≤ x .time) (some-inj (sym f ∙ fd)) le, ap (λ s. s .run) e ∙ stays o ib)
-
-written-number : (cells : List ℤ) (s : Stepped) → (written cells s) .number ≡ s .number
-unfolding written refusal
-written-number cells s = go (s .number) refl
-  where
-    go : (n : ℕ) → s .number ≡ n → (elim n as (λ _. Answer) [ zero ↦ record { number = 0; table = tableOf (s .run) } | suc k ↦ record { number = s .number; table = cells } ]) .number ≡ s .number
-    go zero e = sym e
-    go (suc n) e = refl
 
 -- ---- what is shown of an outcome
 table-state : (now : ℕ) (o : Outcome) → Breached (tableOf (runAt now o)) → IsBreach o
