@@ -4,7 +4,7 @@ use mathlib.Core.Bool.{Bool, cond, false, true}
 use mathlib.Core.List.{List, [], _∷_, _++_, append-nil}
 use mathlib.Core.Option.{Option, none, some}
 use mathlib.Core.Path.{ap, refl, subst, sym, _∙_, _≡_}
-use Prim.Native.Nat.{_<_, suc, zero, ℕ, _≤_}
+use Prim.Native.Nat.{_<_, ℕ, _≤_}
 use native.Mathlib.Omega.{arith}
 use lib.Dec.{eqb, eqb→eq, ltb}
 use lib.IntN.{pos, ℤ}
@@ -28,7 +28,7 @@ use Rattle.soundness.proofs.Good.{Good, SightOk}
 use Rattle.soundness.proofs.Walks.{Fair}
 use Rattle.soundness.proofs.Activation.{activate-good}
 use Rattle.soundness.proofs.Following.{ReadingOk, follow-good}
-use Rattle.soundness.proofs.Forecasts.{ForecastOk, forecasts}
+use Rattle.soundness.proofs.Forecasts.{ForecastOk, forecast-ok}
 use Rattle.soundness.proofs.RoundTrip.{len-cells, len-typed}
 use Rattle.soundness.proofs.Readings.{reading-ok, values-typed}
 use Rattle.soundness.proofs.Runs.{Since, fit-cases, isFair, reading-is, runAt, start-is, stepped}
@@ -225,6 +225,5 @@ module _ (s mains : List ℕ) (ck : checked s ≡ accepted (agreementOf s) mains
     forecast-running found now res sights x is e =
         let g = (runOf-good ag mains us (runAt now (running res)) fair is) .good in
         let w = forecast-across s mains fair found now res us l is sights in
-        let mark : Reading = record { time = now; type = 0; values = [] } in
-        let t = foretold-shows ag mains (forecast ag res) x ((forecasts ag mains fair now res (g .0) (g .1) (g .2) mark refl (omega arith)) .answers) (subst (Shows (forecast ag res)) (same-one (sym (w .only) ∙ e)) (w .shown)) in
+        let t = foretold-shows ag mains (forecast ag res) x (forecast-ok ag mains fair now res (g .0) (g .1) (g .2)) (subst (Shows (forecast ag res)) (same-one (sym (w .only) ∙ e)) (w .shown)) in
         (forecast-on us s ag mains ck l (some (runAt now (running res))) is ∙ t .0, t .1)

@@ -1,7 +1,7 @@
 -- The words of demand 3: readings that fit, what one of them reaches, and the run through a list of them.
 -- The claim itself stands in monitor/specs/Demand3, of calls of the entries; `soundness` proves what it rests on.
 use mathlib.Core.List.{List, [], _∷_}
-use mathlib.Core.Option.{Option, none, some}
+use mathlib.Core.Option.{Option}
 use Prim.Native.Nat.{ℕ}
 use lib.Dec.{T, ltb}
 use Rattle.csl.specs.Lists.{_>>=_, all}

@@ -1,7 +1,8 @@
 -- Demand 3 holds: the table that each call is given is the run's (`Calls`), and of one more reading the run says all that is claimed.
-use mathlib.Core.Path.{_≡_, refl, sym, ap, subst, _∙_}
+use mathlib.Core.Path.{_≡_, refl, sym, ap, _∙_}
 use mathlib.Core.Bool.{Bool, true, false}
 use mathlib.Core.List.{List, [], _∷_, _++_}
+use mathlib.Core.Logic.{_↔_}
 use Prim.Native.Nat.{ℕ}
 use native.Mathlib.Omega.{arith}
 use borrow.Author.Tests.{eqb-true, eqb-false}
@@ -11,10 +12,10 @@ use lib.ListN.{length}
 use Rattle.csl.specs.Syntax.{Agreement}
 use Rattle.csl.specs.Decode.{agreementOf}
 use Rattle.csl.specs.Check.{checked, accepted}
-use Rattle.csl.specs.Run.{Run, started, step}
+use Rattle.csl.specs.Run.{Run, started}
 use Rattle.csl.specs.Table.{runOf, tableOf}
-use Rattle.csl.specs.Entries.{Answer, readingOf, startOf}
-use Rattle.csl.specs.Demand3.{AllBytes, Bytes, NotStuck, runAfter}
+use Rattle.csl.specs.Entries.{startOf}
+use Rattle.csl.specs.Demand3.{AllBytes, Bytes}
 use Rattle.soundness.proofs.Runs.{Case, cases, not-stuck, start-is, table-typed, written-number, written-zero}
 use Rattle.soundness.proofs.Demand3.{after-inv, start-inv, start-unbreached, step-eleven, step-final, step-refused, step-shows, step-taken}
 use Rattle.bridge.proofs.Refusals.{from-check, start-refused, start-six}
@@ -22,10 +23,10 @@ use Rattle.monitor.specs.declared.Refusal.{Refusal}
 use Rattle.monitor.specs.declared.Refusal.the-variants.{AgreementLength, AgreementForm, AgreementTyping, AgreementGuards, AgreementWidth, TableLength, TableContent, ReadingForm, ReadingTyping, ReadingTime, Units}
 use Rattle.monitor.specs.declared.Started.{Started}
 use Rattle.monitor.specs.declared.Started.the-variants.{Begun, Refused}
-use Rattle.monitor.specs.Answers.{numberOf, startAnswer, takenAnswer}
-use Rattle.monitor.specs.Calls.{Call, Calls, lastTable, readingsIn, numberIn}
+use Rattle.monitor.specs.Answers.{numberOf, startAnswer}
+use Rattle.monitor.specs.Calls.{Call, Calls, readingsIn}
 use Rattle.monitor.specs.Demand3.{Begins, Demand3, IsStarted, Upheld, runBy}
-use Rattle.monitor.proofs.Calls.{Inv, all-numbers, bytes-split, called, calls-split, last-table}
+use Rattle.monitor.proofs.Calls.{Found, Inv, all-numbers, found, inv-at, last-table}
 
 -- a refusal's number is not 0
 numbered : (w : Refusal) → numberOf w ≡ 0 → ⊥
@@ -50,61 +51,56 @@ table-left : (r : Started) (us : List ℤ) → (startAnswer r us) .table ≡ us
 table-left Begun us = refl
 table-left (Refused w) us = refl
 
+-- the same number
+carries : {P : Type 0} {m n k : ℕ} → m ≡ n → (n ≡ k) ↔ P → (m ≡ k) ↔ P
+carries e h = (λ x. h .0 (sym e ∙ x), λ p. e ∙ h .1 p)
+
 module _ (s : List ℕ) (lent : List ℤ) (a : Agreement) (mains : List ℕ) (st : IsStarted s lent a mains) (r : Started) (us : List ℤ) (start : startAnswer r us ≡ startOf s lent) (hs : Bytes s) where
   run : Run
   run = (started a) .run
 
+  ck : checked s ≡ accepted a mains
+  ck = st .isAccepted
+
   begins-zero : startOf s lent ≡ record { number = 0; table = tableOf run }
   unfolding run
-  begins-zero = start-is s a mains (st .isAccepted) lent (st .notSix) ∙ written-zero lent (started a) (st .notEleven)
+  begins-zero = start-is s a mains ck lent (st .notSix) ∙ written-zero lent (started a) (st .notEleven)
 
   us-is : us ≡ tableOf run
   us-is = sym (table-left r us) ∙ ap (λ x. x .table) (start ∙ begins-zero)
 
-  run-inv : Inv s a mains (st .isAccepted) run
+  run-inv : Inv s a mains ck run
   unfolding run
-  run-inv = start-inv s a mains (st .isAccepted) hs (st .notEleven)
-
-  -- the run and the table that a call finds, and how the run goes on
-  pub record Found (before : List Call) (one : Call) : Type 0 where
-    pub inv : Inv s a mains (st .isAccepted) (runBy a before)
-    pub table : lastTable us before ≡ tableOf (runBy a before)
-    pub number : numberIn one ≡ (step a (runBy a before) (one .bytes)) .number
-    pub left : one .left ≡ tableOf ((step a (runBy a before) (one .bytes)) .run)
-    pub case : Case a (runBy a before .lastTime) (runBy a before .outcome) (one .bytes)
+  run-inv = start-inv s a mains ck hs (st .notEleven)
 
   module _ (calls : List Call) (hr : AllBytes (readingsIn calls)) (cs : Calls s us calls) where
-    inv-at : (before later : List Call) → calls ≡ before ++ later → Inv s a mains (st .isAccepted) (runBy a before)
+    -- of one of the calls: what it finds, and the case of its reading
+    at-call : (before : List Call) (one : Call) (later : List Call) → calls ≡ before ++ (one ∷ later) → Found s a mains ck run us us-is run-inv calls hr cs before one later × Case a (runBy a before .lastTime) (runBy a before .outcome) (one .bytes)
     unfolding runBy run
-    inv-at before later e = after-inv s a mains (st .isAccepted) run (readingsIn before) ((bytes-split before later (subst (λ cs. AllBytes (readingsIn cs)) e hr)) .0) run-inv
-
-    found : (before : List Call) (one : Call) (later : List Call) → calls ≡ before ++ (one ∷ later) → Found before one
-    unfolding runBy run Calls
-    found before one later e =
-        let two = calls-split s us before (one ∷ later) (subst (Calls s us) e cs) in
-        let i = inv-at before (one ∷ later) e in
-        let t = last-table s a mains (st .isAccepted) run us before us-is run-inv ((bytes-split before (one ∷ later) (subst (λ cs. AllBytes (readingsIn cs)) e hr)) .0) (two .0) in
-        let x = called s a mains (st .isAccepted) (runBy a before) (lastTable us before) one t i (two .1 .0) in
-        record { inv = i; table = t; number = x .0; left = x .1; case = cases a (runBy a before .lastTime) (runBy a before .outcome) (one .bytes) (not-stuck a mains (runBy a before .lastTime) (runBy a before .outcome) (i .good)) }
+    at-call before one later e =
+        let f = found s a mains ck run us us-is run-inv calls hr cs before one later e in
+        (f, cases a (runBy a before .lastTime) (runBy a before .outcome) (one .bytes) (not-stuck a mains (runBy a before .lastTime) (runBy a before .outcome) (f .inv .good)))
 
     upheld : Upheld a mains r us calls
     unfolding runBy run
     upheld =
-        let whole = last-table s a mains (st .isAccepted) run us calls us-is run-inv hr cs in
-        let typed = table-typed s a mains (st .isAccepted) (runBy a calls) (after-inv s a mains (st .isAccepted) run (readingsIn calls) hr run-inv) in
+        let whole = last-table s a mains ck run us calls us-is run-inv hr cs in
+        let typed = table-typed s a mains ck (runBy a calls) (after-inv s a mains ck run (readingsIn calls) hr run-inv) in
         record {
-          neverStuck = λ before later e. not-stuck a mains (runBy a before .lastTime) (runBy a before .outcome) ((inv-at before later e) .good);
+          neverStuck = λ before later e. not-stuck a mains (runBy a before .lastTime) (runBy a before .outcome) ((inv-at s a mains ck run us us-is run-inv calls hr cs before later e) .good);
           begun = begun-is r us (ap (λ x. x .number) (start ∙ begins-zero));
-          numbers = all-numbers s a mains (st .isAccepted) run us calls us-is run-inv hr cs;
+          numbers = all-numbers s a mains ck run us calls us-is run-inv hr cs;
           cells = ap length whole ∙ typed .0;
           wellTyped = (typed .1 .0, ap (runOf a mains) whole ∙ typed .1 .1);
           table = whole;
-          eleven = λ before one later e. let f = found before one later e in let x = step-eleven a (runBy a before .lastTime) (runBy a before .outcome) (one .bytes) (f .case) in (λ h. x .0 (sym (f .number) ∙ h), λ h. f .number ∙ x .1 h);
-          taken = λ before one later e. let f = found before one later e in let x = step-taken a (runBy a before .lastTime) (runBy a before .outcome) (one .bytes) (f .case) in (λ h. x .0 (sym (f .number) ∙ h), λ h. f .number ∙ x .1 h);
-          refused = λ before one later e nz. let f = found before one later e in f .left ∙ ap tableOf (step-refused a (runBy a before .lastTime) (runBy a before .outcome) (one .bytes) (f .case) (λ z. nz (f .number ∙ z))) ∙ sym (f .table);
-          breached = λ before one later e. step-shows s a mains (st .isAccepted) (runBy a before) (one .bytes) (inv-at before (one ∷ later) e);
-          unbreached = start-unbreached s a mains (st .isAccepted);
-          final = λ before one later e b. let f = found before one later e in f .left ∙ ap tableOf (step-final a (runBy a before .lastTime) (runBy a before .outcome) (one .bytes) (f .case) b) ∙ sym (f .table);
+          eleven = λ before one later e. let f = at-call before one later e in carries (f .0 .number) (step-eleven a (runBy a before .lastTime) (runBy a before .outcome) (one .bytes) (f .1));
+          taken = λ before one later e. let f = at-call before one later e in carries (f .0 .number) (step-taken a (runBy a before .lastTime) (runBy a before .outcome) (one .bytes) (f .1));
+          refused = λ before one later e nz. let f = at-call before one later e in
+              f .0 .left ∙ ap tableOf (step-refused a (runBy a before .lastTime) (runBy a before .outcome) (one .bytes) (f .1) (λ z. nz (f .0 .number ∙ z))) ∙ sym (f .0 .table);
+          breached = λ before one later e. step-shows s a mains ck (runBy a before) (one .bytes) ((at-call before one later e) .0 .inv);
+          unbreached = start-unbreached s a mains ck;
+          final = λ before one later e b. let f = at-call before one later e in
+              f .0 .left ∙ ap tableOf (step-final a (runBy a before .lastTime) (runBy a before .outcome) (one .bytes) (f .1) b) ∙ sym (f .0 .table);
         }
 
 -- The single claim over the whole list.

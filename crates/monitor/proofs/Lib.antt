@@ -5,3 +5,4 @@ pub mod Follows
 pub mod Foretells
 pub mod Calls
 pub mod Demand3
+pub mod Forecasts

@@ -1,8 +1,8 @@
 -- Demand 3, one claim about the whole list of readings; proofs/Demand3.antt proves it (`demand3`, `begins`).
--- "For an accepted, started agreement and every list of readings, whatever their bytes: the run by the rules is never stuck,
--- each answer carries the run's number, the table afterwards is well typed and, cell for cell, the run's; 11 if and only if
--- the residue needs more than 128 units; a breach names only parties that can be blamed, at a time from the start to the
--- reading that showed it; after it no reading alters a cell."
+-- "For an accepted, started agreement and every list of readings, whatever their bytes: the run by the rules is
+-- never stuck, each answer carries the run's number, the table afterwards is well typed and, cell for cell, the
+-- run's; 11 if and only if the residue needs more than 128 units; a breach names only parties that can be blamed,
+-- at a time from the start to the reading that showed it; after it no reading alters a cell."
 use mathlib.Core.Path.{_≡_}
 use mathlib.Core.Logic.{_≢_, _↔_}
 use mathlib.Core.List.{List, [], _∷_, _++_}
@@ -29,7 +29,13 @@ use Rattle.monitor.specs.Calls.{Call, Calls, lastTable, readingsIn, numb
 unfoldable pub runBy : Agreement → List Call → Run
 runBy a calls = runAfter a ((started a) .run) (readingsIn calls)
 
--- of agreement a, whose main clause's parties are `mains`; start answered r and left the table us, then came the calls of reading
+-- a reading that fits, is not earlier than the run's last, and whose outcome needs so many units (after a breach none)
+abbrev pub Fits : Agreement → Run → List ℕ → (ℕ → Type 0) → Type 0
+Fits a run bytes units =
+    (d : Reading) × (fitting a bytes ≡ some d) × (run .lastTime ≤ d .time)
+    × units (needed (reached a (run .outcome) d))
+
+-- of agreement a, whose main clause's parties are `mains`: start answered r and left the table us, then came the calls
 pub record Upheld (a : Agreement) (mains : List ℕ) (r : Started) (us : List ℤ) (calls : List Call) : Type 0 where
   -- "the run by the rules is never stuck"
   pub neverStuck : (before later : List Call) → calls ≡ before ++ later → NotStuck (runBy a before .outcome)
@@ -41,21 +47,26 @@ pub record Upheld (a : Agreement) (mains : List ℕ) (r : Started) (us : List �
   pub wellTyped : (q : Run) × (runOf a mains (lastTable us calls) ≡ some q)
   -- "and, cell for cell, the run's"
   pub table : lastTable us calls ≡ tableOf (runBy a calls)
-  -- "11 if and only if the residue needs more than 128 units", of a reading that fits and is not earlier than the last; after a breach none is needed
+  -- "11 if and only if the residue needs more than 128 units"
   pub eleven : (before : List Call) (one : Call) (later : List Call) → calls ≡ before ++ (one ∷ later)
-      → (numberIn one ≡ 11) ↔ ((d : Reading) × (fitting a (one .bytes) ≡ some d) × (runBy a before .lastTime ≤ d .time) × (128 < needed (reached a (runBy a before .outcome) d)))
-  -- and it is taken, with 0, if and only if it needs at most 128 units
+      → (numberIn one ≡ 11) ↔ Fits a (runBy a before) (one .bytes) (λ units. 128 < units)
+  -- and it is taken, with 0, if and only if it needs at most 128
   pub taken : (before : List Call) (one : Call) (later : List Call) → calls ≡ before ++ (one ∷ later)
-      → (numberIn one ≡ 0) ↔ ((d : Reading) × (fitting a (one .bytes) ≡ some d) × (runBy a before .lastTime ≤ d .time) × (needed (reached a (runBy a before .outcome) d) ≤ 128))
+      → (numberIn one ≡ 0) ↔ Fits a (runBy a before) (one .bytes) (λ units. units ≤ 128)
   -- every other answer is a refusal, which alters no cell
-  pub refused : (before : List Call) (one : Call) (later : List Call) → calls ≡ before ++ (one ∷ later) → numberIn one ≢ 0 → one .left ≡ lastTable us before
-  -- "a breach names only parties that can be blamed, at a time from the start to the reading that showed it": `one` showed it, the start shows none
+  pub refused : (before : List Call) (one : Call) (later : List Call) → calls ≡ before ++ (one ∷ later)
+      → numberIn one ≢ 0 → one .left ≡ lastTable us before
+  -- "a breach names only parties that can be blamed, at a time from the start to the reading that showed it", here `one`
   pub breached : (before : List Call) (one : Call) (later : List Call) → calls ≡ before ++ (one ∷ later)
-      → (IsBreach (runBy a before .outcome) → ⊥) → (t : ℕ) (ps : List ℕ) → (step a (runBy a before) (one .bytes)) .run .outcome ≡ breach t ps
-      → (d : Reading) × (fitting a (one .bytes) ≡ some d) × (ps ≢ []) × T (subset ps mains) × (a .start ≤ t) × (t ≤ d .time)
+      → (IsBreach (runBy a before .outcome) → ⊥)
+      → (t : ℕ) (ps : List ℕ) → (step a (runBy a before) (one .bytes)) .run .outcome ≡ breach t ps
+      → (d : Reading) × (fitting a (one .bytes) ≡ some d)
+      × (ps ≢ []) × T (subset ps mains) × (a .start ≤ t) × (t ≤ d .time)
+  -- and the start shows none
   pub unbreached : IsBreach ((started a) .run .outcome) → ⊥
   -- "after it no reading alters a cell"
-  pub final : (before : List Call) (one : Call) (later : List Call) → calls ≡ before ++ (one ∷ later) → IsBreach (runBy a before .outcome) → one .left ≡ lastTable us before
+  pub final : (before : List Call) (one : Call) (later : List Call) → calls ≡ before ++ (one ∷ later)
+      → IsBreach (runBy a before .outcome) → one .left ≡ lastTable us before
 
 -- "An agreement is accepted if none of check's conditions applies, and started if then neither 6 nor 11 does."
 pub record IsStarted (s : List ℕ) (lent : List ℤ) (a : Agreement) (mains : List ℕ) : Type 0 where
@@ -72,4 +83,6 @@ Demand3 =
 
 -- and a start that answers `Begun` was given such an agreement
 unfoldable pub Begins : Type 0
-Begins = (s : List ℕ) (lent : List ℤ) (us : List ℤ) → startAnswer Begun us ≡ startOf s lent → (a : Agreement) × (mains : List ℕ) × IsStarted s lent a mains
+Begins =
+    (s : List ℕ) (lent : List ℤ) (us : List ℤ) → startAnswer Begun us ≡ startOf s lent
+    → (a : Agreement) × (mains : List ℕ) × IsStarted s lent a mains

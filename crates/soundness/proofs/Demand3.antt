@@ -1,7 +1,7 @@
 -- What demand 3 rests on: a run of an accepted, started agreement keeps to the invariant through every list of readings,
 -- and what it does with one more reading, whatever its bytes. Main theorems: `start-inv`, `after-inv`, `step-taken`, `step-eleven`, `step-shows`.
 use mathlib.Core.Bool.{Bool, false, not, true}
-use mathlib.Core.List.{List, [], _∷_, _++_}
+use mathlib.Core.List.{List, [], _∷_}
 use mathlib.Core.Logic.{inl, inr, _↔_, _≢_, _⊎_}
 use mathlib.Core.Option.{Option, none, some}
 use mathlib.Core.Path.{ap, refl, subst, sym, _∙_, _≡_}
@@ -9,9 +9,9 @@ use Prim.Native.Nat.{_<_, suc, zero, ℕ, _≤_}
 use native.Mathlib.Omega.{arith}
 use lib.Dec.{T, nltb→le}
 use Rattle.csl.specs.Lists.{_>>=_, all, at}
-use Rattle.csl.specs.Parties.{sameSet, subset}
+use Rattle.csl.specs.Parties.{subset}
 use Rattle.csl.specs.Syntax.{Agreement, Clause, Join, Template, and, badClause, choice, fulfilled, if, instance, join, number, obligation, or}
-use Rattle.csl.specs.Check.{accepted, checked, refused}
+use Rattle.csl.specs.Check.{accepted, checked}
 use Rattle.csl.specs.Values.{Val, evalBool, evals}
 use Rattle.csl.specs.Outcomes.{Outcome, Sight, breach, done, joinBoth, joinEither, joined, orStuck, running, stuck}
 use Rattle.csl.specs.Rules.{Reading, activate, activating, blamedAll, during, walk, walkIn}
