@@ -4,7 +4,7 @@ use mathlib.Core.Bool.{Bool, cond, false, true}
 use mathlib.Core.List.{List, [], _∷_, _++_, append-nil}
 use mathlib.Core.Option.{Option, none, some}
 use mathlib.Core.Path.{ap, refl, subst, sym, _∙_, _≡_}
-use Prim.Native.Nat.{_<_, suc, zero, ℕ, _≤_}
+use Prim.Native.Nat.{_<_, ℕ, _≤_}
 use native.Mathlib.Omega.{arith}
 use lib.Dec.{eqb, eqb→eq, ltb}
 use lib.IntN.{pos, ℤ}
@@ -21,18 +21,17 @@ use Rattle.csl.specs.Places.{follow, forecast}
 use Rattle.csl.specs.Run.{Fit, Raw, Run, Stepped, fit, fitOf, followed, kept, rawReading, started, step, typedReading, unfit, valuesWanted}
 use Rattle.csl.specs.Table.{cellsOf, headCells, natCells, padded, runOf, standFor, tableOf}
 use Rattle.csl.specs.Entries.{Answer, Forecast, breachAt, forecastOf, forecastRun, noBreach, noForecast, readingOf, refusal, shown, startOf, written}
-use Rattle.csl.specs.Demand3.{AllBytes, Bytes, Delivered, Demand3, fitting}
+use Rattle.csl.specs.Demand3.{fitting}
 use Rattle.soundness.proofs.Inversion.{from-bind, from-need, some-inj}
 use Rattle.soundness.proofs.Evaluation.{HaveTy}
 use Rattle.soundness.proofs.Good.{Good, SightOk}
 use Rattle.soundness.proofs.Walks.{Fair}
 use Rattle.soundness.proofs.Activation.{activate-good}
 use Rattle.soundness.proofs.Following.{ReadingOk, follow-good}
-use Rattle.soundness.proofs.Forecasts.{ForecastOk, forecasts}
+use Rattle.soundness.proofs.Forecasts.{ForecastOk, forecast-ok}
 use Rattle.soundness.proofs.RoundTrip.{len-cells, len-typed}
 use Rattle.soundness.proofs.Readings.{reading-ok, values-typed}
 use Rattle.soundness.proofs.Runs.{Since, fit-cases, isFair, reading-is, runAt, start-is, stepped}
-use Rattle.soundness.proofs.Demand3.{demand3}
 use Rattle.soundness.proofs.ReadBack.{runOf-good, table-back, values-are}
 use Rattle.cells.specs.Reduce.{Reduced}
 use Rattle.cells.specs.Reduce as cells
@@ -55,17 +54,6 @@ kept-shows ag W P before us now o x g h = ap (λ b. written us (elim b [ true �
     go : (b : Bool) → written us (elim b [ true ↦ stepped 11 before | false ↦ stepped 0 (runAt now o) ]) ≡ cond b (answer 11 us) (answer 0 (reducedTable now x))
     go true = refl
     go false = ap (answer 0) (table-shows ag W P now o x g h)
-
-written-number : (us : List ℤ) (x : Stepped) → (written us x) .number ≡ x .number
-unfolding written refusal
-written-number us x = go (x .number) refl
-  where
-    by : ℕ → Answer
-    by n = elim n [ zero ↦ answer 0 (tableOf (x .run)) | suc m ↦ answer (x .number) us ]
-
-    go : (n : ℕ) → x .number ≡ n → (by n) .number ≡ x .number
-    go zero e = sym e
-    go (suc n) e = refl
 
 -- a forecast's outcome on cells
 unfoldable pub foretold : Reduced → Forecast
@@ -182,11 +170,6 @@ module _ (s mains : List ℕ) (ck : checked s ≡ accepted (agreementOf s) mains
   unfolding agreementOf natCells cellsOf activate
   start-reduce us l = start-shows us _ l (activate-shows ag mains fair (ag .main) 0 [] (record { params = []; values = [] }) (ag .start) mains no-sight (fair .main) (fair .mainPlaced))
 
-  -- ---- demand 3, for code that answers as the entries do
-  pub delivered : (us : List ℤ) (readings : List (List ℕ)) → Bytes s → AllBytes readings → length us ≡ 3080 → (startOf s us) .number ≡ 0 → Delivered s ag mains us readings
-  unfolding Demand3
-  delivered us readings hs hr l e = demand3 s ag mains us readings hs hr ck l (sym (written-number us (started ag)) ∙ sym (ap (λ x. x .number) (start-is s ag mains ck us l)) ∙ e)
-
   module _ (us : List ℤ) (l : length us ≡ 3080) where
     -- ---- a reading that does not fit, or is early
     module _ (q : Run) (is : runOf ag mains us ≡ some q) (r : List ℕ) where
@@ -242,6 +225,5 @@ module _ (s mains : List ℕ) (ck : checked s ≡ accepted (agreementOf s) mains
     forecast-running found now res sights x is e =
         let g = (runOf-good ag mains us (runAt now (running res)) fair is) .good in
         let w = forecast-across s mains fair found now res us l is sights in
-        let mark : Reading = record { time = now; type = 0; values = [] } in
-        let t = foretold-shows ag mains (forecast ag res) x ((forecasts ag mains fair now res (g .0) (g .1) (g .2) mark refl (omega arith)) .answers) (subst (Shows (forecast ag res)) (same-one (sym (w .only) ∙ e)) (w .shown)) in
+        let t = foretold-shows ag mains (forecast ag res) x (forecast-ok ag mains fair now res (g .0) (g .1) (g .2)) (subst (Shows (forecast ag res)) (same-one (sym (w .only) ∙ e)) (w .shown)) in
         (forecast-on us s ag mains ck l (some (runAt now (running res))) is ∙ t .0, t .1)

@@ -16,7 +16,7 @@ pub mod Run
 pub mod Table
 pub mod Entries
 pub mod Demand3
-pub mod ForecastClaim
+pub mod Marks
 pub mod Build
 pub mod Trials
 pub mod Refusals

@@ -1,150 +1,127 @@
--- Demand 3 of what the entries ensure: calls that meet the contracts of start and reading, one after another on one table.
--- Main theorem: `demand3`. The calls' answers and tables are those of csl's run, with all that csl's Demand3 claims at each moment.
-use mathlib.Core.Path.{_≡_, refl, sym, ap, ap₂, _∙_, subst}
+-- Demand 3 holds: the table that each call is given is the run's (`Calls`), and of one more reading the run says all that is claimed.
+use mathlib.Core.Path.{_≡_, refl, sym, ap, _∙_}
 use mathlib.Core.Bool.{Bool, true, false}
-use mathlib.Core.List.{List, [], _∷_}
+use mathlib.Core.List.{List, [], _∷_, _++_}
+use mathlib.Core.Logic.{_↔_}
 use Prim.Native.Nat.{ℕ}
 use native.Mathlib.Omega.{arith}
 use borrow.Author.Tests.{eqb-true, eqb-false}
-use borrow.Fn.Kinds.{Dens, endedOf}
-use contract.Lifetimes.{Lfts}
-use denote.Triple.Clauses.{AtExit}
 use lib.Dec.{eqb}
 use lib.IntN.{ℤ}
 use lib.ListN.{length}
 use Rattle.csl.specs.Syntax.{Agreement}
 use Rattle.csl.specs.Decode.{agreementOf}
 use Rattle.csl.specs.Check.{checked, accepted}
-use Rattle.csl.specs.Run.{Run, started, step}
-use Rattle.csl.specs.Table.{tableOf}
-use Rattle.csl.specs.Entries.{startOf, readingOf}
-use Rattle.csl.specs.Demand3.{AllBytes, Agrees, Answers, Bytes, Delivered, Throughout, numbersBy, numbersOf, runAfter, tableAfter}
+use Rattle.csl.specs.Run.{Run, started}
+use Rattle.csl.specs.Table.{runOf, tableOf}
+use Rattle.csl.specs.Entries.{startOf}
+use Rattle.csl.specs.Demand3.{AllBytes, Bytes}
+use Rattle.soundness.proofs.Runs.{Case, cases, not-stuck, start-is, table-typed, written-number, written-zero}
+use Rattle.soundness.proofs.Demand3.{after-inv, start-inv, start-unbreached, step-eleven, step-final, step-refused, step-shows, step-taken}
 use Rattle.bridge.proofs.Refusals.{from-check, start-refused, start-six}
-use Rattle.bridge.proofs.Entries.{delivered}
+use Rattle.monitor.specs.declared.Refusal.{Refusal}
+use Rattle.monitor.specs.declared.Refusal.the-variants.{AgreementLength, AgreementForm, AgreementTyping, AgreementGuards, AgreementWidth, TableLength, TableContent, ReadingForm, ReadingTyping, ReadingTime, Units}
 use Rattle.monitor.specs.declared.Started.{Started}
-use Rattle.monitor.specs.declared.Started.the-variants.{Begun}
-use Rattle.monitor.specs.declared.Taken.{Taken}
-use Rattle.monitor.specs.declared.Taken.the-variants.{Accepted as acceptedReading, Refused as refusedReading}
-use Rattle.monitor.specs.Answers.{startAnswer, takenAnswer}
-use Rattle.monitor.proofs.start.Kinds as start-kinds
-use Rattle.monitor.proofs.start.Reads as start
-use Rattle.monitor.proofs.reading.Kinds as reading-kinds
-use Rattle.monitor.proofs.reading.Reads as reading
+use Rattle.monitor.specs.declared.Started.the-variants.{Begun, Refused}
+use Rattle.monitor.specs.Answers.{numberOf, startAnswer}
+use Rattle.monitor.specs.Calls.{Call, Calls, readingsIn}
+use Rattle.monitor.specs.Demand3.{Begins, Demand3, IsStarted, Upheld, runBy}
+use Rattle.monitor.proofs.Calls.{Found, Inv, all-numbers, found, inv-at, last-table}
 
--- ---- a call that meets its contract: of what it was given, what it answered and the table it left
-pub record StartCall (s : List ℕ) (before : List ℤ) (r : Started) (after : List ℤ) : Type 0 where
-  pub lifetimes : Lfts 2
-  pub given : Dens {n = 2} lifetimes start-kinds.ps
-  pub left : AtExit (endedOf 2 start-kinds.ps start-kinds.r) lifetimes
-  pub meets : start.Post lifetimes given r left
-  pub agreement : given .0 .now ≡ s
-  pub table : given .1 .0 .now ≡ before
-  pub leaves : left .1 .0 .now ≡ after
+-- a refusal's number is not 0
+numbered : (w : Refusal) → numberOf w ≡ 0 → ⊥
+numbered AgreementLength e = omega arith
+numbered AgreementForm e = omega arith
+numbered AgreementTyping e = omega arith
+numbered AgreementGuards e = omega arith
+numbered AgreementWidth e = omega arith
+numbered TableLength e = omega arith
+numbered TableContent e = omega arith
+numbered ReadingForm e = omega arith
+numbered ReadingTyping e = omega arith
+numbered ReadingTime e = omega arith
+numbered Units e = omega arith
 
-pub record ReadingCall (s : List ℕ) (before : List ℤ) (b : List ℕ) (r : Taken) (after : List ℤ) : Type 0 where
-  pub lifetimes : Lfts 3
-  pub given : Dens {n = 3} lifetimes reading-kinds.ps
-  pub left : AtExit (endedOf 3 reading-kinds.ps reading-kinds.r) lifetimes
-  pub meets : reading.Post lifetimes given r left
-  pub agreement : given .0 .now ≡ s
-  pub table : given .1 .0 .now ≡ before
-  pub bytes : given .1 .1 .0 .now ≡ b
-  pub leaves : left .1 .0 .now ≡ after
+-- a start that carries 0 has begun
+begun-is : (r : Started) (us : List ℤ) → (startAnswer r us) .number ≡ 0 → r ≡ Begun
+begun-is Begun us e = refl
+begun-is (Refused w) us e = absurd (numbered w e)
 
-pub start-answers : {s : List ℕ} {us vs : List ℤ} {r : Started} → StartCall s us r vs → startAnswer r vs ≡ startOf s us
-start-answers {r = r} c = ap (startAnswer r) (sym (c .leaves)) ∙ c .meets ∙ ap₂ startOf (c .agreement) (c .table)
+table-left : (r : Started) (us : List ℤ) → (startAnswer r us) .table ≡ us
+table-left Begun us = refl
+table-left (Refused w) us = refl
 
-pub reading-answers : {s : List ℕ} {us vs : List ℤ} {b : List ℕ} {r : Taken} → ReadingCall s us b r vs → takenAnswer r vs ≡ readingOf s us b
-reading-answers {us = us} {b = b} {r = r} c = ap (takenAnswer r) (sym (c .leaves)) ∙ c .meets ∙ rw (c .agreement, c .table, c .bytes) refl
+-- the same number
+carries : {P : Type 0} {m n k : ℕ} → m ≡ n → (n ≡ k) ↔ P → (m ≡ k) ↔ P
+carries e h = (λ x. h .0 (sym e ∙ x), λ p. e ∙ h .1 p)
 
--- ---- each reading is given with the table that the call before left
-unfoldable pub Calls : List ℕ → List ℤ → List (List ℕ) → List Taken → List ℤ → Type 0
-Calls s us [] [] end = us ≡ end
-Calls s us [] (r ∷ rs) end = ⊥
-Calls s us (b ∷ bs) [] end = ⊥
-Calls s us (b ∷ bs) (r ∷ rs) end = (after : List ℤ) × ReadingCall s us b r after × Calls s after bs rs end
+module _ (s : List ℕ) (lent : List ℤ) (a : Agreement) (mains : List ℕ) (st : IsStarted s lent a mains) (r : Started) (us : List ℤ) (start : startAnswer r us ≡ startOf s lent) (hs : Bytes s) where
+  run : Run
+  run = (started a) .run
 
--- the numbers answered
-unfoldable pub numbersIn : List Taken → List ℕ
-numbersIn [] = []
-numbersIn (r ∷ rs) = (takenAnswer r []) .number ∷ numbersIn rs
+  ck : checked s ≡ accepted a mains
+  ck = st .isAccepted
 
-number-of : (r : Taken) (us : List ℤ) → (takenAnswer r us) .number ≡ (takenAnswer r []) .number
-number-of acceptedReading us = refl
-number-of (refusedReading w) us = refl
+  begins-zero : startOf s lent ≡ record { number = 0; table = tableOf run }
+  unfolding run
+  begins-zero = start-is s a mains ck lent (st .notSix) ∙ written-zero lent (started a) (st .notEleven)
 
-table-of : (r : Taken) (us : List ℤ) → (takenAnswer r us) .table ≡ us
-table-of acceptedReading us = refl
-table-of (refusedReading w) us = refl
+  us-is : us ≡ tableOf run
+  us-is = sym (table-left r us) ∙ ap (λ x. x .table) (start ∙ begins-zero)
 
--- at each moment the table is the run's; each call's answer is the one that csl's Answers speaks of
-unfoldable pub Moments : (s : List ℕ) → Agreement → List ℕ → List ℤ → Run → List (List ℕ) → List Taken → List ℤ → Type 0
-Moments s a mains us run [] rs end = Agrees a mains us run
-Moments s a mains us run (b ∷ bs) [] end = ⊥
-Moments s a mains us run (b ∷ bs) (r ∷ rs) end =
-    Agrees a mains us run × Answers s a mains us run b × ((after : List ℤ) × (takenAnswer r after ≡ readingOf s us b) × Moments s a mains after ((step a run b) .run) bs rs end)
+  run-inv : Inv s a mains ck run
+  unfolding run
+  run-inv = start-inv s a mains ck hs (st .notEleven)
 
-pub record Obeyed (s : List ℕ) (cells us : List ℤ) (readings : List (List ℕ)) (rs : List Taken) (end : List ℤ) : Type 0 where
-  pub mains : List ℕ
-  pub isAccepted : checked s ≡ accepted (agreementOf s) mains
-  pub delivered : Delivered s (agreementOf s) mains cells readings
-  pub numbers : numbersIn rs ≡ numbersBy (agreementOf s) ((started (agreementOf s)) .run) readings
-  pub table : end ≡ tableOf (runAfter (agreementOf s) ((started (agreementOf s)) .run) readings)
-  pub moments : Moments s (agreementOf s) mains us ((started (agreementOf s)) .run) readings rs end
+  module _ (calls : List Call) (hr : AllBytes (readingsIn calls)) (cs : Calls s us calls) where
+    -- of one of the calls: what it finds, and the case of its reading
+    at-call : (before : List Call) (one : Call) (later : List Call) → calls ≡ before ++ (one ∷ later) → Found s a mains ck run us us-is run-inv calls hr cs before one later × Case a (runBy a before .lastTime) (runBy a before .outcome) (one .bytes)
+    unfolding runBy run
+    at-call before one later e =
+        let f = found s a mains ck run us us-is run-inv calls hr cs before one later e in
+        (f, cases a (runBy a before .lastTime) (runBy a before .outcome) (one .bytes) (not-stuck a mains (runBy a before .lastTime) (runBy a before .outcome) (f .inv .good)))
 
--- ---- what the calls' contracts say through the list
-after-is : {s : List ℕ} {us vs : List ℤ} {b : List ℕ} {r : Taken} → ReadingCall s us b r vs → (readingOf s us b) .table ≡ vs
-after-is {vs = vs} {r = r} c = sym (ap (λ x. x .table) (reading-answers c)) ∙ table-of r vs
+    upheld : Upheld a mains r us calls
+    unfolding runBy run
+    upheld =
+        let whole = last-table s a mains ck run us calls us-is run-inv hr cs in
+        let typed = table-typed s a mains ck (runBy a calls) (after-inv s a mains ck run (readingsIn calls) hr run-inv) in
+        record {
+          neverStuck = λ before later e. not-stuck a mains (runBy a before .lastTime) (runBy a before .outcome) ((inv-at s a mains ck run us us-is run-inv calls hr cs before later e) .good);
+          begun = begun-is r us (ap (λ x. x .number) (start ∙ begins-zero));
+          numbers = all-numbers s a mains ck run us calls us-is run-inv hr cs;
+          cells = ap length whole ∙ typed .0;
+          wellTyped = (typed .1 .0, ap (runOf a mains) whole ∙ typed .1 .1);
+          table = whole;
+          eleven = λ before one later e. let f = at-call before one later e in carries (f .0 .number) (step-eleven a (runBy a before .lastTime) (runBy a before .outcome) (one .bytes) (f .1));
+          taken = λ before one later e. let f = at-call before one later e in carries (f .0 .number) (step-taken a (runBy a before .lastTime) (runBy a before .outcome) (one .bytes) (f .1));
+          refused = λ before one later e nz. let f = at-call before one later e in
+              f .0 .left ∙ ap tableOf (step-refused a (runBy a before .lastTime) (runBy a before .outcome) (one .bytes) (f .1) (λ z. nz (f .0 .number ∙ z))) ∙ sym (f .0 .table);
+          breached = λ before one later e. step-shows s a mains ck (runBy a before) (one .bytes) ((at-call before one later e) .0 .inv);
+          unbreached = start-unbreached s a mains ck;
+          final = λ before one later e b. let f = at-call before one later e in
+              f .0 .left ∙ ap tableOf (step-final a (runBy a before .lastTime) (runBy a before .outcome) (one .bytes) (f .1) b) ∙ sym (f .0 .table);
+        }
 
-number-is : {s : List ℕ} {us vs : List ℤ} {b : List ℕ} {r : Taken} → ReadingCall s us b r vs → (takenAnswer r []) .number ≡ (readingOf s us b) .number
-number-is {vs = vs} {r = r} c = sym (number-of r vs) ∙ ap (λ x. x .number) (reading-answers c)
-
-module _ (s : List ℕ) (end : List ℤ) where
-  calls-numbers : (us : List ℤ) (bs : List (List ℕ)) (rs : List Taken) → Calls s us bs rs end → numbersIn rs ≡ numbersOf s us bs
-  unfolding Calls numbersIn numbersOf
-  calls-numbers us [] [] c = refl
-  calls-numbers us [] (r ∷ rs) c = absurd c
-  calls-numbers us (b ∷ bs) [] c = absurd c
-  calls-numbers us (b ∷ bs) (r ∷ rs) c = ap₂ (λ n ns. n ∷ ns) (number-is (c .1)) (calls-numbers (c .0) bs rs (c .2) ∙ ap (λ vs. numbersOf s vs bs) (sym (after-is (c .1))))
-
-  calls-table : (us : List ℤ) (bs : List (List ℕ)) (rs : List Taken) → Calls s us bs rs end → end ≡ tableAfter s us bs
-  unfolding Calls tableAfter
-  calls-table us [] [] c = sym c
-  calls-table us [] (r ∷ rs) c = absurd c
-  calls-table us (b ∷ bs) [] c = absurd c
-  calls-table us (b ∷ bs) (r ∷ rs) c = calls-table (c .0) bs rs (c .2) ∙ ap (λ vs. tableAfter s vs bs) (sym (after-is (c .1)))
-
-  calls-moments : (a : Agreement) (mains : List ℕ) (us : List ℤ) (run : Run) (bs : List (List ℕ)) (rs : List Taken) → Calls s us bs rs end → Throughout s a mains us run bs → Moments s a mains us run bs rs end
-  unfolding Calls Throughout Moments
-  calls-moments a mains us run [] rs c t = t
-  calls-moments a mains us run (b ∷ bs) [] c t = absurd c
-  calls-moments a mains us run (b ∷ bs) (r ∷ rs) c t = (t .0, t .1, (c .0, reading-answers (c .1), calls-moments a mains (c .0) ((step a run b) .run) bs rs (c .2) (subst (λ vs. Throughout s a mains vs ((step a run b) .run) bs) (after-is (c .1)) (t .2))))
+-- The single claim over the whole list.
+pub demand3 : Demand3
+unfolding Demand3
+demand3 s lent a mains r us calls hs hr st start cs = upheld s lent a mains st r us start hs calls hr cs
 
 -- a start that answers 0 was given a table's cells
-begun-table : (s : List ℕ) (mains : List ℕ) (cells : List ℤ) → checked s ≡ accepted (agreementOf s) mains → (startOf s cells) .number ≡ 0 → length cells ≡ 3080
-begun-table s mains cells ck e = go (eqb (length cells) 3080) refl
+begun-table : (s : List ℕ) (mains : List ℕ) (lent : List ℤ) → checked s ≡ accepted (agreementOf s) mains → (startOf s lent) .number ≡ 0 → length lent ≡ 3080
+begun-table s mains lent ck e = go (eqb (length lent) 3080) refl
   where
-    go : (b : Bool) → eqb (length cells) 3080 ≡ b → length cells ≡ 3080
-    go true g = eqb-true (length cells) 3080 g
-    go false g = let z : _≡_ {A = ℕ} 6 0 = sym (ap (λ x. x .number) (start-six cells s (agreementOf s) mains ck (eqb-false (length cells) 3080 g))) ∙ e in absurd (omega arith)
+    go : (b : Bool) → eqb (length lent) 3080 ≡ b → length lent ≡ 3080
+    go true g = eqb-true (length lent) 3080 g
+    go false g = let z : _≡_ {A = ℕ} 6 0 = sym (ap (λ x. x .number) (start-six lent s (agreementOf s) mains ck (eqb-false (length lent) 3080 g))) ∙ e in absurd (omega arith)
 
--- ---- for every agreement that start began, and every list of readings, whatever their bytes
-pub demand3 : (s : List ℕ) (cells us : List ℤ) (readings : List (List ℕ)) (rs : List Taken) (end : List ℤ) → Bytes s → AllBytes readings → StartCall s cells Begun us → Calls s us readings rs end → Obeyed s cells us readings rs end
-demand3 s cells us readings rs end hs hr begin calls = from-check s
-    (λ n h ck _. let z : n ≡ 0 = sym (ap (λ x. x .number) (start-refused cells s n ck)) ∙ zero in absurd (omega arith))
-    (λ mains ck _.
-    let d = delivered s mains ck cells readings hs hr (begun-table s mains cells ck zero) zero in
-    record {
-      mains = mains;
-      isAccepted = ck;
-      delivered = d;
-      numbers = calls-numbers s end us readings rs calls ∙ ap (λ vs. numbersOf s vs readings) same ∙ d .numbers;
-      table = calls-table s end us readings rs calls ∙ ap (λ vs. tableAfter s vs readings) same ∙ d .table;
-      moments = calls-moments s end (agreementOf s) mains us ((started (agreementOf s)) .run) readings rs calls (subst (λ vs. Throughout s (agreementOf s) mains vs ((started (agreementOf s)) .run) readings) (sym same) (d .throughout));
-    })
+pub begins : Begins
+unfolding Begins
+begins s lent us start = from-check s
+    (λ n h ck _. let z : n ≡ 0 = sym (ap (λ x. x .number) (start-refused lent s n ck)) ∙ zero in absurd (omega arith))
+    (λ mains ck _. let l = begun-table s mains lent ck zero in
+    (agreementOf s, mains, record { isAccepted = ck; notSix = l; notEleven = sym (written-number lent (started (agreementOf s))) ∙ sym (ap (λ x. x .number) (start-is s (agreementOf s) mains ck lent l)) ∙ zero }))
   where
-    zero : (startOf s cells) .number ≡ 0
-    zero = sym (ap (λ x. x .number) (start-answers begin))
-
-    same : us ≡ (startOf s cells) .table
-    same = ap (λ x. x .table) (start-answers begin)
+    zero : (startOf s lent) .number ≡ 0
+    zero = sym (ap (λ x. x .number) start)

@@ -2,14 +2,14 @@
 use mathlib.Core.Bool.{Bool, false, true, _||_}
 use mathlib.Core.List.{List, _∷_}
 use mathlib.Core.Logic.{inl, inr}
-use mathlib.Core.Path.{refl, subst, sym, _≡_}
+use mathlib.Core.Path.{ap₂, refl, subst, sym, _≡_}
 use Prim.Native.Nat.{_%_, _*_, _+_, _/_, _<_, _^_, suc, zero, ℕ, _≤_}
 use native.Mathlib.Decide.{decLt}
 use native.Mathlib.Nat.{pow-suc}
 use native.Mathlib.Omega.{arith}
 use lib.Dec.{T, eqb, eqb-refl, eqb→eq}
 use Rattle.csl.specs.Parties.{bit, bitsFrom, bitsOf, member, members, membersFrom}
-use Rattle.soundness.proofs.Members.{In, in→member, member→in}
+use Rattle.soundness.proofs.Members.{In, Sub, in→member, member→in}
 
 odd-mod : (m : ℕ) → (1 + 2 * m) % 2 ≡ 1
 odd-mod m = omega arith
@@ -119,3 +119,27 @@ bits-members n h = number-back 16 0 n h
 -- the members of a set of bits have those bits
 pub bits-back : (k i : ℕ) (ps : List ℕ) → bitsFrom k i (membersFrom k i (bitsFrom k i ps)) ≡ bitsFrom k i ps
 bits-back k i ps = number-back k i (bitsFrom k i ps) (bits-lt k i ps)
+
+-- a party is a member of what its set's bits stand for
+pub in-members : (k i : ℕ) (ps : List ℕ) (x : ℕ) → In x ps → i ≤ x → x < i + k → In x (membersFrom k i (bitsFrom k i ps))
+unfolding bitsFrom In
+in-members zero i ps x h lo hi = absurd (omega arith)
+in-members (suc k) i ps x h lo hi = subst (λ l. In x l) (sym (members-step (member i ps) (bitsFrom k (suc i) ps) k i)) (go (member i ps) refl (decLt i x) (λ q. in-members k (suc i) ps x h q (omega arith)))
+  where
+    go : (b : Bool) → member i ps ≡ b → Dec (i < x) → (suc i ≤ x → In x (membersFrom k (suc i) (bitsFrom k (suc i) ps))) → In x (elim b [ true ↦ i ∷ membersFrom k (suc i) (bitsFrom k (suc i) ps) | false ↦ membersFrom k (suc i) (bitsFrom k (suc i) ps) ])
+    go true e (yes q) ih = inr (ih q)
+    go true e (no q) ih = inl (omega arith)
+    go false e (yes q) ih = ih q
+    go false e (no q) ih = let s : i ≡ x = omega arith in absurd (subst T e (subst (λ z. T (member z ps)) (sym s) (in→member x ps h)))
+
+-- the same set has the same bits
+pub same-bits : (k i : ℕ) (ps qs : List ℕ) → Sub ps qs → Sub qs ps → bitsFrom k i ps ≡ bitsFrom k i qs
+unfolding bitsFrom Sub
+same-bits zero i ps qs h g = refl
+same-bits (suc k) i ps qs h g = ap₂ (λ b n. bit b + 2 * n) (go (member i ps) (member i qs) refl refl) (same-bits k (suc i) ps qs h g)
+  where
+    go : (b c : Bool) → member i ps ≡ b → member i qs ≡ c → b ≡ c
+    go true true p q = refl
+    go false false p q = refl
+    go true false p q = absurd (subst T q (in→member i qs (h i (member→in i ps (subst T (sym p) tt)))))
+    go false true p q = absurd (subst T p (in→member i ps (g i (member→in i qs (subst T (sym q) tt)))))

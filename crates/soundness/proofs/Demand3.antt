@@ -1,21 +1,23 @@
--- Demand 3 holds: for an accepted, started agreement and every list of readings, whatever their bytes.
+-- What demand 3 rests on: a run of an accepted, started agreement keeps to the invariant through every list of readings,
+-- and what it does with one more reading, whatever its bytes. Main theorems: `start-inv`, `after-inv`, `step-taken`, `step-eleven`, `step-shows`.
 use mathlib.Core.Bool.{Bool, false, not, true}
 use mathlib.Core.List.{List, [], _∷_}
 use mathlib.Core.Logic.{inl, inr, _↔_, _≢_, _⊎_}
-use mathlib.Core.Option.{none, some}
-use mathlib.Core.Path.{ap, ap₂, refl, subst, sym, _∙_, _≡_}
-use Prim.Native.Nat.{_<_, ℕ, _≤_}
+use mathlib.Core.Option.{Option, none, some}
+use mathlib.Core.Path.{ap, refl, subst, sym, _∙_, _≡_}
+use Prim.Native.Nat.{_<_, suc, zero, ℕ, _≤_}
 use native.Mathlib.Omega.{arith}
 use lib.Dec.{T, nltb→le}
-use Rattle.csl.specs.Lists.{all}
-use Rattle.csl.specs.Syntax.{Agreement, number}
-use Rattle.csl.specs.Check.{accepted, checked, refused}
-use Rattle.csl.specs.Outcomes.{Outcome}
-use Rattle.csl.specs.Rules.{Reading, activate, taken}
-use Rattle.csl.specs.Run.{Stepped, followed, kept, started, step, tooMany}
-use Rattle.csl.specs.Table.{standFor, tableOf}
-use Rattle.csl.specs.Entries.{startOf}
-use Rattle.csl.specs.Demand3.{AllBytes, Answers, BreachOk, Bytes, Demand3, IsBreach, Throughout, fitting, needed, numbersBy, numbersOf, reached, runAfter, tableAfter}
+use Rattle.csl.specs.Lists.{_>>=_, all, at}
+use Rattle.csl.specs.Parties.{subset}
+use Rattle.csl.specs.Syntax.{Agreement, Clause, Join, Template, and, badClause, choice, fulfilled, if, instance, join, number, obligation, or}
+use Rattle.csl.specs.Check.{accepted, checked}
+use Rattle.csl.specs.Values.{Val, evalBool, evals}
+use Rattle.csl.specs.Outcomes.{Outcome, Sight, breach, done, joinBoth, joinEither, joined, orStuck, running, stuck}
+use Rattle.csl.specs.Rules.{Reading, activate, activating, blamedAll, during, walk, walkIn}
+use Rattle.csl.specs.Run.{Run, Stepped, kept, started, step, tooMany}
+use Rattle.csl.specs.Table.{standFor}
+use Rattle.csl.specs.Demand3.{AllBytes, Bytes, IsBreach, fitting, needed, reached, runAfter}
 use Rattle.soundness.proofs.Inversion.{some-inj}
 use Rattle.soundness.proofs.Members.{In, Sub, stand-in}
 use Rattle.soundness.proofs.Evaluation.{HaveTy}
@@ -23,123 +25,156 @@ use Rattle.soundness.proofs.Good.{Good, good-sub}
 use Rattle.soundness.proofs.Walks.{blamed-constant, stands-blamed}
 use Rattle.soundness.proofs.Activation.{activate-good}
 use Rattle.soundness.proofs.Readings.{start-lt}
-use Rattle.soundness.proofs.Runs.{Case, Inv, InvOf, Since, after, agrees, breach-ok, cases, early, few-mains, final, isFair, isPassed, many, misfit, not-stuck, reached-good, reading-fine, runAt, start-is, step-inv, stepped, tooMany-is, written-zero}
+use Rattle.soundness.proofs.Runs.{Case, InvOf, Since, after, breach-ok, cases, early, few-mains, final, isFair, isPassed, many, misfit, not-stuck, reached-good, runAt, step-inv, stepped, tooMany-is}
 
--- ---- the entries of a checked agreement
+-- ---- one more reading
+module _ (a : Agreement) (now : ℕ) (o : Outcome) (r : List ℕ) where
+  abbrev next : Stepped
+  next = step a (runAt now o) r
+
+  -- the reading fits, is not earlier than the last, and what it reaches needs so many units
+  abbrev Fits : (ℕ → Type 0) → Type 0
+  Fits P = (d : Reading) × (fitting a r ≡ some d) × (now ≤ d .time) × P (needed (reached a o d))
+
+  same-reading : (d d′ : Reading) → fitting a r ≡ some d → fitting a r ≡ some d′ → d ≡ d′
+  same-reading d d′ e f = some-inj (sym e ∙ f)
+
+  -- a reading is one reading
+  fits-only : (P : ℕ → Type 0) (d : Reading) → fitting a r ≡ some d → Fits P → (now ≤ d .time) × P (needed (reached a o d))
+  fits-only P d f h = subst (λ x. (now ≤ x .time) × P (needed (reached a o x))) (same-reading (h .0) d (h .1) f) (h .2, h .3)
+
+  no-reading : {C : Type 0} (d : Reading) → fitting a r ≡ none → fitting a r ≡ some d → C
+  no-reading d e f = let z : _≡_ {A = ℕ} 0 1 = cc in absurd (omega arith)
+
+  numbered : (k n : ℕ) (q : Run) → next ≡ stepped n q → next .number ≡ k → n ≡ k
+  numbered k n q e z = sym (ap (λ s. s .number) e) ∙ z
+
+  -- 8 and 9 are neither 0 nor 11
+  eight-or-nine : (n k : ℕ) → (n ≡ 8) ⊎ (n ≡ 9) → n ≡ k → (k ≡ 0) ⊎ (k ≡ 11) → ⊥
+  eight-or-nine n k (inl p) q (inl s) = omega arith
+  eight-or-nine n k (inl p) q (inr s) = omega arith
+  eight-or-nine n k (inr p) q (inl s) = omega arith
+  eight-or-nine n k (inr p) q (inr s) = omega arith
+
+  -- 0 if and only if it fits, is not earlier and needs at most 128 units
+  pub step-taken : Case a now o r → (next .number ≡ 0) ↔ Fits (λ n. n ≤ 128)
+  step-taken (misfit n w f e) = (λ z. absurd (eight-or-nine n 0 w (numbered 0 n _ e z) (inl refl)), λ h. no-reading (h .0) f (h .1))
+  step-taken (early d f lt e) = (
+    λ z. let q : _≡_ {A = ℕ} 10 0 = numbered 0 10 _ e z in absurd (omega arith),
+    λ h. let t = fits-only (λ n. n ≤ 128) d f h in absurd (omega (arith, t .0)),
+  )
+  step-taken (many d f le nd e) = (
+    λ z. let q : _≡_ {A = ℕ} 11 0 = numbered 0 11 _ e z in absurd (omega arith),
+    λ h. let t = fits-only (λ n. n ≤ 128) d f h in absurd (omega (arith, t .1)),
+  )
+  step-taken (after d f le nd nb ok lt e) = (λ z. (d, f, le, nd), λ h. ap (λ s. s .number) e)
+  step-taken (final d f le ib nd e) = (λ z. (d, f, le, nd), λ h. ap (λ s. s .number) e)
+
+  -- 11 if and only if it fits, is not earlier and needs more
+  pub step-eleven : Case a now o r → (next .number ≡ 11) ↔ Fits (λ n. 128 < n)
+  step-eleven (misfit n w f e) = (λ z. absurd (eight-or-nine n 11 w (numbered 11 n _ e z) (inr refl)), λ h. no-reading (h .0) f (h .1))
+  step-eleven (early d f lt e) = (
+    λ z. let q : _≡_ {A = ℕ} 10 11 = numbered 11 10 _ e z in absurd (omega arith),
+    λ h. let t = fits-only (λ n. 128 < n) d f h in absurd (omega (arith, t .0)),
+  )
+  step-eleven (many d f le nd e) = (λ z. (d, f, le, nd), λ h. ap (λ s. s .number) e)
+  step-eleven (after d f le nd nb ok lt e) = (
+    λ z. let q : _≡_ {A = ℕ} 0 11 = numbered 11 0 _ e z in absurd (omega arith),
+    λ h. let t = fits-only (λ n. 128 < n) d f h in absurd (omega (arith, t .1)),
+  )
+  step-eleven (final d f le ib nd e) = (
+    λ z. let q : _≡_ {A = ℕ} 0 11 = numbered 11 0 _ e z in absurd (omega arith),
+    λ h. let t = fits-only (λ n. 128 < n) d f h in absurd (omega (arith, t .1)),
+  )
+
+  -- a refusal changes nothing
+  pub step-refused : Case a now o r → next .number ≢ 0 → next .run ≡ runAt now o
+  step-refused (misfit n w f e) nz = ap (λ s. s .run) e
+  step-refused (early d f lt e) nz = ap (λ s. s .run) e
+  step-refused (many d f le nd e) nz = ap (λ s. s .run) e
+  step-refused (after d f le nd nb ok lt e) nz = absurd (nz (ap (λ s. s .number) e))
+  step-refused (final d f le ib nd e) nz = ap (λ s. s .run) e
+
+  -- nor does anything after a breach
+  pub step-final : Case a now o r → IsBreach o → next .run ≡ runAt now o
+  step-final (misfit n w f e) b = ap (λ s. s .run) e
+  step-final (early d f lt e) b = ap (λ s. s .run) e
+  step-final (many d f le nd e) b = ap (λ s. s .run) e
+  step-final (after d f le nd nb ok lt e) b = absurd (nb b)
+  step-final (final d f le ib nd e) b = ap (λ s. s .run) e
+
+-- ---- a start shows no breach: what is activated waits or is fulfilled
+Unbreached : Outcome → Type 0
+Unbreached o = IsBreach o → ⊥
+
+joined-unbreached : (j : Join) (l r : Outcome) → Unbreached l → Unbreached r → Unbreached (joined j l r)
+unfolding Unbreached IsBreach joined joinBoth joinEither
+joined-unbreached and done r h g = g
+joined-unbreached and (breach t ps) r h g = absurd (h tt)
+joined-unbreached and (running l) done h g = λ b. b
+joined-unbreached and (running l) (breach u qs) h g = absurd (g tt)
+joined-unbreached and (running l) (running r) h g = λ b. b
+joined-unbreached and (running l) stuck h g = λ b. b
+joined-unbreached and stuck r h g = λ b. b
+joined-unbreached or done done h g = λ b. b
+joined-unbreached or done (breach u qs) h g = λ b. b
+joined-unbreached or done (running r) h g = λ b. b
+joined-unbreached or done stuck h g = λ b. b
+joined-unbreached or (breach t ps) r h g = absurd (h tt)
+joined-unbreached or (running l) done h g = λ b. b
+joined-unbreached or (running l) (breach u qs) h g = λ b. b
+joined-unbreached or (running l) (running r) h g = λ b. b
+joined-unbreached or (running l) stuck h g = λ b. b
+joined-unbreached or stuck r h g = λ b. b
+
+unbreached-bind : {A : Type 0} (m : Option A) (f : A → Option Outcome) → ((x : A) → Unbreached (orStuck (f x))) → Unbreached (orStuck (m >>= f))
+unfolding _>>=_ orStuck Unbreached IsBreach
+unbreached-bind none f h = λ b. b
+unbreached-bind (some x) f h = h x
+
+module _ (un : ℕ → List Val → List ℕ → ℕ → Outcome) (uq : (k : ℕ) (vs : List Val) (ps : List ℕ) (a : ℕ) → Unbreached (un k vs ps a)) where
+  walk-unbreached : (c : Clause) (e : Sight) (a : ℕ) → Unbreached (walk activating un c e a)
+  unfolding walk activating orStuck Unbreached IsBreach
+  walk-unbreached fulfilled e a = λ b. b
+  walk-unbreached (obligation b w t) e a = λ b. b
+  walk-unbreached (choice w t f) e a = λ b. b
+  walk-unbreached (if x t f) e a = unbreached-bind (evalBool (e .values) x) _ (side (walk-unbreached t e a) (walk-unbreached f e a))
+    where
+      side : Unbreached (walk activating un t e a) → Unbreached (walk activating un f e a) → (b : Bool) → Unbreached (orStuck (elim b [ true ↦ some (walk activating un t e a) | false ↦ some (walk activating un f e a) ]))
+      side h g true = h
+      side h g false = g
+  walk-unbreached (join j t f) e a = joined-unbreached j (walk activating un t e a) (walk activating un f e a) (walk-unbreached t e a) (walk-unbreached f e a)
+  walk-unbreached (instance k es bs) e a = unbreached-bind (evals (e .values) es) _ λ vs. unbreached-bind (blamedAll (e .params) bs) _ λ ps. uq k vs ps a
+  walk-unbreached badClause e a = λ b. b
+
+walkIn-unbreached : (ts : List Template) (n : ℕ) (c : Clause) (e : Sight) (a : ℕ) → Unbreached (walkIn activating ts n c e a)
+unfolding walkIn Unbreached IsBreach orStuck
+walkIn-unbreached ts zero = walk-unbreached _ (λ k vs ps a b. b)
+walkIn-unbreached ts (suc n) = walk-unbreached _ (λ k vs ps a. unbreached-bind (at ts k) _ (λ t. walkIn-unbreached ts n (t .body) (record { params = ps; values = vs }) a))
+
+-- ---- a checked agreement
 module _ (bytes : List ℕ) (a : Agreement) (mains : List ℕ) (ck : checked bytes ≡ accepted a mains) where
-  -- ---- what the step says of a reading
-  same-reading : (d d′ : Reading) (r : List ℕ) → fitting a r ≡ some d → fitting a r ≡ some d′ → d ≡ d′
-  same-reading d d′ r e f = some-inj (sym e ∙ f)
+  abbrev Inv : Run → Type 0
+  Inv q = InvOf bytes a mains ck q
 
-  abbrev Fits : ℕ → Outcome → List ℕ → (ℕ → Type 0) → Type 0
-  Fits now o r P = (d : Reading) × (fitting a r ≡ some d) × (now ≤ d .time) × P (needed (reached a o d))
-
-  no-reading : {C : Type 0} (r : List ℕ) (d : Reading) → fitting a r ≡ none → fitting a r ≡ some d → C
-  no-reading r d e f = let z : _≡_ {A = ℕ} 0 1 = cc in absurd (omega arith)
-
-  step-taken : (now : ℕ) (o : Outcome) (r : List ℕ) → Case a now o r → ((step a (runAt now o) r) .number ≡ 0) ↔ Fits now o r (λ n. n ≤ 128)
-  step-taken now o r (misfit n w f e) = (λ z. absurd (eight n w (sym (ap (λ s. s .number) e) ∙ z)), λ h. no-reading r (h .0) f (h .1))
+  -- a breach that a reading makes: by some parties, all the main clause's, at a time from the start to that reading
+  pub step-shows : (q : Run) (r : List ℕ) → Inv q → (IsBreach (q .outcome) → ⊥) → (t : ℕ) (ps : List ℕ) → (step a q r) .run .outcome ≡ breach t ps
+      → (d : Reading) × (fitting a r ≡ some d) × (ps ≢ []) × T (subset ps mains) × (a .start ≤ t) × (t ≤ d .time)
+  unfolding IsBreach
+  step-shows q r i nb t ps b = go (cases a (q .lastTime) (q .outcome) r (not-stuck a mains (q .lastTime) (q .outcome) (i .good)))
     where
-      eight : (n : ℕ) → (n ≡ 8) ⊎ (n ≡ 9) → n ≡ 0 → ⊥
-      eight n (inl p) q = omega arith
-      eight n (inr p) q = omega arith
-  step-taken now o r (early d f lt e) = (
-    λ z. let q : _≡_ {A = ℕ} 10 0 = sym (ap (λ s. s .number) e) ∙ z in absurd (omega arith),
-    λ h. let q : d ≡ h .0 = same-reading d (h .0) r f (h .1) in let t : d .time ≡ h .0 .time = ap (λ x. x .time) q in absurd (omega (arith, h .2)),
-  )
-  step-taken now o r (many d f le nd e) = (
-    λ z. let q : _≡_ {A = ℕ} 11 0 = sym (ap (λ s. s .number) e) ∙ z in absurd (omega arith),
-    λ h. let q : d ≡ h .0 = same-reading d (h .0) r f (h .1) in let t : needed (reached a o d) ≡ needed (reached a o (h .0)) = ap (λ x. needed (reached a o x)) q in absurd (omega (arith, h .3)),
-  )
-  step-taken now o r (after d f le nd nb ok lt e) = (λ z. (d, f, le, nd), λ h. ap (λ s. s .number) e)
-  step-taken now o r (final d f le ib nd e) = (λ z. (d, f, le, nd), λ h. ap (λ s. s .number) e)
+      unmoved : (n : ℕ) → step a q r ≡ stepped n q → ⊥
+      unmoved n e = nb (subst IsBreach (sym (sym (ap (λ s. s .run .outcome) e) ∙ b)) tt)
 
-  step-eleven : (now : ℕ) (o : Outcome) (r : List ℕ) → Case a now o r → ((step a (runAt now o) r) .number ≡ 11) ↔ Fits now o r (λ n. 128 < n)
-  step-eleven now o r (misfit n w f e) = (λ z. absurd (eight n w (sym (ap (λ s. s .number) e) ∙ z)), λ h. no-reading r (h .0) f (h .1))
-    where
-      eight : (n : ℕ) → (n ≡ 8) ⊎ (n ≡ 9) → n ≡ 11 → ⊥
-      eight n (inl p) q = omega arith
-      eight n (inr p) q = omega arith
-  step-eleven now o r (early d f lt e) = (
-    λ z. let q : _≡_ {A = ℕ} 10 11 = sym (ap (λ s. s .number) e) ∙ z in absurd (omega arith),
-    λ h. let q : d ≡ h .0 = same-reading d (h .0) r f (h .1) in let t : d .time ≡ h .0 .time = ap (λ x. x .time) q in absurd (omega (arith, h .2)),
-  )
-  step-eleven now o r (many d f le nd e) = (λ z. (d, f, le, nd), λ h. ap (λ s. s .number) e)
-  step-eleven now o r (after d f le nd nb ok lt e) = (
-    λ z. let q : _≡_ {A = ℕ} 0 11 = sym (ap (λ s. s .number) e) ∙ z in absurd (omega arith),
-    λ h. let q : d ≡ h .0 = same-reading d (h .0) r f (h .1) in let t : needed (reached a o d) ≡ needed (reached a o (h .0)) = ap (λ x. needed (reached a o x)) q in absurd (omega (arith, h .3)),
-  )
-  step-eleven now o r (final d f le ib nd e) = (
-    λ z. let q : _≡_ {A = ℕ} 0 11 = sym (ap (λ s. s .number) e) ∙ z in absurd (omega arith),
-    λ h. let q : d ≡ h .0 = same-reading d (h .0) r f (h .1) in let t : needed (reached a o d) ≡ needed (reached a o (h .0)) = ap (λ x. needed (reached a o x)) q in absurd (omega (arith, h .3)),
-  )
-
-  step-shows : (now : ℕ) (o : Outcome) (r : List ℕ) → Inv a mains now o → Case a now o r → (IsBreach o → ⊥) → IsBreach ((step a (runAt now o) r) .run .outcome) → (d : Reading) × (fitting a r ≡ some d) × BreachOk a mains (d .time) ((step a (runAt now o) r) .run .outcome)
-  step-shows now o r i (misfit n w f e) nb b = absurd (nb (subst (λ s. IsBreach (s .run .outcome)) e b))
-  step-shows now o r i (early d f lt e) nb b = absurd (nb (subst (λ s. IsBreach (s .run .outcome)) e b))
-  step-shows now o r i (many d f le nd e) nb b = absurd (nb (subst (λ s. IsBreach (s .run .outcome)) e b))
-  step-shows now o r i (after d f le nd nb′ ok lt e) nb b = (d, f, subst (λ s. BreachOk a mains (d .time) (s .run .outcome)) (sym e) (breach-ok a mains (d .time) (reached a o d) (reached-good bytes a mains ck now o d le ok nb i)))
-  step-shows now o r i (final d f le ib nd e) nb b = absurd (nb ib)
-
-  step-final : (now : ℕ) (o : Outcome) (r : List ℕ) → Case a now o r → IsBreach o → (step a (runAt now o) r) .run ≡ runAt now o
-  step-final now o r (misfit n w f e) b = ap (λ s. s .run) e
-  step-final now o r (early d f lt e) b = ap (λ s. s .run) e
-  step-final now o r (many d f le nd e) b = ap (λ s. s .run) e
-  step-final now o r (after d f le nd nb ok lt e) b = absurd (nb b)
-  step-final now o r (final d f le ib nd e) b = ap (λ s. s .run) e
-
-  -- a reading that is taken before a breach is followed, and one that is refused changes nothing
-  step-followed : (now : ℕ) (o : Outcome) (r : List ℕ) → Case a now o r → (d : Reading) → fitting a r ≡ some d → now ≤ d .time → needed (reached a o d) ≤ 128 → (IsBreach o → ⊥) → (step a (runAt now o) r) .run ≡ runAt (d .time) (reached a o d)
-  step-followed now o r (misfit n w f e) d fd le nd nb = no-reading r d f fd
-  step-followed now o r (early d′ f lt e) d fd le nd nb = let t : d′ .time ≡ d .time = ap (λ x. x .time) (same-reading d′ d r f fd) in absurd (omega arith)
-  step-followed now o r (many d′ f le′ nd′ e) d fd le nd nb = let t : needed (reached a o d′) ≡ needed (reached a o d) = ap (λ x. needed (reached a o x)) (same-reading d′ d r f fd) in absurd (omega arith)
-  step-followed now o r (after d′ f le′ nd′ nb′ ok lt e) d fd le nd nb = ap (λ s. s .run) e ∙ ap (λ x. runAt (x .time) (reached a o x)) (same-reading d′ d r f fd)
-  step-followed now o r (final d′ f le′ ib nd′ e) d fd le nd nb = absurd (nb ib)
-
-  step-refused : (now : ℕ) (o : Outcome) (r : List ℕ) → Case a now o r → (step a (runAt now o) r) .number ≢ 0 → (step a (runAt now o) r) .run ≡ runAt now o
-  step-refused now o r (misfit n w f e) nz = ap (λ s. s .run) e
-  step-refused now o r (early d f lt e) nz = ap (λ s. s .run) e
-  step-refused now o r (many d f le nd e) nz = ap (λ s. s .run) e
-  step-refused now o r (after d f le nd nb ok lt e) nz = absurd (nz (ap (λ s. s .number) e))
-  step-refused now o r (final d f le ib nd e) nz = ap (λ s. s .run) e
-
-  answers : (now : ℕ) (o : Outcome) (r : List ℕ) → Inv a mains now o → Answers bytes a mains (tableOf (runAt now o)) (runAt now o) r
-  answers now o r i =
-      let x = reading-fine bytes a mains ck now o r i in
-      let c = cases a now o r (not-stuck a mains now o (i .good)) in
-      let t = step-taken now o r c in
-      let l = step-eleven now o r c in
-      record {
-        number = x .0;
-        taken = (λ h. t .0 (sym (x .0) ∙ h), λ h. x .0 ∙ t .1 h);
-        eleven = (λ h. l .0 (sym (x .0) ∙ h), λ h. x .0 ∙ l .1 h);
-        followed = step-followed now o r c;
-        refused = λ nz. x .1 ∙ ap tableOf (step-refused now o r c (λ z. nz (x .0 ∙ z)));
-        shows = step-shows now o r i c;
-        final = λ b. x .1 ∙ ap tableOf (step-final now o r c b);
-      }
-
-  throughout : (now : ℕ) (o : Outcome) (rs : List (List ℕ)) → AllBytes rs → Inv a mains now o → Throughout bytes a mains (tableOf (runAt now o)) (runAt now o) rs
-  unfolding Throughout AllBytes
-  throughout now o [] h i = agrees bytes a mains ck now o i
-  throughout now o (r ∷ rs) h i =
-      let s = (step a (runAt now o) r) .run in
-      (agrees bytes a mains ck now o i, answers now o r i, subst (λ cells. Throughout bytes a mains cells s rs) (sym ((reading-fine bytes a mains ck now o r i) .1)) (throughout (s .lastTime) (s .outcome) rs (h .1) (step-inv bytes a mains ck now o r (h .0) i)))
-
-  table-after : (now : ℕ) (o : Outcome) (rs : List (List ℕ)) → AllBytes rs → Inv a mains now o → tableAfter bytes (tableOf (runAt now o)) rs ≡ tableOf (runAfter a (runAt now o) rs)
-  unfolding tableAfter runAfter AllBytes
-  table-after now o [] h i = refl
-  table-after now o (r ∷ rs) h i =
-      let s = (step a (runAt now o) r) .run in
-      ap (λ c. tableAfter bytes c rs) ((reading-fine bytes a mains ck now o r i) .1) ∙ table-after (s .lastTime) (s .outcome) rs (h .1) (step-inv bytes a mains ck now o r (h .0) i)
-
-  numbers-after : (now : ℕ) (o : Outcome) (rs : List (List ℕ)) → AllBytes rs → Inv a mains now o → numbersOf bytes (tableOf (runAt now o)) rs ≡ numbersBy a (runAt now o) rs
-  unfolding numbersOf numbersBy AllBytes
-  numbers-after now o [] h i = refl
-  numbers-after now o (r ∷ rs) h i =
-      let x = reading-fine bytes a mains ck now o r i in
-      let s = (step a (runAt now o) r) .run in
-      ap₂ (λ n c. n ∷ numbersOf bytes c rs) (x .0) (x .1) ∙ ap (λ l. (step a (runAt now o) r) .number ∷ l) (numbers-after (s .lastTime) (s .outcome) rs (h .1) (step-inv bytes a mains ck now o r (h .0) i))
+      go : Case a (q .lastTime) (q .outcome) r → (d : Reading) × (fitting a r ≡ some d) × (ps ≢ []) × T (subset ps mains) × (a .start ≤ t) × (t ≤ d .time)
+      go (misfit n w f e) = absurd (unmoved n e)
+      go (early d f lt e) = absurd (unmoved 10 e)
+      go (many d f le nd e) = absurd (unmoved 11 e)
+      go (after d f le nd nb′ ok lt e) =
+          let reaches : reached a (q .outcome) d ≡ breach t ps = sym (ap (λ s. s .run .outcome) e) ∙ b in
+          let k = breach-ok a mains (d .time) t ps (subst (Good a (Since a (d .time)) mains) reaches (reached-good bytes a mains ck (q .lastTime) (q .outcome) d le ok nb i)) in
+          (d, f, k .0, k .1, k .2, k .3)
+      go (final d f le ib nd e) = absurd (nb ib)
 
   -- ---- the start
   first : Outcome
@@ -157,24 +192,24 @@ module _ (bytes : List ℕ) (a : Agreement) (mains : List ℕ) (ck : checked byt
   choose : Bool → Stepped
   choose b = elim b [ true ↦ stepped 11 (runAt (a .start) first) | false ↦ stepped 0 (runAt (a .start) first) ]
 
-  start-inv : Bytes bytes → (started a) .number ≡ 0 → InvOf bytes a mains ck ((started a) .run)
+  pub start-inv : Bytes bytes → (started a) .number ≡ 0 → Inv ((started a) .run)
   unfolding started kept first choose
   start-inv hb h = go (tooMany first) refl h
     where
-      go : (b : Bool) → tooMany first ≡ b → (choose b) .number ≡ 0 → InvOf bytes a mains ck ((choose b) .run)
+      go : (b : Bool) → tooMany first ≡ b → (choose b) .number ≡ 0 → Inv ((choose b) .run)
       go true e q = absurd (omega arith)
       go false e q = record { from = omega arith; fits = start-lt bytes a hb ((isPassed bytes a mains ck) .decodes); good = first-good; small = nltb→le 128 (needed first) (subst (λ b. T (not b)) (sym e ∙ tooMany-is first) tt) }
 
--- The single claim over the whole list: never stuck, each answer the run's, the table well typed and the run's cell for cell, 0 and 11 if and only if .., breaches in order, nothing altered after one.
-pub demand3 : Demand3
-unfolding Demand3
-demand3 bytes a mains cells rs hb hr ck l st =
-    let e : startOf bytes cells ≡ record { number = 0; table = tableOf ((started a) .run) } = start-is bytes a mains ck cells l ∙ written-zero cells (started a) st in
-    let s = (started a) .run in
-    let i = start-inv bytes a mains ck hb st in
-    record {
-      start = ap (λ x. x .number) e;
-      table = ap (λ x. tableAfter bytes (x .table) rs) e ∙ table-after bytes a mains ck (s .lastTime) (s .outcome) rs hr i;
-      numbers = ap (λ x. numbersOf bytes (x .table) rs) e ∙ numbers-after bytes a mains ck (s .lastTime) (s .outcome) rs hr i;
-      throughout = subst (λ x. Throughout bytes a mains (x .table) s rs) (sym e) (throughout bytes a mains ck (s .lastTime) (s .outcome) rs hr i);
-    }
+  pub start-unbreached : IsBreach ((started a) .run .outcome) → ⊥
+  unfolding started kept first choose activate during Unbreached
+  start-unbreached = go (tooMany first)
+    where
+      go : (b : Bool) → IsBreach ((choose b) .run .outcome) → ⊥
+      go true = walkIn-unbreached (a .templates) _ (a .main) _ (a .start)
+      go false = walkIn-unbreached (a .templates) _ (a .main) _ (a .start)
+
+  -- ---- every list of readings, whatever their bytes
+  pub after-inv : (q : Run) (rs : List (List ℕ)) → AllBytes rs → Inv q → Inv (runAfter a q rs)
+  unfolding runAfter AllBytes
+  after-inv q [] h i = i
+  after-inv q (r ∷ rs) h i = after-inv ((step a q r) .run) rs (h .1) (step-inv bytes a mains ck (q .lastTime) (q .outcome) r (h .0) i)

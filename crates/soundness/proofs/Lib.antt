@@ -16,4 +16,5 @@ pub mod Runs
 pub mod Demand3
 pub mod ReadBack
 pub mod Forecasts
+pub mod Keeps
 pub mod Marks

@@ -10,7 +10,7 @@ use lib.Dec.{T, leb, leb→le, ltb, ltb→lt, nltb→le}
 use lib.IntN.{ℤ}
 use lib.ListN.{length, length-append}
 use Rattle.csl.specs.Lists.{_>>=_}
-use Rattle.csl.specs.Parties.{bitsOf, members}
+use Rattle.csl.specs.Parties.{bitsOf, members, subset}
 use Rattle.csl.specs.Syntax.{Agreement, number}
 use Rattle.csl.specs.Typing.{blameOk, namesOf}
 use Rattle.csl.specs.Check.{accepted, checked, refused}
@@ -20,7 +20,7 @@ use Rattle.csl.specs.Places.{follow}
 use Rattle.csl.specs.Run.{Fit, Raw, Run, Stepped, fit, fitOf, followed, kept, rawReading, started, step, tooMany, typedReading, unfit}
 use Rattle.csl.specs.Table.{headCells, joinCells, natCells, padded, residueCells, runOf, tableLength, tableOf}
 use Rattle.csl.specs.Entries.{Answer, isTable, readingOf, refusal, startOf, written}
-use Rattle.csl.specs.Demand3.{Agrees, BreachOk, Bytes, IsBreach, NotStuck, fitting, needed, reached}
+use Rattle.csl.specs.Demand3.{Bytes, IsBreach, NotStuck, fitting, needed, reached}
 use Rattle.soundness.proofs.Inversion.{T-left, T-or, T-right, some-bind}
 use Rattle.soundness.proofs.Members.{In, sub→subset}
 use Rattle.soundness.proofs.Good.{Good, Ok, good-sub}
@@ -117,15 +117,12 @@ not-stuck a mains now (breach t ps) g = tt
 not-stuck a mains now (running r) g = tt
 not-stuck a mains now stuck g = g
 
-pub breach-ok : (a : Agreement) (mains : List ℕ) (now : ℕ) (o : Outcome) → Good a (Since a now) mains o → BreachOk a mains now o
-unfolding Good BreachOk In
-breach-ok a mains now done g = tt
-breach-ok a mains now (breach t ps) g = (nonempty ps (g .0) (g .1), sub→subset ps mains (g .2), g .3 .0, g .3 .1)
+pub breach-ok : (a : Agreement) (mains : List ℕ) (now t : ℕ) (ps : List ℕ) → Good a (Since a now) mains (breach t ps) → (ps ≢ []) × T (subset ps mains) × (a .start ≤ t) × (t ≤ now)
+unfolding Good In
+breach-ok a mains now t ps g = (nonempty, sub→subset ps mains (g .2), g .3 .0, g .3 .1)
   where
-    nonempty : (ps : List ℕ) (p : ℕ) → In p ps → ps ≢ []
-    nonempty ps p i e = subst (λ l. In p l) e i
-breach-ok a mains now (running r) g = tt
-breach-ok a mains now stuck g = g
+    nonempty : ps ≢ []
+    nonempty e = subst (λ l. In (g .0) l) e (g .1)
 
 pub cells-len : (a : Agreement) (W : ℕ → Type 0) (res : Residue) (ps : List ℕ) → Ok a W res ps → length (residueCells res) ≡ 24 * units res
 unfolding Ok residueCells units
@@ -136,7 +133,7 @@ head-len : (s n t b u : ℕ) → length (headCells s n t b u) ≡ 8
 unfolding headCells natCells
 head-len s n t b u = refl
 
-table-len : (a : Agreement) (mains : List ℕ) (now : ℕ) (o : Outcome) → Inv a mains now o → length (tableOf (runAt now o)) ≡ 3080
+pub table-len : (a : Agreement) (mains : List ℕ) (now : ℕ) (o : Outcome) → Inv a mains now o → length (tableOf (runAt now o)) ≡ 3080
 unfolding tableOf
 table-len a mains now done i = len-padded 3080 (headCells 2 now 0 0 0) (omega (arith, head-len 2 now 0 0 0))
 table-len a mains now (breach t ps) i = len-padded 3080 (headCells 3 now t (bitsOf ps) 0) (omega (arith, head-len 3 now t (bitsOf ps) 0))
@@ -267,9 +264,9 @@ module _ (bytes : List ℕ) (a : Agreement) (mains : List ℕ) (ck : checked byt
       go (after d f le nd nb ok lt e) = subst (λ s. InvOf (s .run)) (sym e) (record { from = omega (arith, i .from); fits = lt hr; good = reached-good now o d le ok nb i; small = nd })
       go (final d f le ib nd e) = subst (λ s. InvOf (s .run)) (sym e) i
 
-  pub agrees : (now : ℕ) (o : Outcome) → Inv a mains now o → Agrees a mains (tableOf (runAt now o)) (runAt now o)
-  agrees now o i = let x = reads a mains few-mains now o i in
-      record { table = refl; wellTyped = (runAt now (x .0), x .1); moves = not-stuck a mains now o (i .good); breachOk = breach-ok a mains now o (i .good) }
+  -- 7 does not apply to its table
+  pub table-typed : (q : Run) → InvOf q → (length (tableOf q) ≡ 3080) × ((p : Run) × (runOf a mains (tableOf q) ≡ some p))
+  table-typed q i = let x = reads a mains few-mains (q .lastTime) (q .outcome) i in (table-len a mains (q .lastTime) (q .outcome) i, (runAt (q .lastTime) (x .0), x .1))
 
 pub written-zero : (cells : List ℤ) (s : Stepped) → s .number ≡ 0 → written cells s ≡ record { number = 0; table = tableOf (s .run) }
 unfolding written refusal
@@ -278,3 +275,11 @@ written-zero cells s h = go (s .number) h
     go : (n : ℕ) → n ≡ 0 → _≡_ {A = Answer} (elim n [ zero ↦ record { number = 0; table = tableOf (s .run) } | suc m ↦ record { number = s .number; table = cells } ]) (record { number = 0; table = tableOf (s .run) })
     go zero e = refl
     go (suc n) e = absurd (omega arith)
+
+pub written-number : (cells : List ℤ) (s : Stepped) → (written cells s) .number ≡ s .number
+unfolding written refusal
+written-number cells s = go (s .number) refl
+  where
+    go : (n : ℕ) → s .number ≡ n → (elim n as (λ _. Answer) [ zero ↦ record { number = 0; table = tableOf (s .run) } | suc k ↦ record { number = s .number; table = cells } ]) .number ≡ s .number
+    go zero e = sym e
+    go (suc n) e = refl
