@@ -157,7 +157,7 @@ module _ (bytes : List ℕ) (a : Agreement) (mains : List ℕ) (ck : checked byt
   choose : Bool → Stepped
   choose b = elim b [ true ↦ stepped 11 (runAt (a .start) first) | false ↦ stepped 0 (runAt (a .start) first) ]
 
-  start-inv : Bytes bytes → (started a) .number ≡ 0 → InvOf bytes a mains ck ((started a) .run)
+  pub start-inv : Bytes bytes → (started a) .number ≡ 0 → InvOf bytes a mains ck ((started a) .run)
   unfolding started kept first choose
   start-inv hb h = go (tooMany first) refl h
     where

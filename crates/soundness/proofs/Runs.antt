@@ -136,7 +136,7 @@ head-len : (s n t b u : ℕ) → length (headCells s n t b u) ≡ 8
 unfolding headCells natCells
 head-len s n t b u = refl
 
-table-len : (a : Agreement) (mains : List ℕ) (now : ℕ) (o : Outcome) → Inv a mains now o → length (tableOf (runAt now o)) ≡ 3080
+pub table-len : (a : Agreement) (mains : List ℕ) (now : ℕ) (o : Outcome) → Inv a mains now o → length (tableOf (runAt now o)) ≡ 3080
 unfolding tableOf
 table-len a mains now done i = len-padded 3080 (headCells 2 now 0 0 0) (omega (arith, head-len 2 now 0 0 0))
 table-len a mains now (breach t ps) i = len-padded 3080 (headCells 3 now t (bitsOf ps) 0) (omega (arith, head-len 3 now t (bitsOf ps) 0))
