@@ -32,7 +32,8 @@ use Rattle.published.specs.Fig6.{Due, due}
 use Rattle.published.specs.Verdicts.{Joins, and-first, and-second, and-same, or-first, or-second, or-same}
 use Rattle.published.specs.Fig8.{Matches, matching, Waits, early, other, untrue, sightOf}
 use Rattle.published.specs.Rewriting.{rewritten}
-use Rattle.published.specs.Literal.{Text, closed, joins, Residual, clause, breached, Composes, l-clauses, l-and-left, l-and-right, l-and-first, l-and-second, l-and-same, l-or-left, l-or-right, l-or-first, l-or-second, l-or-same, Literal, l-fulfilment, l-obligation-matched, l-obligation-late, l-obligation-waiting, l-choice-matched, l-choice-late, l-choice-waiting, l-composition, l-joins, l-internal-true, l-internal-false, l-instantiation}
+use Rattle.published.specs.Literal.{Residual, clause, breached, Composes, l-clauses, l-and-left, l-and-right, l-and-first, l-and-second, l-and-same, l-or-left, l-or-right, l-or-first, l-or-second, l-or-same}
+use Rattle.published.proofs.Sighted.{Text, closed, joins, Sighted, i-fulfilment, i-obligation-matched, i-obligation-late, i-obligation-waiting, i-choice-matched, i-choice-late, i-choice-waiting, i-composition, i-joins, i-internal-true, i-internal-false, i-instantiation}
 use Rattle.published.proofs.Evaluations.{all-derived, bool-derived, evals-derived, num-derived, stands-derived}
 use Rattle.published.proofs.Verdicts.{joins-derived}
 use Rattle.published.proofs.Reducing.{ltZ-false, true-ltZ, false-ltZ, type-other}
@@ -61,7 +62,7 @@ not-less : (x y : ℤ) → y ≤ℤ x → T (not (ltZ x y))
 not-less x y h = subst (λ z. T (not z)) (sym (ltZ-false x y h)) tt
 
 -- ---- two breaches that can be joined as outcomes can be joined to the letter
-two-breaches : {j : Join} {t u : ℕ} {B C : List ℕ} {o : Outcome} → Joins j (breach t B) (breach u C) o → (v : ℕ) × (E : List ℕ) × Composes j (breached t B) (breached u C) (breached v E) × (o ≡ breach v E)
+two-breaches : {j : Join} {t u : ℕ} {B C : List ℕ} {o : Outcome} → Joins j (breach t B) (breach u C) o → (v : ℕ) × (E : List ℕ) × Composes joins j (breached t B) (breached u C) (breached v E) × (o ≡ breach v E)
 two-breaches (and-first l) = (_, _, l-and-first l, refl)
 two-breaches (and-second l) = (_, _, l-and-second l, refl)
 two-breaches and-same = (_, _, l-and-same, refl)
@@ -74,15 +75,15 @@ module _ (ag : Agreement) (mains : List ℕ) (fair : Fair ag mains) (ε : Readin
   W t = Since ag (ε .time) t
 
   -- a typed text whose parties are among P, or a breach by some of P at a time from the start to the reading
-  abbrev pub Sound : List ℕ → Residual → Type 0
+  abbrev pub Sound : List ℕ → Residual Text → Type 0
   Sound P (clause x) = (ps : List ℕ) × Typed ag x ps × Sub ps P
   Sound P (breached t B) = Good ag W P (breach t B)
 
-  sound-sub : (P Q : List ℕ) (r : Residual) → Sub P Q → Sound P r → Sound Q r
+  sound-sub : (P Q : List ℕ) (r : Residual Text) → Sub P Q → Sound P r → Sound Q r
   sound-sub P Q (clause x) h g = (g .0, g .1, sub-trans (g .0) P Q (g .2) h)
   sound-sub P Q (breached t B) h g = good-sub ag W P Q (breach t B) h g
 
-  composed : (j : Join) (P Q : List ℕ) (r₁ r₂ : Residual) → T (joinOk j (P ++ Q)) → Sound P r₁ → Sound Q r₂ → (r : Residual) × Composes j r₁ r₂ r × Sound (P ++ Q) r
+  composed : (j : Join) (P Q : List ℕ) (r₁ r₂ : Residual Text) → T (joinOk j (P ++ Q)) → Sound P r₁ → Sound Q r₂ → (r : Residual Text) × Composes joins j r₁ r₂ r × Sound (P ++ Q) r
   unfolding Sub
   composed j P Q (clause x) (clause y) ok f g =
       let both-in = sub-both (f .0) (g .0) P Q (f .2) (g .2) in
@@ -155,7 +156,7 @@ module _ (ag : Agreement) (mains : List ℕ) (fair : Fair ag mains) (ε : Readin
 
   -- ---- a text and what the letter gives of it at τ
   abbrev pub Gives : ℕ → Text → List ℕ → Type 0
-  Gives τ x P = (r : Residual) × Literal (ag .templates) ε τ x r × Sound P r
+  Gives τ x P = (r : Residual Text) × Sighted (ag .templates) ε τ x r × Sound P r
 
   -- instances of the templates below m
   abbrev Instances : ℕ → Type 0
@@ -164,7 +165,7 @@ module _ (ag : Agreement) (mains : List ℕ) (fair : Fair ag mains) (ε : Readin
 
   clause-gives : (m : ℕ) → Instances m → (c : Clause) (n : ℕ) (env : List Ty) (s : Sight) (τ : ℕ) (bs : List ℕ) → T (guardedIn m c) → SightOk ag n env s → W τ → typeClause (namesOf ag n) env c ≡ some bs → Gives τ (closed s c) (standFor (s .params) bs)
   unfolding guardedIn typeClause Sub namesOf withValues
-  clause-gives m below fulfilled n env s τ bs gd ok wτ ty = (_, l-fulfilment, (_, t-clause n env bs ok ty, sub-refl (standFor (s .params) bs)))
+  clause-gives m below fulfilled n env s τ bs gd ok wτ ty = (_, i-fulfilment, (_, t-clause n env bs ok ty, sub-refl (standFor (s .params) bs)))
   clause-gives m below (obligation b w c) n env s τ bs gd ok wτ ty =
       from-need (blameOk (namesOf ag n) b) _ bs ty λ bo q₁.
       from-bind (typeWait (namesOf ag n) env w) _ bs q₁ λ vs tw q₂.
@@ -176,9 +177,9 @@ module _ (ag : Agreement) (mains : List ℕ) (fair : Fair ag mains) (ε : Readin
 
       by-way : T (blameOk (namesOf ag n) b) → (vs : List Ty) (ps : List ℕ) → typeClause (namesOf ag n) (thenSight env vs) c ≡ some ps → b ∷ ps ≡ bs → (d : Window) → Due (s .values) τ w d → Way n env s τ w vs d → Gives τ (closed s (obligation b w c)) (standFor (s .params) bs)
       by-way bo vs ps p eq d dd (is-late l wl) = blamed-ok ag n env s ok (fair .few) b bo λ who e st lt.
-          (_, l-obligation-late d dd l (stands-derived (s .params) b who e), breach-good ag W (s .params) b who (laterOf τ (d .last)) ps bs st eq wl)
-      by-way bo vs ps p eq d dd (is-matched m known) = (_, l-obligation-matched d dd m, (_, t-clause n (thenSight env vs) ps known p, stand-sub (s .params) ps bs (subst (λ l. Sub ps l) eq (λ x i. in-right x (b ∷ []) ps i))))
-      by-way bo vs ps p eq d dd (is-waiting k e) = (_, l-obligation-waiting d dd k, (_, t-clause n env bs ok (retyped (rewritten w d (ε .time)) e), sub-refl (standFor (s .params) bs)))
+          (_, i-obligation-late d dd l (stands-derived (s .params) b who e), breach-good ag W (s .params) b who (laterOf τ (d .last)) ps bs st eq wl)
+      by-way bo vs ps p eq d dd (is-matched m known) = (_, i-obligation-matched d dd m, (_, t-clause n (thenSight env vs) ps known p, stand-sub (s .params) ps bs (subst (λ l. Sub ps l) eq (λ x i. in-right x (b ∷ []) ps i))))
+      by-way bo vs ps p eq d dd (is-waiting k e) = (_, i-obligation-waiting d dd k, (_, t-clause n env bs ok (retyped (rewritten w d (ε .time)) e), sub-refl (standFor (s .params) bs)))
   clause-gives m below (choice w c f) n env s τ bs gd ok wτ ty =
       from-bind (typeWait (namesOf ag n) env w) _ bs ty λ vs tw q₂.
       from-bind (typeClause (namesOf ag n) (thenSight env vs) c) _ bs q₂ λ ps p q₃.
@@ -191,9 +192,9 @@ module _ (ag : Agreement) (mains : List ℕ) (fair : Fair ag mains) (ε : Readin
       by-way : (vs : List Ty) (ps qs : List ℕ) → typeClause (namesOf ag n) (thenSight env vs) c ≡ some ps → ps ++ qs ≡ bs → (d : Window) → Due (s .values) τ w d → ((u : ℕ) → W u → Gives u (closed s f) (standFor (s .params) qs)) → Way n env s τ w vs d → Gives τ (closed s (choice w c f)) (standFor (s .params) bs)
       by-way vs ps qs p eq d dd else-gives (is-late l wl) =
           let g = else-gives (laterOf τ (d .last)) wl in
-          (g .0, l-choice-late d dd l (g .1), sound-sub (standFor (s .params) qs) (standFor (s .params) bs) (g .0) (stand-sub (s .params) qs bs (subst (λ l. Sub qs l) eq (λ x i. in-right x ps qs i))) (g .2))
-      by-way vs ps qs p eq d dd else-gives (is-matched m known) = (_, l-choice-matched d dd m, (_, t-clause n (thenSight env vs) ps known p, stand-sub (s .params) ps bs (subst (λ l. Sub ps l) eq (λ x i. in-left x ps qs i))))
-      by-way vs ps qs p eq d dd else-gives (is-waiting k e) = (_, l-choice-waiting d dd k, (_, t-clause n env bs ok (retyped (rewritten w d (ε .time)) e), sub-refl (standFor (s .params) bs)))
+          (g .0, i-choice-late d dd l (g .1), sound-sub (standFor (s .params) qs) (standFor (s .params) bs) (g .0) (stand-sub (s .params) qs bs (subst (λ l. Sub qs l) eq (λ x i. in-right x ps qs i))) (g .2))
+      by-way vs ps qs p eq d dd else-gives (is-matched m known) = (_, i-choice-matched d dd m, (_, t-clause n (thenSight env vs) ps known p, stand-sub (s .params) ps bs (subst (λ l. Sub ps l) eq (λ x i. in-left x ps qs i))))
+      by-way vs ps qs p eq d dd else-gives (is-waiting k e) = (_, i-choice-waiting d dd k, (_, t-clause n env bs ok (retyped (rewritten w d (ε .time)) e), sub-refl (standFor (s .params) bs)))
   clause-gives m below (if x t f) n env s τ bs gd ok wτ ty =
       from-bind (hasType (ag .parties) env x truth) _ bs ty λ u tx q₀.
       from-bind (typeClause (namesOf ag n) env t) _ bs q₀ λ ps p q.
@@ -202,8 +203,8 @@ module _ (ag : Agreement) (mains : List ℕ) (fair : Fair ag mains) (ε : Readin
       side ps qs (some-inj q′) b eb (clause-gives m below t n env s τ ps (T-left (guardedIn m t) _ gd) ok wτ p) (clause-gives m below f n env s τ qs (T-right (guardedIn m t) _ gd) ok wτ p′)
     where
       side : (ps qs : List ℕ) → ps ++ qs ≡ bs → (b : Bool) → evalBool (s .values) x ≡ some b → Gives τ (closed s t) (standFor (s .params) ps) → Gives τ (closed s f) (standFor (s .params) qs) → Gives τ (closed s (if x t f)) (standFor (s .params) bs)
-      side ps qs eq true e g h = (g .0, l-internal-true (bool-derived (s .values) x true e) (g .1), sound-sub (standFor (s .params) ps) (standFor (s .params) bs) (g .0) (stand-sub (s .params) ps bs (subst (λ l. Sub ps l) eq (λ x i. in-left x ps qs i))) (g .2))
-      side ps qs eq false e g h = (h .0, l-internal-false (bool-derived (s .values) x false e) (h .1), sound-sub (standFor (s .params) qs) (standFor (s .params) bs) (h .0) (stand-sub (s .params) qs bs (subst (λ l. Sub qs l) eq (λ x i. in-right x ps qs i))) (h .2))
+      side ps qs eq true e g h = (g .0, i-internal-true (bool-derived (s .values) x true e) (g .1), sound-sub (standFor (s .params) ps) (standFor (s .params) bs) (g .0) (stand-sub (s .params) ps bs (subst (λ l. Sub ps l) eq (λ x i. in-left x ps qs i))) (g .2))
+      side ps qs eq false e g h = (h .0, i-internal-false (bool-derived (s .values) x false e) (h .1), sound-sub (standFor (s .params) qs) (standFor (s .params) bs) (h .0) (stand-sub (s .params) qs bs (subst (λ l. Sub qs l) eq (λ x i. in-right x ps qs i))) (h .2))
   clause-gives m below (join j t f) n env s τ bs gd ok wτ ty =
       from-bind (typeClause (namesOf ag n) env t) _ bs ty λ ps p q.
       from-bind (typeClause (namesOf ag n) env f) _ bs q λ qs p′ q′.
@@ -211,7 +212,7 @@ module _ (ag : Agreement) (mains : List ℕ) (fair : Fair ag mains) (ε : Readin
       let g = clause-gives m below t n env s τ ps (T-left (guardedIn m t) _ gd) ok wτ p in
       let h = clause-gives m below f n env s τ qs (T-right (guardedIn m t) _ gd) ok wτ p′ in
       let c = composed j (standFor (s .params) ps) (standFor (s .params) qs) (g .0) (h .0) (subst (λ l. T (joinOk j l)) (stand-++ (s .params) ps qs) (stand-joinOk j (s .params) (ps ++ qs) j-ok)) (g .2) (h .2) in
-      (c .0, l-composition (g .1) (h .1) (c .1), subst (λ l. Sound l (c .0)) (sym (stand-++ (s .params) ps qs) ∙ ap (standFor (s .params)) (some-inj r)) (c .2))
+      (c .0, i-composition (g .1) (h .1) (c .1), subst (λ l. Sound l (c .0)) (sym (stand-++ (s .params) ps qs) ∙ ap (standFor (s .params)) (some-inj r)) (c .2))
   clause-gives m below (instance k es cs) n env s τ bs gd ok wτ ty =
       from-bind (at (headsIn (ag .templates)) k) _ bs ty λ h p q.
       from-bind (haveTypes (ag .parties) env es (h .values)) _ bs q λ u te q₂.
@@ -221,7 +222,7 @@ module _ (ag : Agreement) (mains : List ℕ) (fair : Fair ag mains) (ε : Readin
       let i = below k h (ev .0) (standFor (s .params) cs) τ (ltb→lt k m gd) p (ev .2) (bl .2 ∙ eqb→eq (length cs) (h .params) (T-left (eqb (length cs) (h .params)) _ t)) (bl .1) wτ in
       let g = i .2 in (
         g .0,
-        l-instantiation (evals-derived (s .values) es (ev .0) (ev .1)) (all-derived (s .params) cs (standFor (s .params) cs) (bl .0)) (i .1) (g .1),
+        i-instantiation (evals-derived (s .values) es (ev .0) (ev .1)) (all-derived (s .params) cs (standFor (s .params) cs) (bl .0)) (i .1) (g .1),
         subst (λ l. Sound (standFor (s .params) l) (g .0)) (some-inj r) (sound-sub (h .declared ++ standFor (s .params) cs) (standFor (s .params) (h .declared ++ cs)) (g .0) (stand-instance (s .params) (h .declared) cs (λ x i. omega (arith, heads-declared ag mains fair k h p x i, fair .few))) (g .2)),
       )
   clause-gives m below badClause n env s τ bs gd ok wτ ty = let z : _≡_ {A = ℕ} 0 1 = cc in absurd (omega arith)
@@ -243,4 +244,4 @@ module _ (ag : Agreement) (mains : List ℕ) (fair : Fair ag mains) (ε : Readin
       let g = text-gives τ x wτ in
       let h = text-gives τ y wτ in
       let c = composed j ps qs (g .0) (h .0) ok (g .2) (h .2) in
-      (c .0, l-joins (g .1) (h .1) (c .1), c .2)
+      (c .0, i-joins (g .1) (h .1) (c .1), c .2)

@@ -4,11 +4,13 @@ use mathlib.Core.Option.{some}
 use mathlib.Core.Path.{refl, subst, sym, _∙_, _≡_}
 use Prim.Native.Nat.{ℕ, _≤_}
 use native.Mathlib.Omega.{arith}
+use lib.Dec.{ltb, ltb→lt, lt→ltb}
 use Rattle.csl.specs.Lists.{all, at}
 use Rattle.csl.specs.Syntax.{Agreement, Template}
 use Rattle.csl.specs.Check.{accepted, checked}
 use Rattle.csl.specs.Outcomes.{Outcome, done, breach, running, stuck}
 use Rattle.csl.specs.Rules.{Reading}
+use Rattle.soundness.proofs.Members.{all-in, in-all}
 use Rattle.soundness.proofs.Evaluation.{HaveTy}
 use Rattle.soundness.proofs.Good.{Placed}
 use Rattle.soundness.proofs.Walks.{Fair}
@@ -16,10 +18,12 @@ use Rattle.soundness.proofs.Following.{ReadingOk}
 use Rattle.soundness.proofs.Runs.{isFair}
 use Rattle.published.specs.Fig8.{Activates, Steps, to-breach, to-clause, to-fulfilled, fulfilled-stays, breached-stays, sightOf}
 use Rattle.published.specs.Runs.{Runs, run-ends, run-misfit, run-early, run-over, run-step, taken}
-use Rattle.published.specs.Literal.{Residual, clause, closed, breached, Trace, trace-ends, trace-step, trace-final, SameVerdict}
+use Rattle.published.specs.Literal.{Residual, clause, breached, Trace, trace-ends, trace-step, trace-final, SameVerdict}
 use Rattle.published.proofs.Residues.{fitting-ok}
+use Rattle.published.proofs.Sighted.{Text, closed, joins}
+use Rattle.published.proofs.Substitution.{AllSmall, Small, closesAll, put-nothing, to-letter}
 use Rattle.published.proofs.Literal.{Alive, Shown, literal-step, s-active, shows-alive, steps-then}
-use Rattle.published.proofs.Letter.{Sound, Typed, t-clause, text-gives}
+use Rattle.published.proofs.Letter.{Sound, Typed, t-clause, t-joins, text-gives}
 
 -- a step from what is not breached stands at the reading's time
 steps-at : (ag : Agreement) {ε : Reading} {τ u : ℕ} {o q : Outcome} → Steps ag ε τ o u q → Alive o → u ≡ ε .time
@@ -46,15 +50,20 @@ runs-final ag B (run-step ε f l s n k) e = let x = steps-final ag B s e in let 
 
 module _ (a : Agreement) (mains : List ℕ) (fair : Fair a mains) where
   -- a text that is typed
-  abbrev Standing : Residual → Type 0
+  abbrev Standing : Residual Text → Type 0
   Standing (clause x) = (ps : List ℕ) × Typed a x ps
   Standing (breached t B) = Unit {0}
 
-  standing : (ε : Reading) (rok : ReadingOk a ε) (P : List ℕ) (r : Residual) → Sound a mains fair ε rok P r → Standing r
+  standing : (ε : Reading) (rok : ReadingOk a ε) (P : List ℕ) (r : Residual Text) → Sound a mains fair ε rok P r → Standing r
   standing ε rok P (clause x) h = (h .0, h .1)
   standing ε rok P (breached t B) h = tt
 
-  pub along : {bs : List (List ℕ)} {t u : ℕ} {o q : Outcome} (k : Runs a t o bs u q) → a .start ≤ t → (r : Residual) → Standing r → Shown a t r o → (r′ : Residual) × Trace (a .templates) t r (taken k) u r′ × Shown a u r′ q
+  -- its parties are below 16, so below 128
+  typed-small : {x : Text} {ps : List ℕ} → Typed a x ps → AllSmall x
+  typed-small (t-clause {s = s} n env bs ok ty) = in-all (λ p. ltb p 128) (s .params) (λ p i. lt→ltb p 128 (omega (arith, ltb→lt p (a .parties) (all-in (λ x. ltb x (a .parties)) (s .params) (ok .range) p i), fair .few)))
+  typed-small (t-joins x y ok) = (typed-small x, typed-small y)
+
+  pub along : {bs : List (List ℕ)} {t u : ℕ} {o q : Outcome} (k : Runs a t o bs u q) → a .start ≤ t → (r : Residual Text) → Standing r → Shown a t r o → (r′ : Residual Text) × Trace (a .templates) t (closesAll r) (taken k) u (closesAll r′) × Shown a u r′ q
   unfolding taken
   along run-ends from r st h = (r, trace-ends, h)
   along (run-misfit f k) from r st h = along k from r st h
@@ -66,19 +75,19 @@ module _ (a : Agreement) (mains : List ℕ) (fair : Fair a mains) where
       let now = steps-at a s (shows-alive a h) in
       let shown = literal-step a ε (λ k t e. fair .templates k t e .placed) o₁ (g .1) h le (steps-then a ε (λ k t e. fair .templates k t e .placed) s (shows-alive a h)) in
       let rest = along k (omega arith) (g .0) (standing ε rok (st .0) (g .0) (g .2)) (subst (λ z. Shown a z (g .0) o₁) (sym now) shown) in
-      (rest .0, trace-step le (g .1) (subst (λ z. Trace (a .templates) z (g .0) (taken k) u (rest .0)) now (rest .1)), rest .2)
+      (rest .0, trace-step le (to-letter (a .templates) ε (typed-small (st .1)) (g .1)) (subst (λ z. Trace (a .templates) z (closesAll (g .0)) (taken k) u (closesAll (rest .0))) now (rest .1)), rest .2)
   along (run-step {τ = t} ε f le s n k) from (breached v B) st h =
       let x = steps-final a B s h in
       let y = runs-final a B k (x .1) in
       (breached v B, subst (λ z. Trace (a .templates) t (breached v B) (ε ∷ taken k) z (breached v B)) (sym (y .0 ∙ x .0)) trace-final, y .1)
 
 -- what corresponds has the same verdict
-pub same-verdict : (a : Agreement) (u : ℕ) (r : Residual) (o : Outcome) → Shown a u r o → SameVerdict r o
+pub same-verdict : (a : Agreement) (u : ℕ) (r : Residual Text) (o : Outcome) → Shown a u r o → SameVerdict (closesAll r) o
 unfolding SameVerdict
 same-verdict a u (breached t B) o h = h
 same-verdict a u (clause x) o h = alive o (shows-alive a h)
   where
-    alive : (o : Outcome) → Alive o → SameVerdict (clause x) o
+    alive : (o : Outcome) → Alive o → SameVerdict (closesAll (clause x)) o
     alive done h = tt
     alive (breach t B) h = h
     alive (running r) h = tt
@@ -86,8 +95,9 @@ same-verdict a u (clause x) o h = alive o (shows-alive a h)
 
 -- of an accepted agreement, from its start
 pub letter-run : (bytes : List ℕ) (a : Agreement) (mains : List ℕ) → checked bytes ≡ accepted a mains → {bs : List (List ℕ)} {u : ℕ} {first last : Outcome} → Activates (a .templates) (sightOf [] []) (a .start) (a .main) first
-    → (k : Runs a (a .start) first bs u last) → (r : Residual) × Trace (a .templates) (a .start) (clause (closed (sightOf [] []) (a .main))) (taken k) u r × Shown a u r last
+    → (k : Runs a (a .start) first bs u last) → (r : Residual Text) × Trace (a .templates) (a .start) (clause (a .main)) (taken k) u (closesAll r) × Shown a u r last
 unfolding HaveTy all
-letter-run bytes a mains ck act k =
+letter-run bytes a mains ck {u = u} act k =
     let fair = isFair bytes a mains ck in
-    along a mains fair k (omega arith) (clause (closed (sightOf [] []) (a .main))) (_, t-clause 0 [] mains (record { count = refl; fewParams = omega arith; range = tt; values = tt }) (fair .main)) (s-active 0 [] act (fair .mainPlaced))
+    let trace = along a mains fair k (omega arith) (clause (closed (sightOf [] []) (a .main))) (_, t-clause 0 [] mains (record { count = refl; fewParams = omega arith; range = tt; values = tt }) (fair .main)) (s-active 0 [] act (fair .mainPlaced)) in
+    (trace .0, subst (λ c. Trace (a .templates) (a .start) (clause c) (taken k) u (closesAll (trace .0))) (put-nothing (a .main)) (trace .1), trace .2)
