@@ -1,4 +1,5 @@
--- Fig. 8 to the letter always applies to an accepted agreement: its texts are typed, and a reading leaves a typed text or a breach of the text's parties (CSL Theorems 10 and 11).
+-- Fig. 8 to the letter always applies to an accepted agreement: its texts are typed, and a reading leaves a typed
+-- text or a breach of the text's parties (CSL Theorems 10 and 11).
 use mathlib.Core.Bool.{Bool, true, false, not, _&&_}
 use mathlib.Core.List.{List, [], _∷_, _++_}
 use mathlib.Core.Option.{Option, some}
@@ -41,8 +42,10 @@ use Rattle.published.proofs.Ranges.{rewritten-range}
 
 -- a text that is typed, with the parties that it can blame
 pub data Typed (ag : Agreement) : Text → List ℕ → Type 0 where
-  t-clause : {s : Sight} {c : Clause} (n : ℕ) (env : List Ty) (bs : List ℕ) → SightOk ag n env s → typeClause (namesOf ag n) env c ≡ some bs → Typed ag (closed s c) (standFor (s .params) bs)
-  t-joins : {j : Join} {x y : Text} {ps qs : List ℕ} → Typed ag x ps → Typed ag y qs → T (joinOk j (ps ++ qs)) → Typed ag (joins j x y) (ps ++ qs)
+  t-clause : {s : Sight} {c : Clause} (n : ℕ) (env : List Ty) (bs : List ℕ) → SightOk ag n env s
+      → typeClause (namesOf ag n) env c ≡ some bs → Typed ag (closed s c) (standFor (s .params) bs)
+  t-joins : {j : Join} {x y : Text} {ps qs : List ℕ} → Typed ag x ps → Typed ag y qs → T (joinOk j (ps ++ qs))
+      → Typed ag (joins j x y) (ps ++ qs)
 
 -- ---- a rewritten wait is typed as it was
 literal-typed : (ps : ℕ) (env : List Ty) (z : ℤ) → T (inRange z) → hasType ps env (numberLit z) number ≡ some tt
@@ -53,8 +56,10 @@ literal-typed ps env z h = some-bind (typeExpr ps env (numberLit z)) _ number (p
 abbrev waitWith : Names → List Ty → Wait → Option (Unit {0}) → Option (Unit {0}) → Option (List Ty)
 waitWith n env w p q = readingOfType (n .readings) (w .wanted) >>= λ vs. need (leb (length (thenSight env vs)) 16) >>= λ _. hasType (n .parties) (env ++ vs) (w .condition) truth >>= λ _. p >>= λ _. q >>= λ _. some vs
 
-rewritten-typed : (n : Names) (env : List Ty) (w : Wait) (d : Window) (t : ℕ) (u₁ u₂ : Unit {0}) → hasType (n .parties) env (w .after) number ≡ some u₁ → hasType (n .parties) env (w .within) number ≡ some u₂
-    → T (inRange (d .first -ℤ pos t)) → T (inRange (d .last -ℤ d .first)) → typeWait n env (rewritten w d t) ≡ typeWait n env w
+rewritten-typed : (n : Names) (env : List Ty) (w : Wait) (d : Window) (t : ℕ) (u₁ u₂ : Unit {0})
+    → hasType (n .parties) env (w .after) number ≡ some u₁ → hasType (n .parties) env (w .within) number ≡ some u₂
+    → T (inRange (d .first -ℤ pos t)) → T (inRange (d .last -ℤ d .first))
+    → typeWait n env (rewritten w d t) ≡ typeWait n env w
 unfolding typeWait
 rewritten-typed n env w d t u₁ u₂ p q h k = ap₂ (waitWith n env w) (literal-typed (n .parties) env _ h) (literal-typed (n .parties) env _ k) ∙ sym (ap₂ (waitWith n env w) p q)
 
@@ -62,7 +67,8 @@ not-less : (x y : ℤ) → y ≤ℤ x → T (not (ltZ x y))
 not-less x y h = subst (λ z. T (not z)) (sym (ltZ-false x y h)) tt
 
 -- ---- two breaches that can be joined as outcomes can be joined to the letter
-two-breaches : {j : Join} {t u : ℕ} {B C : List ℕ} {o : Outcome} → Joins j (breach t B) (breach u C) o → (v : ℕ) × (E : List ℕ) × Composes joins j (breached t B) (breached u C) (breached v E) × (o ≡ breach v E)
+two-breaches : {j : Join} {t u : ℕ} {B C : List ℕ} {o : Outcome} → Joins j (breach t B) (breach u C) o
+    → (v : ℕ) × (E : List ℕ) × Composes joins j (breached t B) (breached u C) (breached v E) × (o ≡ breach v E)
 two-breaches (and-first l) = (_, _, l-and-first l, refl)
 two-breaches (and-second l) = (_, _, l-and-second l, refl)
 two-breaches and-same = (_, _, l-and-same, refl)
@@ -83,7 +89,8 @@ module _ (ag : Agreement) (mains : List ℕ) (fair : Fair ag mains) (ε : Readin
   sound-sub P Q (clause x) h g = (g .0, g .1, sub-trans (g .0) P Q (g .2) h)
   sound-sub P Q (breached t B) h g = good-sub ag W P Q (breach t B) h g
 
-  composed : (j : Join) (P Q : List ℕ) (r₁ r₂ : Residual Text) → T (joinOk j (P ++ Q)) → Sound P r₁ → Sound Q r₂ → (r : Residual Text) × Composes joins j r₁ r₂ r × Sound (P ++ Q) r
+  composed : (j : Join) (P Q : List ℕ) (r₁ r₂ : Residual Text) → T (joinOk j (P ++ Q)) → Sound P r₁ → Sound Q r₂
+      → (r : Residual Text) × Composes joins j r₁ r₂ r × Sound (P ++ Q) r
   unfolding Sub
   composed j P Q (clause x) (clause y) ok f g =
       let both-in = sub-both (f .0) (g .0) P Q (f .2) (g .2) in
@@ -101,8 +108,10 @@ module _ (ag : Agreement) (mains : List ℕ) (fair : Fair ag mains) (ε : Readin
   -- ---- the three ways of a unit
   data Way (n : ℕ) (env : List Ty) (s : Sight) (τ : ℕ) (w : Wait) (vs : List Ty) (d : Window) : Type 0 where
     is-late : d .last <ℤ pos (ε .time) → W (laterOf τ (d .last)) → Way n env s τ w vs d
-    is-matched : Matches ε s w d → SightOk ag n (thenSight env vs) (withValues s (ε .values) (d .last -ℤ pos (ε .time))) → Way n env s τ w vs d
-    is-waiting : Waits ε s w d → typeWait (namesOf ag n) env (rewritten w d (ε .time)) ≡ typeWait (namesOf ag n) env w → Way n env s τ w vs d
+    is-matched : Matches ε s w d
+        → SightOk ag n (thenSight env vs) (withValues s (ε .values) (d .last -ℤ pos (ε .time))) → Way n env s τ w vs d
+    is-waiting : Waits ε s w d → typeWait (namesOf ag n) env (rewritten w d (ε .time)) ≡ typeWait (namesOf ag n) env w
+        → Way n env s τ w vs d
 
   module _ (n : ℕ) (env : List Ty) (s : Sight) (τ : ℕ) (w : Wait) (vs : List Ty) (ok : SightOk ag n env s) (wτ : W τ) where
     -- a typed wait whose `after` and `within` are x and y
@@ -132,11 +141,13 @@ module _ (ag : Agreement) (mains : List ℕ) (fair : Fair ag mains) (ε : Readin
       in-time : pos (ε .time) ≤ℤ win .last → Way n env s τ w vs win
       in-time l = wanted (eqb (w .wanted) (ε .type)) (ltZ (pos (ε .time)) (win .first)) refl refl
         where
-          asked : (b : Bool) → w .wanted ≡ ε .type → win .first ≤ℤ pos (ε .time) → evalBool (s .values ++ ε .values) (w .condition) ≡ some b → Way n env s τ w vs win
+          asked : (b : Bool) → w .wanted ≡ ε .type → win .first ≤ℤ pos (ε .time)
+              → evalBool (s .values ++ ε .values) (w .condition) ≡ some b → Way n env s τ w vs win
           asked true p f h = matches (matching p (bool-derived (s .values ++ ε .values) (w .condition) true h) f l)
           asked false p f h = waits l (untrue l (bool-derived (s .values ++ ε .values) (w .condition) false h))
 
-          wanted : (b c : Bool) → eqb (w .wanted) (ε .type) ≡ b → ltZ (pos (ε .time)) (win .first) ≡ c → Way n env s τ w vs win
+          wanted : (b c : Bool) → eqb (w .wanted) (ε .type) ≡ b → ltZ (pos (ε .time)) (win .first) ≡ c
+              → Way n env s τ w vs win
           wanted false c p f = waits l (other l (type-other (w .wanted) (ε .type) p))
           wanted true true p f = waits l (early l (true-ltZ _ _ f))
           wanted true false p f =
@@ -163,7 +174,9 @@ module _ (ag : Agreement) (mains : List ℕ) (fair : Fair ag mains) (ε : Readin
   Instances m = (k : ℕ) (h : Head) (vs : List Val) (ps : List ℕ) (τ : ℕ) → k < m → at (headsIn (ag .templates)) k ≡ some h → HaveTy (ag .parties) (h .values) vs → length ps ≡ h .params → T (all (λ x. ltb x (ag .parties)) ps) → W τ
       → (t : Template) × (at (ag .templates) k ≡ some t) × Gives τ (closed (sightOf ps vs) (t .body)) (h .declared ++ ps)
 
-  clause-gives : (m : ℕ) → Instances m → (c : Clause) (n : ℕ) (env : List Ty) (s : Sight) (τ : ℕ) (bs : List ℕ) → T (guardedIn m c) → SightOk ag n env s → W τ → typeClause (namesOf ag n) env c ≡ some bs → Gives τ (closed s c) (standFor (s .params) bs)
+  clause-gives : (m : ℕ) → Instances m → (c : Clause) (n : ℕ) (env : List Ty) (s : Sight) (τ : ℕ) (bs : List ℕ)
+      → T (guardedIn m c) → SightOk ag n env s → W τ → typeClause (namesOf ag n) env c ≡ some bs
+      → Gives τ (closed s c) (standFor (s .params) bs)
   unfolding guardedIn typeClause Sub namesOf withValues
   clause-gives m below fulfilled n env s τ bs gd ok wτ ty = (_, i-fulfilment, (_, t-clause n env bs ok ty, sub-refl (standFor (s .params) bs)))
   clause-gives m below (obligation b w c) n env s τ bs gd ok wτ ty =
@@ -172,10 +185,14 @@ module _ (ag : Agreement) (mains : List ℕ) (fair : Fair ag mains) (ε : Readin
       from-bind (typeClause (namesOf ag n) (thenSight env vs) c) _ bs q₂ λ ps p q₃.
       let d = way n env s τ w vs ok wτ tw in by-way bo vs ps p (some-inj q₃) (d .0) (d .1) (d .2)
     where
-      retyped : (w′ : Wait) → typeWait (namesOf ag n) env w′ ≡ typeWait (namesOf ag n) env w → typeClause (namesOf ag n) env (obligation b w′ c) ≡ some bs
+      retyped : (w′ : Wait) → typeWait (namesOf ag n) env w′ ≡ typeWait (namesOf ag n) env w
+          → typeClause (namesOf ag n) env (obligation b w′ c) ≡ some bs
       retyped w′ e = ap (λ z. need (blameOk (namesOf ag n) b) >>= λ _. z >>= λ vs. typeClause (namesOf ag n) (thenSight env vs) c >>= λ ps. some (b ∷ ps)) e ∙ ty
 
-      by-way : T (blameOk (namesOf ag n) b) → (vs : List Ty) (ps : List ℕ) → typeClause (namesOf ag n) (thenSight env vs) c ≡ some ps → b ∷ ps ≡ bs → (d : Window) → Due (s .values) τ w d → Way n env s τ w vs d → Gives τ (closed s (obligation b w c)) (standFor (s .params) bs)
+      by-way : T (blameOk (namesOf ag n) b) → (vs : List Ty) (ps : List ℕ)
+          → typeClause (namesOf ag n) (thenSight env vs) c ≡ some ps → b ∷ ps ≡ bs → (d : Window)
+          → Due (s .values) τ w d → Way n env s τ w vs d
+          → Gives τ (closed s (obligation b w c)) (standFor (s .params) bs)
       by-way bo vs ps p eq d dd (is-late l wl) = blamed-ok ag n env s ok (fair .few) b bo λ who e st lt.
           (_, i-obligation-late d dd l (stands-derived (s .params) b who e), breach-good ag W (s .params) b who (laterOf τ (d .last)) ps bs st eq wl)
       by-way bo vs ps p eq d dd (is-matched m known) = (_, i-obligation-matched d dd m, (_, t-clause n (thenSight env vs) ps known p, stand-sub (s .params) ps bs (subst (λ l. Sub ps l) eq (λ x i. in-right x (b ∷ []) ps i))))
@@ -186,10 +203,14 @@ module _ (ag : Agreement) (mains : List ℕ) (fair : Fair ag mains) (ε : Readin
       from-bind (typeClause (namesOf ag n) env f) _ bs q₃ λ qs p′ q₄.
       let d = way n env s τ w vs ok wτ tw in by-way vs ps qs p (some-inj q₄) (d .0) (d .1) (λ u wu. clause-gives m below f n env s u qs gd ok wu p′) (d .2)
     where
-      retyped : (w′ : Wait) → typeWait (namesOf ag n) env w′ ≡ typeWait (namesOf ag n) env w → typeClause (namesOf ag n) env (choice w′ c f) ≡ some bs
+      retyped : (w′ : Wait) → typeWait (namesOf ag n) env w′ ≡ typeWait (namesOf ag n) env w
+          → typeClause (namesOf ag n) env (choice w′ c f) ≡ some bs
       retyped w′ e = ap (λ z. z >>= λ vs. typeClause (namesOf ag n) (thenSight env vs) c >>= λ ps. typeClause (namesOf ag n) env f >>= λ qs. some (ps ++ qs)) e ∙ ty
 
-      by-way : (vs : List Ty) (ps qs : List ℕ) → typeClause (namesOf ag n) (thenSight env vs) c ≡ some ps → ps ++ qs ≡ bs → (d : Window) → Due (s .values) τ w d → ((u : ℕ) → W u → Gives u (closed s f) (standFor (s .params) qs)) → Way n env s τ w vs d → Gives τ (closed s (choice w c f)) (standFor (s .params) bs)
+      by-way : (vs : List Ty) (ps qs : List ℕ) → typeClause (namesOf ag n) (thenSight env vs) c ≡ some ps
+          → ps ++ qs ≡ bs → (d : Window) → Due (s .values) τ w d
+          → ((u : ℕ) → W u → Gives u (closed s f) (standFor (s .params) qs)) → Way n env s τ w vs d
+          → Gives τ (closed s (choice w c f)) (standFor (s .params) bs)
       by-way vs ps qs p eq d dd else-gives (is-late l wl) =
           let g = else-gives (laterOf τ (d .last)) wl in
           (g .0, i-choice-late d dd l (g .1), sound-sub (standFor (s .params) qs) (standFor (s .params) bs) (g .0) (stand-sub (s .params) qs bs (subst (λ l. Sub qs l) eq (λ x i. in-right x ps qs i))) (g .2))
@@ -202,7 +223,9 @@ module _ (ag : Agreement) (mains : List ℕ) (fair : Fair ag mains) (ε : Readin
       bool-typed (ag .parties) env (s .values) (ok .values) x u tx λ b eb.
       side ps qs (some-inj q′) b eb (clause-gives m below t n env s τ ps (T-left (guardedIn m t) _ gd) ok wτ p) (clause-gives m below f n env s τ qs (T-right (guardedIn m t) _ gd) ok wτ p′)
     where
-      side : (ps qs : List ℕ) → ps ++ qs ≡ bs → (b : Bool) → evalBool (s .values) x ≡ some b → Gives τ (closed s t) (standFor (s .params) ps) → Gives τ (closed s f) (standFor (s .params) qs) → Gives τ (closed s (if x t f)) (standFor (s .params) bs)
+      side : (ps qs : List ℕ) → ps ++ qs ≡ bs → (b : Bool) → evalBool (s .values) x ≡ some b
+          → Gives τ (closed s t) (standFor (s .params) ps) → Gives τ (closed s f) (standFor (s .params) qs)
+          → Gives τ (closed s (if x t f)) (standFor (s .params) bs)
       side ps qs eq true e g h = (g .0, i-internal-true (bool-derived (s .values) x true e) (g .1), sound-sub (standFor (s .params) ps) (standFor (s .params) bs) (g .0) (stand-sub (s .params) ps bs (subst (λ l. Sub ps l) eq (λ x i. in-left x ps qs i))) (g .2))
       side ps qs eq false e g h = (h .0, i-internal-false (bool-derived (s .values) x false e) (h .1), sound-sub (standFor (s .params) qs) (standFor (s .params) bs) (h .0) (stand-sub (s .params) qs bs (subst (λ l. Sub qs l) eq (λ x i. in-right x ps qs i))) (h .2))
   clause-gives m below (join j t f) n env s τ bs gd ok wτ ty =
@@ -237,7 +260,8 @@ module _ (ag : Agreement) (mains : List ℕ) (fair : Fair ag mains) (ε : Readin
       let g = clause-gives m (instances m) (t .body) (t .head .params) (t .head .values) (sightOf ps vs) τ (ft .blames) (guarded-mono k m (t .body) (omega arith) (ft .guarded)) known wτ (ft .typed) in
       (t, pt, (g .0, g .1, subst (λ z. Sound (z .declared ++ ps) (g .0)) eq (sound-sub (standFor ps (ft .blames)) (t .head .declared ++ ps) (g .0) (body-sub ag mains fair k t ft vs ps known) (g .2))))
 
-  -- Theorems 10 and 11 to the letter: a typed text has a residue, which is typed or a breach by its parties, from the start to the reading
+  -- Theorems 10 and 11 to the letter: a typed text has a residue, which is typed or a breach by its parties, from the
+  -- start to the reading
   pub text-gives : {x : Text} {ps : List ℕ} (τ : ℕ) → Typed ag x ps → W τ → Gives τ x ps
   text-gives τ (t-clause {s = s} {c = c} n env bs ok ty) wτ = clause-gives (length (ag .templates)) (instances (length (ag .templates))) c n env s τ bs (typed-guarded ag mains fair c n env bs ty) ok wτ ty
   text-gives τ (t-joins {j = j} {ps = ps} {qs = qs} x y ok) wτ =

@@ -1,4 +1,5 @@
--- Fig. 8 to the letter gives a clause at most one residue, and so a list of readings at most one trace: the rules of each clause exclude each other.
+-- Fig. 8 to the letter gives a clause at most one residue, and so a list of readings at most one trace: the rules of
+-- each clause exclude each other.
 use mathlib.Core.Bool.{Bool, true, false}
 use mathlib.Core.List.{List, [], _∷_}
 use mathlib.Core.Option.{some}
@@ -52,7 +53,8 @@ composes-is (l-or-first l) = sym (ap residualOf (joins-computed tt tt (or-first 
 composes-is (l-or-second l) = sym (ap residualOf (joins-computed tt tt (or-second l)))
 composes-is (l-or-same l) = sym (ap residualOf (joins-computed tt tt (or-same l)))
 
-composes-once : {j : Join} {r₁ r₂ r q₁ q₂ q : Residual Clause} → Composes join j r₁ r₂ r → Composes join j q₁ q₂ q → r₁ ≡ q₁ → r₂ ≡ q₂ → r ≡ q
+composes-once : {j : Join} {r₁ r₂ r q₁ q₂ q : Residual Clause} → Composes join j r₁ r₂ r → Composes join j q₁ q₂ q
+    → r₁ ≡ q₁ → r₂ ≡ q₂ → r ≡ q
 composes-once {j = j} c d e f = composes-is c ∙ ap₂ (composition j) e f ∙ sym (composes-is d)
 
 -- ---- the three ways of a waiting clause exclude each other
@@ -106,7 +108,8 @@ module _ (D : List Template) (ε : Reading) where
       literal-once (subst (λ z. Literal D ε τ (put vs′ ps′ (z .body)) r) c (subst (λ z. Literal D ε τ (put z ps′ (t .body)) r) a (subst (λ z. Literal D ε τ (put vs z (t .body)) r) b x))) y
 
 -- at most one trace
-pub trace-once : (D : List Template) {εs : List Reading} {τ u v : ℕ} {r q q′ : Residual Clause} → Trace D τ r εs u q → Trace D τ r εs v q′ → (u ≡ v) × (q ≡ q′)
+pub trace-once : (D : List Template) {εs : List Reading} {τ u v : ℕ} {r q q′ : Residual Clause} → Trace D τ r εs u q
+    → Trace D τ r εs v q′ → (u ≡ v) × (q ≡ q′)
 trace-once D trace-ends trace-ends = (refl, refl)
 trace-once D {v = v} {q′ = q′} (trace-step {ε = ε} {εs = εs} le x k) (trace-step le′ y m) = trace-once D k (subst (λ z. Trace D (ε .time) z εs v q′) (literal-once D ε y x) m)
 trace-once D trace-final trace-final = (refl, refl)

@@ -1,4 +1,5 @@
--- A deadline rewritten at a reading that does not miss it keeps its numbers in the language's range: after − (τ′ − τ) lies between −within and after.
+-- A deadline rewritten at a reading that does not miss it keeps its numbers in the language's range: after − (τ′ − τ)
+-- lies between −within and after.
 use mathlib.Core.Bool.{Bool, cond, false, not, true}
 use mathlib.Core.Path.{ap, refl, subst, sym, _∙_, _≡_}
 use Prim.Native.Nat.{ℕ, zero, suc, _+_, _-_, _≤_}
@@ -38,7 +39,8 @@ first-below τ a (pos b) h e = let q : τ + b ≡ a = cc in omega (arith, leb→
 first-below τ a (negsuc b) h e = omega (arith, sub-below τ (suc b) a e)
 
 -- τ₁ − τ′ is in range
-after-range : (f y : ℤ) (τ t : ℕ) (x : ℤ) → T (inRange x) → T (inRange y) → τ ≤ t → pos τ +ℤ x ≡ f → T (leZ (pos t) (f +ℤ y)) → T (inRange (f -ℤ pos t))
+after-range : (f y : ℤ) (τ t : ℕ) (x : ℤ) → T (inRange x) → T (inRange y) → τ ≤ t → pos τ +ℤ x ≡ f
+    → T (leZ (pos t) (f +ℤ y)) → T (inRange (f -ℤ pos t))
 unfolding inRange
 after-range (pos a) (pos b) τ t x hx hy le e l = le→leb (natAbs (pos a -ℤ pos t)) limit (minus-size a t limit (omega (arith, first-below τ a x hx e)) (omega (arith, leb→le t (a + b) l, leb→le b limit hy)))
 after-range (pos a) (negsuc b) τ t x hx hy le e l = le→leb (natAbs (pos a -ℤ pos t)) limit (minus-size a t limit (omega (arith, first-below τ a x hx e)) (omega (arith, sub-above a (suc b) t l)))

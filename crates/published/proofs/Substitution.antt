@@ -1,4 +1,5 @@
--- Values in sight are what CSL puts in: what a clause does with values and parties in sight, it does to the letter with them put in (Fig. 7).
+-- Values in sight are what CSL puts in: what a clause does with values and parties in sight, it does to the letter
+-- with them put in (Fig. 7).
 use mathlib.Core.Bool.{Bool, true, false, not}
 use mathlib.Core.List.{List, [], _∷_, _++_, append-assoc}
 use mathlib.Core.Option.{Option, none, some}
@@ -76,7 +77,8 @@ literal-stays θ (who p) = refl
 abbrev found : List Val → ℕ → Option Val → Expr
 found θ i o = elim o [ some v ↦ literal v | none ↦ variable (i - length θ) ]
 
-put-variable : (θ₁ θ₂ : List Val) (i : ℕ) (o : Option Val) → at θ₁ i ≡ o → putExpr θ₂ (found θ₁ i o) ≡ found (θ₁ ++ θ₂) i (at (θ₁ ++ θ₂) i)
+put-variable : (θ₁ θ₂ : List Val) (i : ℕ) (o : Option Val) → at θ₁ i ≡ o
+    → putExpr θ₂ (found θ₁ i o) ≡ found (θ₁ ++ θ₂) i (at (θ₁ ++ θ₂) i)
 unfolding putExpr
 put-variable θ₁ θ₂ i (some v) e = literal-stays θ₂ v ∙ sym (ap (found (θ₁ ++ θ₂) i) (at-first θ₁ θ₂ i v e))
 put-variable θ₁ θ₂ i none e =
@@ -182,7 +184,8 @@ stands-small ps h (a-parameter {b = b} {p = p} l e) = ltb→lt p 128 (all-in (λ
 stands-put : (ps : List ℕ) {b p : ℕ} → Small ps → Stands ps b p → Stands [] (putBlame ps b) p
 stands-put ps {p = p} h d = subst (λ z. Stands [] z p) (sym (blame-is ps d)) (a-party (stands-small ps h d))
 
-stand-all-put : (ps : List ℕ) {bs qs : List ℕ} → Small ps → StandAll ps bs qs → StandAll [] (putBlames ps bs) qs × Small qs
+stand-all-put : (ps : List ℕ) {bs qs : List ℕ} → Small ps → StandAll ps bs qs
+    → StandAll [] (putBlames ps bs) qs × Small qs
 unfolding putBlames all
 stand-all-put ps h stand-none = (stand-none, tt)
 stand-all-put ps h (stand-more {p = p} d ds) = let r = stand-all-put ps h ds in (stand-more (stands-put ps h d) (r .0), T-both (ltb p 128) _ (lt→ltb p 128 (stands-small ps h d)) (r .1))
@@ -200,7 +203,8 @@ abbrev pub AllSmall : Text → Type 0
 AllSmall (closed s c) = Small (s .params)
 AllSmall (joins j x y) = AllSmall x × AllSmall y
 
-composes-put : {j : Join} {r₁ r₂ r : Residual Text} → Composes joins j r₁ r₂ r → Composes join j (closesAll r₁) (closesAll r₂) (closesAll r)
+composes-put : {j : Join} {r₁ r₂ r : Residual Text} → Composes joins j r₁ r₂ r
+    → Composes join j (closesAll r₁) (closesAll r₂) (closesAll r)
 composes-put l-clauses = l-clauses
 composes-put l-and-left = l-and-left
 composes-put l-and-right = l-and-right
@@ -218,7 +222,8 @@ due-put θ (due n₁ n₂ p q) = due n₁ n₂ (evaluates-put θ p) (evaluates-p
 
 module _ (ε : Reading) (s : Sight) (w : Wait) (d : Window) where
   -- e[v/x] of the condition with the values in sight put in
-  asked-put : {v : Val} → Evaluates (s .values ++ ε .values) (w .condition) v → Evaluates [] (putExpr (ε .values) (putExpr (s .values) (w .condition))) v
+  asked-put : {v : Val} → Evaluates (s .values ++ ε .values) (w .condition) v
+      → Evaluates [] (putExpr (ε .values) (putExpr (s .values) (w .condition))) v
   asked-put {v} p = subst (λ e. Evaluates [] e v) (sym (put-twice-expr (s .values) (ε .values) (w .condition))) (evaluates-put (s .values ++ ε .values) p)
 
   matches-put : Matches ε s w d → Fulfils ε (putWait (s .values) w) d
@@ -229,12 +234,14 @@ module _ (ε : Reading) (s : Sight) (w : Wait) (d : Window) where
   waits-put (other l f) = leaves-other l f
   waits-put (untrue l c) = leaves-untrue l (asked-put c)
 
-  continued : (c : Clause) → continuation ε d (put (s .values) (s .params) c) ≡ closes (closed (withValues s (ε .values) (d .last -ℤ pos (ε .time))) c)
+  continued : (c : Clause)
+      → continuation ε d (put (s .values) (s .params) c) ≡ closes (closed (withValues s (ε .values) (d .last -ℤ pos (ε .time))) c)
   unfolding withValues
   continued c = let rest = num (d .last -ℤ pos (ε .time)) ∷ [] in put-twice (s .values) (ε .values ++ rest) (s .params) c ∙ ap (λ l. put l (s .params) c) (sym (append-assoc (s .values) (ε .values) rest))
 
 -- what is in sight is put in
-pub to-letter : (D : List Template) (ε : Reading) {τ : ℕ} {x : Text} {r : Residual Text} → AllSmall x → Sighted D ε τ x r → Literal D ε τ (closes x) (closesAll r)
+pub to-letter : (D : List Template) (ε : Reading) {τ : ℕ} {x : Text} {r : Residual Text} → AllSmall x
+    → Sighted D ε τ x r → Literal D ε τ (closes x) (closesAll r)
 unfolding put putExpr
 to-letter D ε h i-fulfilment = l-fulfilment
 to-letter D ε h (i-obligation-matched {τ = τ} {b = b} {s = s} {w = w} {c = c} d p m) = subst (λ k. Literal D ε τ (closes (closed s (obligation b w c))) (clause k)) (continued ε s w d c) (l-obligation-matched d (due-put (s .values) p) (matches-put ε s w d m))

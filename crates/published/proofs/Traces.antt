@@ -1,4 +1,5 @@
--- Along a run by paper 01's rules the letter has a trace over the readings that the run took, and it shows the run's outcome: each reading gives the typed text a residue that corresponds.
+-- Along a run by paper 01's rules the letter has a trace over the readings that the run took, and it shows the run's
+-- outcome: each reading gives the typed text a residue that corresponds.
 use mathlib.Core.List.{List, [], _∷_}
 use mathlib.Core.Option.{some}
 use mathlib.Core.Path.{refl, subst, sym, _∙_, _≡_}
@@ -34,14 +35,16 @@ steps-at ag fulfilled-stays h = refl
 steps-at ag breached-stays h = absurd h
 
 -- a breach is final
-steps-final : (ag : Agreement) {ε : Reading} {τ u t : ℕ} {o q : Outcome} (B : List ℕ) → Steps ag ε τ o u q → o ≡ breach t B → (u ≡ τ) × (q ≡ breach t B)
+steps-final : (ag : Agreement) {ε : Reading} {τ u t : ℕ} {o q : Outcome} (B : List ℕ) → Steps ag ε τ o u q
+    → o ≡ breach t B → (u ≡ τ) × (q ≡ breach t B)
 steps-final ag B (to-breach f) e = let z : _≡_ {A = ℕ} 0 1 = cc in absurd (omega arith)
 steps-final ag B (to-clause f) e = let z : _≡_ {A = ℕ} 0 1 = cc in absurd (omega arith)
 steps-final ag B (to-fulfilled f) e = let z : _≡_ {A = ℕ} 0 1 = cc in absurd (omega arith)
 steps-final ag B fulfilled-stays e = let z : _≡_ {A = ℕ} 0 1 = cc in absurd (omega arith)
 steps-final ag B breached-stays e = (refl, e)
 
-runs-final : (ag : Agreement) {bs : List (List ℕ)} {t u v : ℕ} {o q : Outcome} (B : List ℕ) → Runs ag t o bs u q → o ≡ breach v B → (u ≡ t) × (q ≡ breach v B)
+runs-final : (ag : Agreement) {bs : List (List ℕ)} {t u v : ℕ} {o q : Outcome} (B : List ℕ) → Runs ag t o bs u q
+    → o ≡ breach v B → (u ≡ t) × (q ≡ breach v B)
 runs-final ag B run-ends e = (refl, e)
 runs-final ag B (run-misfit f k) e = runs-final ag B k e
 runs-final ag B (run-early ε f l k) e = runs-final ag B k e
@@ -54,7 +57,8 @@ module _ (a : Agreement) (mains : List ℕ) (fair : Fair a mains) where
   Standing (clause x) = (ps : List ℕ) × Typed a x ps
   Standing (breached t B) = Unit {0}
 
-  standing : (ε : Reading) (rok : ReadingOk a ε) (P : List ℕ) (r : Residual Text) → Sound a mains fair ε rok P r → Standing r
+  standing : (ε : Reading) (rok : ReadingOk a ε) (P : List ℕ) (r : Residual Text) → Sound a mains fair ε rok P r
+      → Standing r
   standing ε rok P (clause x) h = (h .0, h .1)
   standing ε rok P (breached t B) h = tt
 
@@ -63,7 +67,9 @@ module _ (a : Agreement) (mains : List ℕ) (fair : Fair a mains) where
   typed-small (t-clause {s = s} n env bs ok ty) = in-all (λ p. ltb p 128) (s .params) (λ p i. lt→ltb p 128 (omega (arith, ltb→lt p (a .parties) (all-in (λ x. ltb x (a .parties)) (s .params) (ok .range) p i), fair .few)))
   typed-small (t-joins x y ok) = (typed-small x, typed-small y)
 
-  pub along : {bs : List (List ℕ)} {t u : ℕ} {o q : Outcome} (k : Runs a t o bs u q) → a .start ≤ t → (r : Residual Text) → Standing r → Shown a t r o → (r′ : Residual Text) × Trace (a .templates) t (closesAll r) (taken k) u (closesAll r′) × Shown a u r′ q
+  pub along : {bs : List (List ℕ)} {t u : ℕ} {o q : Outcome} (k : Runs a t o bs u q) → a .start ≤ t
+      → (r : Residual Text) → Standing r → Shown a t r o
+      → (r′ : Residual Text) × Trace (a .templates) t (closesAll r) (taken k) u (closesAll r′) × Shown a u r′ q
   unfolding taken
   along run-ends from r st h = (r, trace-ends, h)
   along (run-misfit f k) from r st h = along k from r st h
@@ -82,7 +88,8 @@ module _ (a : Agreement) (mains : List ℕ) (fair : Fair a mains) where
       (breached v B, subst (λ z. Trace (a .templates) t (breached v B) (ε ∷ taken k) z (breached v B)) (sym (y .0 ∙ x .0)) trace-final, y .1)
 
 -- what corresponds has the same verdict
-pub same-verdict : (a : Agreement) (u : ℕ) (r : Residual Text) (o : Outcome) → Shown a u r o → SameVerdict (closesAll r) o
+pub same-verdict : (a : Agreement) (u : ℕ) (r : Residual Text) (o : Outcome) → Shown a u r o
+    → SameVerdict (closesAll r) o
 unfolding SameVerdict
 same-verdict a u (breached t B) o h = h
 same-verdict a u (clause x) o h = alive o (shows-alive a h)
@@ -94,8 +101,11 @@ same-verdict a u (clause x) o h = alive o (shows-alive a h)
     alive stuck h = h
 
 -- of an accepted agreement, from its start
-pub letter-run : (bytes : List ℕ) (a : Agreement) (mains : List ℕ) → checked bytes ≡ accepted a mains → {bs : List (List ℕ)} {u : ℕ} {first last : Outcome} → Activates (a .templates) (sightOf [] []) (a .start) (a .main) first
-    → (k : Runs a (a .start) first bs u last) → (r : Residual Text) × Trace (a .templates) (a .start) (clause (a .main)) (taken k) u (closesAll r) × Shown a u r last
+pub letter-run : (bytes : List ℕ) (a : Agreement) (mains : List ℕ) → checked bytes ≡ accepted a mains
+    → {bs : List (List ℕ)} {u : ℕ} {first last : Outcome}
+    → Activates (a .templates) (sightOf [] []) (a .start) (a .main) first
+    → (k : Runs a (a .start) first bs u last)
+    → (r : Residual Text) × Trace (a .templates) (a .start) (clause (a .main)) (taken k) u (closesAll r) × Shown a u r last
 unfolding HaveTy all
 letter-run bytes a mains ck {u = u} act k =
     let fair = isFair bytes a mains ck in
