@@ -12,16 +12,15 @@ use lib.ListN.{length}
 use lib.Signed.{ltZ, _≤ℤ_, _<ℤ_}
 use Rattle.csl.specs.Lists.{_>>=_, all, at, need}
 use Rattle.csl.specs.Numbers.{inRange, laterOf}
-use Rattle.csl.specs.Syntax.{Agreement, Clause, Expr, Head, Join, and, or, Template, Ty, Wait, badClause, choice, fulfilled, if, instance, join, number, numberLit, obligation, truth}
+use Rattle.csl.specs.Syntax.{Agreement, Clause, Head, Join, and, or, Template, Ty, Wait, badClause, choice, fulfilled, if, instance, join, number, numberLit, obligation, truth}
 use Rattle.csl.specs.Typing.{Names, blameOk, hasType, haveTypes, headsIn, joinOk, namesOf, readingOfType, sameTy, thenSight, typeClause, typeExpr, typeWait}
 use Rattle.csl.specs.Guards.{guardedIn}
 use Rattle.csl.specs.Values.{Val, evalBool}
 use Rattle.csl.specs.Outcomes.{Sight, Outcome, breach, joined}
 use Rattle.csl.specs.Rules.{Reading, Window, withValues}
 use Rattle.csl.specs.Table.{standFor}
-use Rattle.csl.specs.Demand3.{NotStuck}
 use Rattle.soundness.proofs.Inversion.{T-left, T-right, from-bind, from-need, passes, some-bind, some-inj}
-use Rattle.soundness.proofs.Members.{In, Sub, in-left, in-right, joinOk-sub, stand-++, stand-joinOk, stand-sub, sub-both, sub-refl, sub-trans}
+use Rattle.soundness.proofs.Members.{Sub, in-left, in-right, joinOk-sub, stand-++, stand-joinOk, stand-sub, sub-both, sub-refl, sub-trans}
 use Rattle.soundness.proofs.Evaluation.{HasTy, HaveTy, HaveTy-++}
 use Rattle.soundness.proofs.Times.{later-from, later-to, remaining-range}
 use Rattle.soundness.proofs.Good.{Good, SightOk, good-sub, joined-good, left-good, right-good}
@@ -32,8 +31,7 @@ use Rattle.soundness.proofs.Runs.{Since, not-stuck}
 use Rattle.published.specs.Fig6.{Due, due}
 use Rattle.published.specs.Verdicts.{Joins, and-first, and-second, and-same, or-first, or-second, or-same}
 use Rattle.published.specs.Fig8.{Matches, matching, Waits, early, other, untrue, sightOf}
-use Rattle.published.specs.Rewriting.{rewritten}
-use Rattle.published.specs.Literal.{Residual, clause, breached, Composes, l-clauses, l-and-left, l-and-right, l-and-first, l-and-second, l-and-same, l-or-left, l-or-right, l-or-first, l-or-second, l-or-same}
+use Rattle.published.specs.Literal.{rewritten, Residual, clause, breached, Composes, l-clauses, l-and-left, l-and-right, l-and-first, l-and-second, l-and-same, l-or-left, l-or-right, l-or-first, l-or-second, l-or-same}
 use Rattle.published.proofs.Sighted.{Text, closed, joins, Sighted, i-fulfilment, i-obligation-matched, i-obligation-late, i-obligation-waiting, i-choice-matched, i-choice-late, i-choice-waiting, i-composition, i-joins, i-internal-true, i-internal-false, i-instantiation}
 use Rattle.published.proofs.Evaluations.{all-derived, bool-derived, evals-derived, num-derived, stands-derived}
 use Rattle.published.proofs.Verdicts.{joins-derived}

@@ -1,11 +1,9 @@
 -- Fig. 8 to the letter gives a clause at most one residue, and so a list of readings at most one trace: the rules of
 -- each clause exclude each other.
-use mathlib.Core.Bool.{Bool, true, false}
 use mathlib.Core.List.{List, [], _∷_}
-use mathlib.Core.Option.{some}
 use mathlib.Core.Path.{ap, ap₂, refl, subst, sym, _∙_, _≡_}
 use Prim.Native.Nat.{ℕ}
-use lib.IntN.{pos, _-ℤ_}
+use lib.IntN.{pos}
 use lib.Signed.{_≤ℤ_, _<ℤ_, <ℤ-irrefl, <ℤ-≤ℤ-trans}
 use Rattle.csl.specs.Numbers.{laterOf}
 use Rattle.csl.specs.Syntax.{Clause, Join, and, or, Template, Wait, choice, join, obligation}
@@ -17,8 +15,7 @@ use Rattle.published.specs.Fig6.{Due}
 use Rattle.published.specs.Verdicts.{and-first, and-second, and-same, or-first, or-second, or-same}
 use Rattle.published.specs.Fig7.{put}
 use Rattle.published.specs.Fig8.{sightOf}
-use Rattle.published.specs.Rewriting.{rewritten}
-use Rattle.published.specs.Literal.{Residual, clause, breached, Composes, l-clauses, l-and-left, l-and-right, l-and-first, l-and-second, l-and-same, l-or-left, l-or-right, l-or-first, l-or-second, l-or-same, Fulfils, fulfilling, Leaves, leaves-early, leaves-other, leaves-untrue, continuation, Literal, l-fulfilment, l-obligation-matched, l-obligation-late, l-obligation-waiting, l-choice-matched, l-choice-late, l-choice-waiting, l-composition, l-internal-true, l-internal-false, l-instantiation, Trace, trace-ends, trace-step, trace-final}
+use Rattle.published.specs.Literal.{rewritten, Residual, clause, breached, Composes, l-clauses, l-and-left, l-and-right, l-and-first, l-and-second, l-and-same, l-or-left, l-or-right, l-or-first, l-or-second, l-or-same, Fulfils, fulfilling, Leaves, leaves-early, leaves-other, leaves-untrue, continuation, Literal, l-fulfilment, l-obligation-matched, l-obligation-late, l-obligation-waiting, l-choice-matched, l-choice-late, l-choice-waiting, l-composition, l-internal-true, l-internal-false, l-instantiation, Trace, trace-ends, trace-step, trace-final}
 use Rattle.published.proofs.Evaluations.{all-computed, evals-computed, stands-computed}
 use Rattle.published.proofs.Verdicts.{joins-computed}
 use Rattle.published.proofs.Unfolding.{two-truths}

@@ -16,8 +16,7 @@ use Rattle.csl.specs.Rules.{Window, Reading, withValues}
 use Rattle.published.specs.Fig6.{Evaluates, EvaluateAll, Due}
 use Rattle.published.specs.Fig7.{Stands, StandAll}
 use Rattle.published.specs.Fig8.{Matches, Waits, sightOf}
-use Rattle.published.specs.Rewriting.{rewritten}
-use Rattle.published.specs.Literal.{Residual, clause, breached, Composes}
+use Rattle.published.specs.Literal.{rewritten, Residual, clause, breached, Composes}
 
 -- a clause with its values and parties; `and` or `or` of texts
 pub data Text : Type 0 where

@@ -1,10 +1,10 @@
 -- Values in sight are what CSL puts in: what a clause does with values and parties in sight, it does to the letter
 -- with them put in (Fig. 7).
-use mathlib.Core.Bool.{Bool, true, false, not}
+use mathlib.Core.Bool.{Bool, true, false}
 use mathlib.Core.List.{List, [], _∷_, _++_, append-assoc}
 use mathlib.Core.Option.{Option, none, some}
 use mathlib.Core.Path.{ap, ap₂, refl, subst, sym, _∙_, _≡_}
-use Prim.Native.Nat.{ℕ, zero, suc, _+_, _-_, _<_, _≤_}
+use Prim.Native.Nat.{ℕ, zero, suc, _+_, _-_, _<_}
 use native.Mathlib.Omega.{arith}
 use lib.Dec.{T, ltb, ltb→lt, lt→ltb}
 use lib.IntN.{pos, _-ℤ_}
@@ -19,8 +19,7 @@ use Rattle.soundness.proofs.Members.{all-in}
 use Rattle.soundness.proofs.Walks.{at-in}
 use Rattle.published.specs.Fig6.{Evaluates, e-number, e-false, e-true, e-party, e-sight, e-not, e-arithmetic, e-and, e-less, e-equal-numbers, e-equal-truths, e-equal-parties, EvaluateAll, e-none, e-more, Due, due}
 use Rattle.published.specs.Fig7.{Stands, a-party, a-parameter, StandAll, stand-none, stand-more, literal, put, putBlame, putBlames, putExpr, putExprs, putWait}
-use Rattle.published.specs.Fig8.{Matches, matching, Waits, early, other, untrue, sightOf}
-use Rattle.published.specs.Rewriting.{rewritten}
+use Rattle.published.specs.Fig8.{Matches, matching, Waits, early, other, untrue}
 use Rattle.published.specs.Literal.{Residual, clause, breached, Composes, l-clauses, l-and-left, l-and-right, l-and-first, l-and-second, l-and-same, l-or-left, l-or-right, l-or-first, l-or-second, l-or-same, Fulfils, fulfilling, Leaves, leaves-early, leaves-other, leaves-untrue, continuation, Literal, l-fulfilment, l-obligation-matched, l-obligation-late, l-obligation-waiting, l-choice-matched, l-choice-late, l-choice-waiting, l-composition, l-internal-true, l-internal-false, l-instantiation}
 use Rattle.published.proofs.Verdicts.{is-true, is-false}
 use Rattle.published.proofs.Sighted.{Text, closed, joins, Sighted, i-fulfilment, i-obligation-matched, i-obligation-late, i-obligation-waiting, i-choice-matched, i-choice-late, i-choice-waiting, i-composition, i-joins, i-internal-true, i-internal-false, i-instantiation}

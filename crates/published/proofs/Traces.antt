@@ -1,19 +1,17 @@
 -- Along a run by paper 01's rules the letter has a trace over the readings that the run took, and it shows the run's
 -- outcome: each reading gives the typed text a residue that corresponds.
 use mathlib.Core.List.{List, [], _∷_}
-use mathlib.Core.Option.{some}
 use mathlib.Core.Path.{refl, subst, sym, _∙_, _≡_}
 use Prim.Native.Nat.{ℕ, _≤_}
 use native.Mathlib.Omega.{arith}
 use lib.Dec.{ltb, ltb→lt, lt→ltb}
-use Rattle.csl.specs.Lists.{all, at}
-use Rattle.csl.specs.Syntax.{Agreement, Template}
+use Rattle.csl.specs.Lists.{all}
+use Rattle.csl.specs.Syntax.{Agreement}
 use Rattle.csl.specs.Check.{accepted, checked}
 use Rattle.csl.specs.Outcomes.{Outcome, done, breach, running, stuck}
 use Rattle.csl.specs.Rules.{Reading}
 use Rattle.soundness.proofs.Members.{all-in, in-all}
 use Rattle.soundness.proofs.Evaluation.{HaveTy}
-use Rattle.soundness.proofs.Good.{Placed}
 use Rattle.soundness.proofs.Walks.{Fair}
 use Rattle.soundness.proofs.Following.{ReadingOk}
 use Rattle.soundness.proofs.Runs.{isFair}
@@ -21,8 +19,8 @@ use Rattle.published.specs.Fig8.{Activates, Steps, to-breach, to-clause,
 use Rattle.published.specs.Runs.{Runs, run-ends, run-misfit, run-early, run-over, run-step, taken}
 use Rattle.published.specs.Literal.{Residual, clause, breached, Trace, trace-ends, trace-step, trace-final, SameVerdict}
 use Rattle.published.proofs.Residues.{fitting-ok}
-use Rattle.published.proofs.Sighted.{Text, closed, joins}
-use Rattle.published.proofs.Substitution.{AllSmall, Small, closesAll, put-nothing, to-letter}
+use Rattle.published.proofs.Sighted.{Text, closed}
+use Rattle.published.proofs.Substitution.{AllSmall, closesAll, put-nothing, to-letter}
 use Rattle.published.proofs.Literal.{Alive, Shown, literal-step, s-active, shows-alive, steps-then}
 use Rattle.published.proofs.Letter.{Sound, Typed, t-clause, t-joins, text-gives}
 
