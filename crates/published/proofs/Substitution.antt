@@ -33,7 +33,7 @@ literal-evaluates env (bool true) = e-true
 literal-evaluates env (who p) = e-party
 
 -- e ⇓ v with θ in sight, so e[θ] ⇓ v
-evaluates-put : (θ : List Val) {e : Expr} {v : Val} → Evaluates θ e v → Evaluates [] (putExpr θ e) v
+pub evaluates-put : (θ : List Val) {e : Expr} {v : Val} → Evaluates θ e v → Evaluates [] (putExpr θ e) v
 unfolding putExpr
 evaluates-put θ e-number = e-number
 evaluates-put θ e-false = e-false
@@ -48,7 +48,7 @@ evaluates-put θ (e-equal-numbers m n p q) = e-equal-numbers m n (evaluates-put 
 evaluates-put θ (e-equal-truths b c p q) = e-equal-truths b c (evaluates-put θ p) (evaluates-put θ q)
 evaluates-put θ (e-equal-parties m n p q) = e-equal-parties m n (evaluates-put θ p) (evaluates-put θ q)
 
-all-put : (θ : List Val) {es : List Expr} {vs : List Val} → EvaluateAll θ es vs → EvaluateAll [] (putExprs θ es) vs
+pub all-put : (θ : List Val) {es : List Expr} {vs : List Val} → EvaluateAll θ es vs → EvaluateAll [] (putExprs θ es) vs
 unfolding putExprs
 all-put θ e-none = e-none
 all-put θ (e-more d ds) = e-more (evaluates-put θ d) (all-put θ ds)
@@ -180,10 +180,10 @@ stands-small : (ps : List ℕ) {b p : ℕ} → Small ps → Stands ps b p → p 
 stands-small ps h (a-party l) = l
 stands-small ps h (a-parameter {b = b} {p = p} l e) = ltb→lt p 128 (all-in (λ p. ltb p 128) ps h p (at-in ps (b - 128) p e))
 
-stands-put : (ps : List ℕ) {b p : ℕ} → Small ps → Stands ps b p → Stands [] (putBlame ps b) p
+pub stands-put : (ps : List ℕ) {b p : ℕ} → Small ps → Stands ps b p → Stands [] (putBlame ps b) p
 stands-put ps {p = p} h d = subst (λ z. Stands [] z p) (sym (blame-is ps d)) (a-party (stands-small ps h d))
 
-stand-all-put : (ps : List ℕ) {bs qs : List ℕ} → Small ps → StandAll ps bs qs
+pub stand-all-put : (ps : List ℕ) {bs qs : List ℕ} → Small ps → StandAll ps bs qs
     → StandAll [] (putBlames ps bs) qs × Small qs
 unfolding putBlames all
 stand-all-put ps h stand-none = (stand-none, tt)
@@ -216,7 +216,7 @@ composes-put (l-or-first l) = l-or-first l
 composes-put (l-or-second l) = l-or-second l
 composes-put (l-or-same l) = l-or-same l
 
-due-put : (θ : List Val) {τ : ℕ} {w : Wait} {d : Window} → Due θ τ w d → Due [] τ (putWait θ w) d
+pub due-put : (θ : List Val) {τ : ℕ} {w : Wait} {d : Window} → Due θ τ w d → Due [] τ (putWait θ w) d
 due-put θ (due n₁ n₂ p q) = due n₁ n₂ (evaluates-put θ p) (evaluates-put θ q)
 
 module _ (ε : Reading) (s : Sight) (w : Wait) (d : Window) where
