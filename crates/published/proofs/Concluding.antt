@@ -1,45 +1,40 @@
 -- Fig. 9 to the letter gives the letter's residue one verdict, the forecast: a typed text has a verdict, and a text
 -- and an outcome that correspond have the same.
-use mathlib.Core.Bool.{Bool, true, false, _&&_}
 use mathlib.Core.List.{List, [], _∷_, _++_}
 use mathlib.Core.Option.{some}
 use mathlib.Core.Path.{ap, ap₂, refl, subst, sym, _∙_, _≡_}
-use Prim.Native.Nat.{ℕ, zero, suc, _<_, _≤_}
+use Prim.Native.Nat.{ℕ, _≤_}
 use native.Mathlib.Omega.{arith}
-use lib.Dec.{T, eqb, eqb→eq, ltb, ltb→lt}
-use lib.ListN.{length}
-use Rattle.csl.specs.Lists.{all, at}
+use lib.Dec.{T}
+use Rattle.csl.specs.Lists.{at}
 use Rattle.csl.specs.Numbers.{laterOf}
-use Rattle.csl.specs.Syntax.{Agreement, Clause, Head, Join, and, or, Template, Ty, Wait, badClause, choice, fulfilled, if, instance, join, obligation, truth}
-use Rattle.csl.specs.Typing.{blameOk, hasType, haveTypes, headsIn, joinOk, namesOf, thenSight, typeClause, typeWait}
-use Rattle.csl.specs.Guards.{guardedIn}
-use Rattle.csl.specs.Values.{Val, evalBool}
+use Rattle.csl.specs.Syntax.{Agreement, Clause, Join, or, Template, Ty, Wait, choice, obligation}
+use Rattle.csl.specs.Typing.{blameOk, joinOk, namesOf, thenSight, typeClause, typeWait}
 use Rattle.csl.specs.Outcomes.{Sight, unit, Outcome, done, breach, running, stuck, anObligation, joined}
 use Rattle.csl.specs.Rules.{Window}
 use Rattle.csl.specs.Table.{standFor}
 use Rattle.csl.specs.Demand3.{NotStuck}
-use Rattle.soundness.proofs.Inversion.{T-left, T-right, from-bind, from-need, some-inj}
-use Rattle.soundness.proofs.Members.{Sub, in-left, in-right, stand-++, stand-joinOk, stand-sub}
-use Rattle.soundness.proofs.Evaluation.{HaveTy}
+use Rattle.soundness.proofs.Inversion.{from-bind, from-need, some-inj}
+use Rattle.soundness.proofs.Members.{Sub, in-right, stand-sub}
 use Rattle.soundness.proofs.Times.{later-from}
 use Rattle.soundness.proofs.Good.{Good, Placed, SightOk, good-sub, joined-good}
-use Rattle.soundness.proofs.Walks.{Fair, at-heads, blamed-ok, blamedAll-ok, bool-typed, evals-typed, num-typed, stand-instance}
-use Rattle.soundness.proofs.Activation.{body-sub, guarded-mono, heads-declared, typed-guarded}
+use Rattle.soundness.proofs.Walks.{Fair, blamed-ok, num-typed}
 use Rattle.soundness.proofs.Following.{breach-good, from-wait}
 use Rattle.published.specs.Fig6.{Due, due}
-use Rattle.published.specs.Verdicts.{Joins, clauses, and-left, and-right, and-first, and-second, and-same, and-done-left, and-done-right, or-left, or-right, or-first, or-second, or-same, or-done-left, or-done-right}
+use Rattle.published.specs.Verdicts.{Joins}
 use Rattle.published.specs.Fig8.{Activates, a-fulfilment, a-obligation, a-choice, a-composition, a-internal-true, a-internal-false, a-instantiation, sightOf}
 use Rattle.published.specs.Fig9.{Ends, v-fulfilment, v-obligation, v-choice, v-internal-true, v-internal-false, v-composition, v-instantiation, Foretells, v-unit, v-units}
 use Rattle.published.specs.Fig7.{put}
 use Rattle.published.specs.Literal.{rewritten, Concludes, c-fulfilment, c-obligation, c-choice, c-internal-true, c-internal-false, c-composition, c-instantiation}
-use Rattle.published.proofs.Evaluations.{all-computed, all-derived, bool-derived, evals-computed, evals-derived, num-derived, stands-computed, stands-derived}
+use Rattle.published.proofs.Evaluations.{all-computed, evals-computed, num-derived, stands-computed, stands-derived}
 use Rattle.published.proofs.Verdicts.{done-with, joins-computed, joins-derived, joins-moves, with-done}
 use Rattle.published.proofs.Ending.{ends-moves}
-use Rattle.published.proofs.Unfolding.{two-truths}
+use Rattle.published.proofs.Unfolding.{Beyond, beyond-joined, two-truths}
 use Rattle.published.proofs.Rewriting.{one-window, same-date, same-window}
 use Rattle.published.proofs.Sighted.{Text, closed, joins}
 use Rattle.published.proofs.Substitution.{AllSmall, Small, all-put, closes, due-put, evaluates-put, stand-all-put, stands-put}
 use Rattle.published.proofs.Literal.{Shows, s-active, s-obligation, s-choice, s-joins, s-left, s-right}
+use Rattle.published.proofs.Existence.{Rules, typed-gives}
 use Rattle.published.proofs.Letter.{Typed, t-clause, t-joins}
 
 -- Fig. 9 on a text with values in sight
@@ -76,74 +71,46 @@ module _ (ag : Agreement) (mains : List ℕ) (fair : Fair ag mains) where
       num-typed (ag .parties) env (s .values) (ok .values) (w .within) u₃ ti λ y ey ry.
       k _ (due x y (num-derived (s .values) (w .after) x ex) (num-derived (s .values) (w .within) y ey))
 
-  abbrev Instances : ℕ → Type 0
-  Instances m = (k : ℕ) (h : Head) (vs : List Val) (ps : List ℕ) (τ : ℕ) → k < m → at (headsIn (ag .templates)) k ≡ some h → HaveTy (ag .parties) (h .values) vs → length ps ≡ h .params → T (all (λ x. ltb x (ag .parties)) ps) → From τ
-      → (t : Template) × (at (ag .templates) k ≡ some t) × Verdict τ (closed (sightOf ps vs) (t .body)) (h .declared ++ ps)
-
-  clause-ends : (m : ℕ) → Instances m → (c : Clause) (n : ℕ) (env : List Ty) (s : Sight) (τ : ℕ) (bs : List ℕ)
-      → T (guardedIn m c) → SightOk ag n env s → From τ → typeClause (namesOf ag n) env c ≡ some bs
-      → Verdict τ (closed s c) (standFor (s .params) bs)
-  unfolding guardedIn typeClause Sub namesOf Good
-  clause-ends m below fulfilled n env s τ bs gd ok from ty = (done, v-fulfilment, tt)
-  clause-ends m below (obligation b w c) n env s τ bs gd ok from ty =
+  owed : (n : ℕ) (env : List Ty) (b : ℕ) (w : Wait) (c : Clause) (s : Sight) (τ : ℕ) (bs : List ℕ)
+      → SightOk ag n env s → From τ → typeClause (namesOf ag n) env (obligation b w c) ≡ some bs
+      → Verdict τ (closed s (obligation b w c)) (standFor (s .params) bs)
+  unfolding typeClause namesOf
+  owed n env b w c s τ bs ok from ty =
       from-need (blameOk (namesOf ag n) b) _ bs ty λ bo q₁.
       from-bind (typeWait (namesOf ag n) env w) _ bs q₁ λ vs tw q₂.
       from-bind (typeClause (namesOf ag n) (thenSight env vs) c) _ bs q₂ λ ps p q₃.
       has-window n env s τ w vs ok tw λ d dd.
       blamed-ok ag n env s ok (fair .few) b bo λ who e st lt.
       (_, v-obligation d dd (stands-derived (s .params) b who e), breach-good ag From (s .params) b who (laterOf τ (d .last)) ps bs st (some-inj q₃) (omega (arith, later-from τ (d .last), from)))
-  clause-ends m below (choice w c f) n env s τ bs gd ok from ty =
+
+  chosen : (n : ℕ) (env : List Ty) (w : Wait) (c f : Clause) (s : Sight) (τ : ℕ) (bs : List ℕ)
+      → SightOk ag n env s → From τ → typeClause (namesOf ag n) env (choice w c f) ≡ some bs
+      → ((qs : List ℕ) (u : ℕ) → typeClause (namesOf ag n) env f ≡ some qs → From u → Verdict u (closed s f) (standFor (s .params) qs))
+      → Verdict τ (closed s (choice w c f)) (standFor (s .params) bs)
+  unfolding typeClause Sub namesOf
+  chosen n env w c f s τ bs ok from ty else-ends =
       from-bind (typeWait (namesOf ag n) env w) _ bs ty λ vs tw q₂.
       from-bind (typeClause (namesOf ag n) (thenSight env vs) c) _ bs q₂ λ ps p q₃.
       from-bind (typeClause (namesOf ag n) env f) _ bs q₃ λ qs p′ q₄.
       has-window n env s τ w vs ok tw λ d dd.
-      let g = clause-ends m below f n env s (laterOf τ (d .last)) qs gd ok (omega (arith, later-from τ (d .last), from)) p′ in
+      let g = else-ends qs (laterOf τ (d .last)) p′ (omega (arith, later-from τ (d .last), from)) in
       (g .0, v-choice d dd (g .1), good-sub ag From (standFor (s .params) qs) (standFor (s .params) bs) (g .0) (stand-sub (s .params) qs bs (subst (λ l. Sub qs l) (some-inj q₄) (λ x i. in-right x ps qs i))) (g .2))
-  clause-ends m below (if x t f) n env s τ bs gd ok from ty =
-      from-bind (hasType (ag .parties) env x truth) _ bs ty λ u tx q₀.
-      from-bind (typeClause (namesOf ag n) env t) _ bs q₀ λ ps p q.
-      from-bind (typeClause (namesOf ag n) env f) _ bs q λ qs p′ q′.
-      bool-typed (ag .parties) env (s .values) (ok .values) x u tx λ b eb.
-      side ps qs (some-inj q′) b eb (clause-ends m below t n env s τ ps (T-left (guardedIn m t) _ gd) ok from p) (clause-ends m below f n env s τ qs (T-right (guardedIn m t) _ gd) ok from p′)
-    where
-      side : (ps qs : List ℕ) → ps ++ qs ≡ bs → (b : Bool) → evalBool (s .values) x ≡ some b
-          → Verdict τ (closed s t) (standFor (s .params) ps) → Verdict τ (closed s f) (standFor (s .params) qs)
-          → Verdict τ (closed s (if x t f)) (standFor (s .params) bs)
-      side ps qs eq true e g h = (g .0, v-internal-true (bool-derived (s .values) x true e) (g .1), good-sub ag From (standFor (s .params) ps) (standFor (s .params) bs) (g .0) (stand-sub (s .params) ps bs (subst (λ l. Sub ps l) eq (λ x i. in-left x ps qs i))) (g .2))
-      side ps qs eq false e g h = (h .0, v-internal-false (bool-derived (s .values) x false e) (h .1), good-sub ag From (standFor (s .params) qs) (standFor (s .params) bs) (h .0) (stand-sub (s .params) qs bs (subst (λ l. Sub qs l) eq (λ x i. in-right x ps qs i))) (h .2))
-  clause-ends m below (join j t f) n env s τ bs gd ok from ty =
-      from-bind (typeClause (namesOf ag n) env t) _ bs ty λ ps p q.
-      from-bind (typeClause (namesOf ag n) env f) _ bs q λ qs p′ q′.
-      from-need (joinOk j (ps ++ qs)) _ bs q′ λ j-ok r.
-      let g = clause-ends m below t n env s τ ps (T-left (guardedIn m t) _ gd) ok from p in
-      let h = clause-ends m below f n env s τ qs (T-right (guardedIn m t) _ gd) ok from p′ in
-      let k = joined-verdicts j (standFor (s .params) ps) (standFor (s .params) qs) (g .0) (h .0) (subst (λ l. T (joinOk j l)) (stand-++ (s .params) ps qs) (stand-joinOk j (s .params) (ps ++ qs) j-ok)) (g .2) (h .2) in
-      (joined j (g .0) (h .0), v-composition (g .1) (h .1) (k .0), subst (λ l. Good ag From l (joined j (g .0) (h .0))) (sym (stand-++ (s .params) ps qs) ∙ ap (standFor (s .params)) (some-inj r)) (k .1))
-  clause-ends m below (instance k es cs) n env s τ bs gd ok from ty =
-      from-bind (at (headsIn (ag .templates)) k) _ bs ty λ h p q.
-      from-bind (haveTypes (ag .parties) env es (h .values)) _ bs q λ u te q₂.
-      from-need (eqb (length cs) (h .params) && all (blameOk (namesOf ag n)) cs) _ bs q₂ λ t r.
-      let ev = evals-typed (ag .parties) env (s .values) (ok .values) es (h .values) u te in
-      let bl = blamedAll-ok ag n env s ok (fair .few) cs (T-right (eqb (length cs) (h .params)) _ t) in
-      let i = below k h (ev .0) (standFor (s .params) cs) τ (ltb→lt k m gd) p (ev .2) (bl .2 ∙ eqb→eq (length cs) (h .params) (T-left (eqb (length cs) (h .params)) _ t)) (bl .1) from in
-      let g = i .2 in (
-        g .0,
-        v-instantiation (evals-derived (s .values) es (ev .0) (ev .1)) (all-derived (s .params) cs (standFor (s .params) cs) (bl .0)) (i .1) (g .1),
-        subst (λ l. Good ag From (standFor (s .params) l) (g .0)) (some-inj r) (good-sub ag From (h .declared ++ standFor (s .params) cs) (standFor (s .params) (h .declared ++ cs)) (g .0) (stand-instance (s .params) (h .declared) cs (λ x i. omega (arith, heads-declared ag mains fair k h p x i, fair .few))) (g .2)),
-      )
-  clause-ends m below badClause n env s τ bs gd ok from ty = let z : _≡_ {A = ℕ} 0 1 = cc in absurd (omega arith)
 
-  instances : (m : ℕ) → Instances m
-  instances zero k h vs ps τ lt p hv count range from = absurd (omega arith)
-  instances (suc m) k h vs ps τ lt p hv count range from =
-      at-heads (ag .templates) k h p λ t pt eq.
-      let ft = fair .templates k t pt in
-      let known : SightOk ag (t .head .params) (t .head .values) (sightOf ps vs) = record { count = count ∙ ap (λ z. z .params) (sym eq); fewParams = ft .fewParams; range = range; values = subst (λ z. HaveTy (ag .parties) (z .values) vs) (sym eq) hv } in
-      let g = clause-ends m (instances m) (t .body) (t .head .params) (t .head .values) (sightOf ps vs) τ (ft .blames) (guarded-mono k m (t .body) (omega arith) (ft .guarded)) known from (ft .typed) in
-      (t, pt, (g .0, g .1, subst (λ z. Good ag From (z .declared ++ ps) (g .0)) eq (good-sub ag From (standFor ps (ft .blames)) (t .head .declared ++ ps) (g .0) (body-sub ag mains fair k t ft vs ps known) (g .2))))
+  ends-rules : Rules ag From Outcome (Good ag From) (Ends (ag .templates))
+  unfolding Good
+  ends-rules = record {
+    fine-sub = good-sub ag From;
+    fulfilment = λ n env s τ bs ok ty. (done, v-fulfilment, tt);
+    obligation = owed;
+    choice = chosen;
+    internal-true = λ s τ x t f r e p. v-internal-true e p;
+    internal-false = λ s τ x t f r e p. v-internal-false e p;
+    composition = λ s τ j t f P Q ok g h. let k = joined-verdicts j P Q (g .0) (h .0) ok (g .2) (h .2) in (joined j (g .0) (h .0), v-composition (g .1) (h .1) (k .0), k .1);
+    instantiation = λ s τ k es bs ps vs t r de db e p. v-instantiation de db e p;
+  }
 
   pub text-finishes : {x : Text} {ps : List ℕ} (τ : ℕ) → Typed ag x ps → From τ → Verdict τ x ps
-  text-finishes τ (t-clause {s = s} {c = c} n env bs ok ty) from = clause-ends (length (ag .templates)) (instances (length (ag .templates))) c n env s τ bs (typed-guarded ag mains fair c n env bs ty) ok from ty
+  text-finishes τ (t-clause {s = s} {c = c} n env bs ok ty) from = typed-gives ag From Outcome (Good ag From) (Ends (ag .templates)) mains fair ends-rules c n env s τ bs ok from ty
   text-finishes τ (t-joins {j = j} {ps = ps} {qs = qs} x y ok) from =
       let g = text-finishes τ x from in
       let h = text-finishes τ y from in
@@ -152,28 +119,12 @@ module _ (ag : Agreement) (mains : List ℕ) (fair : Fair ag mains) where
 
 -- ---- a text and an outcome that correspond have the same verdict
 abbrev pub Ahead : Agreement → Outcome → Outcome → Type 0
-Ahead ag done ν = ν ≡ done
-Ahead ag (breach t ps) ν = ⊥
-Ahead ag (running res) ν = Foretells ag res ν
-Ahead ag stuck ν = ⊥
+Ahead ag = Beyond (Foretells ag)
 
 ahead-joined : (ag : Agreement) {j : Join} {x y z p q ν : Outcome} → Joins j x y z → Ahead ag x p → Ahead ag y q
-    → NotStuck p → NotStuck q → Joins j p q ν → Ahead ag z ν
-ahead-joined ag clauses f g np nq i = v-units f g i
-ahead-joined ag and-left f g np nq i = absurd f
-ahead-joined ag and-right f g np nq i = absurd g
-ahead-joined ag (and-first l) f g np nq i = absurd f
-ahead-joined ag (and-second l) f g np nq i = absurd f
-ahead-joined ag and-same f g np nq i = absurd f
-ahead-joined ag {q = q} (and-done-left {o = z}) f g np nq i = subst (λ v. Ahead ag z v) (sym (ap (λ v. joined and v q) f ∙ done-with and q nq) ∙ joins-computed np nq i) g
-ahead-joined ag {p = p} (and-done-right {o = z}) f g np nq i = subst (λ v. Ahead ag z v) (sym (ap (joined and p) g ∙ with-done and p np) ∙ joins-computed np nq i) f
-ahead-joined ag or-left f g np nq i = absurd g
-ahead-joined ag or-right f g np nq i = absurd f
-ahead-joined ag (or-first l) f g np nq i = absurd f
-ahead-joined ag (or-second l) f g np nq i = absurd f
-ahead-joined ag (or-same l) f g np nq i = absurd f
-ahead-joined ag {q = q} or-done-left f g np nq i = sym (joins-computed np nq i) ∙ ap (λ v. joined or v q) f ∙ done-with or q nq
-ahead-joined ag {p = p} or-done-right f g np nq i = sym (joins-computed np nq i) ∙ ap (joined or p) g ∙ with-done or p np
+    → NotStuck p → NotStuck q → Joins j p q ν
+    → Ahead ag z ν
+ahead-joined ag = beyond-joined (Foretells ag) (λ j l r u v o f g k. v-units f g k)
 
 finishes-moves : (D : List Template) (τ : ℕ) (x : Text) (ν : Outcome) → Finishes D τ x ν → NotStuck ν
 finishes-moves D τ (closed s c) ν h = ends-moves D h

@@ -1,41 +1,40 @@
 -- Fig. 8 to the letter always applies to an accepted agreement: its texts are typed, and a reading leaves a typed
 -- text or a breach of the text's parties (CSL Theorems 10 and 11).
-use mathlib.Core.Bool.{Bool, true, false, not, _&&_}
+use mathlib.Core.Bool.{Bool, true, false, not}
 use mathlib.Core.List.{List, [], _∷_, _++_}
 use mathlib.Core.Option.{Option, some}
 use mathlib.Core.Path.{ap, ap₂, refl, subst, sym, _∙_, _≡_}
-use Prim.Native.Nat.{ℕ, zero, suc, _<_, _≤_}
+use Prim.Native.Nat.{ℕ, _<_, _≤_}
 use native.Mathlib.Omega.{arith}
-use lib.Dec.{T, eqb, eqb→eq, leb, ltb, ltb→lt}
+use lib.Dec.{T, eqb, eqb→eq, leb}
 use lib.IntN.{ℤ, pos, _+ℤ_, _-ℤ_}
 use lib.ListN.{length}
 use lib.Signed.{ltZ, _≤ℤ_, _<ℤ_}
-use Rattle.csl.specs.Lists.{_>>=_, all, at, need}
+use Rattle.csl.specs.Lists.{_>>=_, need}
 use Rattle.csl.specs.Numbers.{inRange, laterOf}
-use Rattle.csl.specs.Syntax.{Agreement, Clause, Head, Join, and, or, Template, Ty, Wait, badClause, choice, fulfilled, if, instance, join, number, numberLit, obligation, truth}
-use Rattle.csl.specs.Typing.{Names, blameOk, hasType, haveTypes, headsIn, joinOk, namesOf, readingOfType, sameTy, thenSight, typeClause, typeExpr, typeWait}
-use Rattle.csl.specs.Guards.{guardedIn}
-use Rattle.csl.specs.Values.{Val, evalBool}
+use Rattle.csl.specs.Syntax.{Agreement, Clause, Join, and, or, Ty, Wait, choice, number, numberLit, obligation, truth}
+use Rattle.csl.specs.Typing.{Names, blameOk, hasType, joinOk, namesOf, readingOfType, sameTy, thenSight, typeClause, typeExpr, typeWait}
+use Rattle.csl.specs.Values.{evalBool}
 use Rattle.csl.specs.Outcomes.{Sight, Outcome, breach, joined}
 use Rattle.csl.specs.Rules.{Reading, Window, withValues}
 use Rattle.csl.specs.Table.{standFor}
-use Rattle.soundness.proofs.Inversion.{T-left, T-right, from-bind, from-need, passes, some-bind, some-inj}
-use Rattle.soundness.proofs.Members.{Sub, in-left, in-right, joinOk-sub, stand-++, stand-joinOk, stand-sub, sub-both, sub-refl, sub-trans}
+use Rattle.soundness.proofs.Inversion.{from-bind, from-need, passes, some-bind, some-inj}
+use Rattle.soundness.proofs.Members.{Sub, in-left, in-right, joinOk-sub, stand-sub, sub-both, sub-refl, sub-trans}
 use Rattle.soundness.proofs.Evaluation.{HasTy, HaveTy, HaveTy-++}
 use Rattle.soundness.proofs.Times.{later-from, later-to, remaining-range}
 use Rattle.soundness.proofs.Good.{Good, SightOk, good-sub, joined-good, left-good, right-good}
-use Rattle.soundness.proofs.Walks.{Fair, at-heads, blamed-ok, blamedAll-ok, bool-typed, evals-typed, num-typed, stand-instance}
-use Rattle.soundness.proofs.Activation.{body-sub, guarded-mono, heads-declared, typed-guarded}
+use Rattle.soundness.proofs.Walks.{Fair, blamed-ok, bool-typed, num-typed}
 use Rattle.soundness.proofs.Following.{ReadingOk, breach-good, from-wait}
 use Rattle.soundness.proofs.Runs.{Since, not-stuck}
 use Rattle.published.specs.Fig6.{Due, due}
 use Rattle.published.specs.Verdicts.{Joins, and-first, and-second, and-same, or-first, or-second, or-same}
-use Rattle.published.specs.Fig8.{Matches, matching, Waits, early, other, untrue, sightOf}
+use Rattle.published.specs.Fig8.{Matches, matching, Waits, early, other, untrue}
 use Rattle.published.specs.Literal.{rewritten, Residual, clause, breached, Composes, l-clauses, l-and-left, l-and-right, l-and-first, l-and-second, l-and-same, l-or-left, l-or-right, l-or-first, l-or-second, l-or-same}
 use Rattle.published.proofs.Sighted.{Text, closed, joins, Sighted, i-fulfilment, i-obligation-matched, i-obligation-late, i-obligation-waiting, i-choice-matched, i-choice-late, i-choice-waiting, i-composition, i-joins, i-internal-true, i-internal-false, i-instantiation}
-use Rattle.published.proofs.Evaluations.{all-derived, bool-derived, evals-derived, num-derived, stands-derived}
+use Rattle.published.proofs.Evaluations.{bool-derived, num-derived, stands-derived}
 use Rattle.published.proofs.Verdicts.{joins-derived}
 use Rattle.published.proofs.Reducing.{ltZ-false, true-ltZ, false-ltZ, type-other}
+use Rattle.published.proofs.Existence.{Rules, typed-gives}
 use Rattle.published.proofs.Ranges.{rewritten-range}
 
 -- a text that is typed, with the parties that it can blame
@@ -164,20 +163,17 @@ module _ (ag : Agreement) (mains : List ℕ) (fair : Fair ag mains) (ε : Readin
         (_, due x y (num-derived (s .values) (w .after) x ex) (num-derived (s .values) (w .within) y ey), lateness x y u₁ u₂ u₃ rt tc ta ti rx ry _ refl)
 
   -- ---- a text and what the letter gives of it at τ
-  abbrev pub Gives : ℕ → Text → List ℕ → Type 0
-  Gives τ x P = (r : Residual Text) × Sighted (ag .templates) ε τ x r × Sound P r
+  abbrev pub Given : ℕ → Text → List ℕ → Type 0
+  Given τ x P = (r : Residual Text) × Sighted (ag .templates) ε τ x r × Sound P r
 
-  -- instances of the templates below m
-  abbrev Instances : ℕ → Type 0
-  Instances m = (k : ℕ) (h : Head) (vs : List Val) (ps : List ℕ) (τ : ℕ) → k < m → at (headsIn (ag .templates)) k ≡ some h → HaveTy (ag .parties) (h .values) vs → length ps ≡ h .params → T (all (λ x. ltb x (ag .parties)) ps) → W τ
-      → (t : Template) × (at (ag .templates) k ≡ some t) × Gives τ (closed (sightOf ps vs) (t .body)) (h .declared ++ ps)
+  abbrev Reduced : Sight → ℕ → Clause → Residual Text → Type 0
+  Reduced s τ c r = Sighted (ag .templates) ε τ (closed s c) r
 
-  clause-gives : (m : ℕ) → Instances m → (c : Clause) (n : ℕ) (env : List Ty) (s : Sight) (τ : ℕ) (bs : List ℕ)
-      → T (guardedIn m c) → SightOk ag n env s → W τ → typeClause (namesOf ag n) env c ≡ some bs
-      → Gives τ (closed s c) (standFor (s .params) bs)
-  unfolding guardedIn typeClause Sub namesOf withValues
-  clause-gives m below fulfilled n env s τ bs gd ok wτ ty = (_, i-fulfilment, (_, t-clause n env bs ok ty, sub-refl (standFor (s .params) bs)))
-  clause-gives m below (obligation b w c) n env s τ bs gd ok wτ ty =
+  owed : (n : ℕ) (env : List Ty) (b : ℕ) (w : Wait) (c : Clause) (s : Sight) (τ : ℕ) (bs : List ℕ)
+      → SightOk ag n env s → W τ → typeClause (namesOf ag n) env (obligation b w c) ≡ some bs
+      → Given τ (closed s (obligation b w c)) (standFor (s .params) bs)
+  unfolding typeClause Sub namesOf withValues
+  owed n env b w c s τ bs ok wτ ty =
       from-need (blameOk (namesOf ag n) b) _ bs ty λ bo q₁.
       from-bind (typeWait (namesOf ag n) env w) _ bs q₁ λ vs tw q₂.
       from-bind (typeClause (namesOf ag n) (thenSight env vs) c) _ bs q₂ λ ps p q₃.
@@ -190,78 +186,53 @@ module _ (ag : Agreement) (mains : List ℕ) (fair : Fair ag mains) (ε : Readin
       by-way : T (blameOk (namesOf ag n) b) → (vs : List Ty) (ps : List ℕ)
           → typeClause (namesOf ag n) (thenSight env vs) c ≡ some ps → b ∷ ps ≡ bs → (d : Window)
           → Due (s .values) τ w d → Way n env s τ w vs d
-          → Gives τ (closed s (obligation b w c)) (standFor (s .params) bs)
+          → Given τ (closed s (obligation b w c)) (standFor (s .params) bs)
       by-way bo vs ps p eq d dd (is-late l wl) = blamed-ok ag n env s ok (fair .few) b bo λ who e st lt.
           (_, i-obligation-late d dd l (stands-derived (s .params) b who e), breach-good ag W (s .params) b who (laterOf τ (d .last)) ps bs st eq wl)
       by-way bo vs ps p eq d dd (is-matched m known) = (_, i-obligation-matched d dd m, (_, t-clause n (thenSight env vs) ps known p, stand-sub (s .params) ps bs (subst (λ l. Sub ps l) eq (λ x i. in-right x (b ∷ []) ps i))))
       by-way bo vs ps p eq d dd (is-waiting k e) = (_, i-obligation-waiting d dd k, (_, t-clause n env bs ok (retyped (rewritten w d (ε .time)) e), sub-refl (standFor (s .params) bs)))
-  clause-gives m below (choice w c f) n env s τ bs gd ok wτ ty =
+
+  chosen : (n : ℕ) (env : List Ty) (w : Wait) (c f : Clause) (s : Sight) (τ : ℕ) (bs : List ℕ)
+      → SightOk ag n env s → W τ → typeClause (namesOf ag n) env (choice w c f) ≡ some bs
+      → ((qs : List ℕ) (u : ℕ) → typeClause (namesOf ag n) env f ≡ some qs → W u → Given u (closed s f) (standFor (s .params) qs))
+      → Given τ (closed s (choice w c f)) (standFor (s .params) bs)
+  unfolding typeClause Sub namesOf withValues
+  chosen n env w c f s τ bs ok wτ ty else-gives =
       from-bind (typeWait (namesOf ag n) env w) _ bs ty λ vs tw q₂.
       from-bind (typeClause (namesOf ag n) (thenSight env vs) c) _ bs q₂ λ ps p q₃.
       from-bind (typeClause (namesOf ag n) env f) _ bs q₃ λ qs p′ q₄.
-      let d = way n env s τ w vs ok wτ tw in by-way vs ps qs p (some-inj q₄) (d .0) (d .1) (λ u wu. clause-gives m below f n env s u qs gd ok wu p′) (d .2)
+      let d = way n env s τ w vs ok wτ tw in by-way vs ps qs p p′ (some-inj q₄) (d .0) (d .1) (d .2)
     where
       retyped : (w′ : Wait) → typeWait (namesOf ag n) env w′ ≡ typeWait (namesOf ag n) env w
           → typeClause (namesOf ag n) env (choice w′ c f) ≡ some bs
       retyped w′ e = ap (λ z. z >>= λ vs. typeClause (namesOf ag n) (thenSight env vs) c >>= λ ps. typeClause (namesOf ag n) env f >>= λ qs. some (ps ++ qs)) e ∙ ty
 
       by-way : (vs : List Ty) (ps qs : List ℕ) → typeClause (namesOf ag n) (thenSight env vs) c ≡ some ps
-          → ps ++ qs ≡ bs → (d : Window) → Due (s .values) τ w d
-          → ((u : ℕ) → W u → Gives u (closed s f) (standFor (s .params) qs)) → Way n env s τ w vs d
-          → Gives τ (closed s (choice w c f)) (standFor (s .params) bs)
-      by-way vs ps qs p eq d dd else-gives (is-late l wl) =
-          let g = else-gives (laterOf τ (d .last)) wl in
+          → typeClause (namesOf ag n) env f ≡ some qs → ps ++ qs ≡ bs → (d : Window) → Due (s .values) τ w d
+          → Way n env s τ w vs d
+          → Given τ (closed s (choice w c f)) (standFor (s .params) bs)
+      by-way vs ps qs p p′ eq d dd (is-late l wl) =
+          let g = else-gives qs (laterOf τ (d .last)) p′ wl in
           (g .0, i-choice-late d dd l (g .1), sound-sub (standFor (s .params) qs) (standFor (s .params) bs) (g .0) (stand-sub (s .params) qs bs (subst (λ l. Sub qs l) eq (λ x i. in-right x ps qs i))) (g .2))
-      by-way vs ps qs p eq d dd else-gives (is-matched m known) = (_, i-choice-matched d dd m, (_, t-clause n (thenSight env vs) ps known p, stand-sub (s .params) ps bs (subst (λ l. Sub ps l) eq (λ x i. in-left x ps qs i))))
-      by-way vs ps qs p eq d dd else-gives (is-waiting k e) = (_, i-choice-waiting d dd k, (_, t-clause n env bs ok (retyped (rewritten w d (ε .time)) e), sub-refl (standFor (s .params) bs)))
-  clause-gives m below (if x t f) n env s τ bs gd ok wτ ty =
-      from-bind (hasType (ag .parties) env x truth) _ bs ty λ u tx q₀.
-      from-bind (typeClause (namesOf ag n) env t) _ bs q₀ λ ps p q.
-      from-bind (typeClause (namesOf ag n) env f) _ bs q λ qs p′ q′.
-      bool-typed (ag .parties) env (s .values) (ok .values) x u tx λ b eb.
-      side ps qs (some-inj q′) b eb (clause-gives m below t n env s τ ps (T-left (guardedIn m t) _ gd) ok wτ p) (clause-gives m below f n env s τ qs (T-right (guardedIn m t) _ gd) ok wτ p′)
-    where
-      side : (ps qs : List ℕ) → ps ++ qs ≡ bs → (b : Bool) → evalBool (s .values) x ≡ some b
-          → Gives τ (closed s t) (standFor (s .params) ps) → Gives τ (closed s f) (standFor (s .params) qs)
-          → Gives τ (closed s (if x t f)) (standFor (s .params) bs)
-      side ps qs eq true e g h = (g .0, i-internal-true (bool-derived (s .values) x true e) (g .1), sound-sub (standFor (s .params) ps) (standFor (s .params) bs) (g .0) (stand-sub (s .params) ps bs (subst (λ l. Sub ps l) eq (λ x i. in-left x ps qs i))) (g .2))
-      side ps qs eq false e g h = (h .0, i-internal-false (bool-derived (s .values) x false e) (h .1), sound-sub (standFor (s .params) qs) (standFor (s .params) bs) (h .0) (stand-sub (s .params) qs bs (subst (λ l. Sub qs l) eq (λ x i. in-right x ps qs i))) (h .2))
-  clause-gives m below (join j t f) n env s τ bs gd ok wτ ty =
-      from-bind (typeClause (namesOf ag n) env t) _ bs ty λ ps p q.
-      from-bind (typeClause (namesOf ag n) env f) _ bs q λ qs p′ q′.
-      from-need (joinOk j (ps ++ qs)) _ bs q′ λ j-ok r.
-      let g = clause-gives m below t n env s τ ps (T-left (guardedIn m t) _ gd) ok wτ p in
-      let h = clause-gives m below f n env s τ qs (T-right (guardedIn m t) _ gd) ok wτ p′ in
-      let c = composed j (standFor (s .params) ps) (standFor (s .params) qs) (g .0) (h .0) (subst (λ l. T (joinOk j l)) (stand-++ (s .params) ps qs) (stand-joinOk j (s .params) (ps ++ qs) j-ok)) (g .2) (h .2) in
-      (c .0, i-composition (g .1) (h .1) (c .1), subst (λ l. Sound l (c .0)) (sym (stand-++ (s .params) ps qs) ∙ ap (standFor (s .params)) (some-inj r)) (c .2))
-  clause-gives m below (instance k es cs) n env s τ bs gd ok wτ ty =
-      from-bind (at (headsIn (ag .templates)) k) _ bs ty λ h p q.
-      from-bind (haveTypes (ag .parties) env es (h .values)) _ bs q λ u te q₂.
-      from-need (eqb (length cs) (h .params) && all (blameOk (namesOf ag n)) cs) _ bs q₂ λ t r.
-      let ev = evals-typed (ag .parties) env (s .values) (ok .values) es (h .values) u te in
-      let bl = blamedAll-ok ag n env s ok (fair .few) cs (T-right (eqb (length cs) (h .params)) _ t) in
-      let i = below k h (ev .0) (standFor (s .params) cs) τ (ltb→lt k m gd) p (ev .2) (bl .2 ∙ eqb→eq (length cs) (h .params) (T-left (eqb (length cs) (h .params)) _ t)) (bl .1) wτ in
-      let g = i .2 in (
-        g .0,
-        i-instantiation (evals-derived (s .values) es (ev .0) (ev .1)) (all-derived (s .params) cs (standFor (s .params) cs) (bl .0)) (i .1) (g .1),
-        subst (λ l. Sound (standFor (s .params) l) (g .0)) (some-inj r) (sound-sub (h .declared ++ standFor (s .params) cs) (standFor (s .params) (h .declared ++ cs)) (g .0) (stand-instance (s .params) (h .declared) cs (λ x i. omega (arith, heads-declared ag mains fair k h p x i, fair .few))) (g .2)),
-      )
-  clause-gives m below badClause n env s τ bs gd ok wτ ty = let z : _≡_ {A = ℕ} 0 1 = cc in absurd (omega arith)
+      by-way vs ps qs p p′ eq d dd (is-matched m known) = (_, i-choice-matched d dd m, (_, t-clause n (thenSight env vs) ps known p, stand-sub (s .params) ps bs (subst (λ l. Sub ps l) eq (λ x i. in-left x ps qs i))))
+      by-way vs ps qs p p′ eq d dd (is-waiting k e) = (_, i-choice-waiting d dd k, (_, t-clause n env bs ok (retyped (rewritten w d (ε .time)) e), sub-refl (standFor (s .params) bs)))
 
-  -- a guarded template names only lower ones, so unfolding ends
-  instances : (m : ℕ) → Instances m
-  instances zero k h vs ps τ lt p hv count range wτ = absurd (omega arith)
-  instances (suc m) k h vs ps τ lt p hv count range wτ =
-      at-heads (ag .templates) k h p λ t pt eq.
-      let ft = fair .templates k t pt in
-      let known : SightOk ag (t .head .params) (t .head .values) (sightOf ps vs) = record { count = count ∙ ap (λ z. z .params) (sym eq); fewParams = ft .fewParams; range = range; values = subst (λ z. HaveTy (ag .parties) (z .values) vs) (sym eq) hv } in
-      let g = clause-gives m (instances m) (t .body) (t .head .params) (t .head .values) (sightOf ps vs) τ (ft .blames) (guarded-mono k m (t .body) (omega arith) (ft .guarded)) known wτ (ft .typed) in
-      (t, pt, (g .0, g .1, subst (λ z. Sound (z .declared ++ ps) (g .0)) eq (sound-sub (standFor ps (ft .blames)) (t .head .declared ++ ps) (g .0) (body-sub ag mains fair k t ft vs ps known) (g .2))))
+  sighted-rules : Rules ag W (Residual Text) Sound Reduced
+  sighted-rules = record {
+    fine-sub = sound-sub;
+    fulfilment = λ n env s τ bs ok ty. (_, i-fulfilment, (_, t-clause n env bs ok ty, sub-refl (standFor (s .params) bs)));
+    obligation = owed;
+    choice = chosen;
+    internal-true = λ s τ x t f r e p. i-internal-true e p;
+    internal-false = λ s τ x t f r e p. i-internal-false e p;
+    composition = λ s τ j t f P Q ok g h. let c = composed j P Q (g .0) (h .0) ok (g .2) (h .2) in (c .0, i-composition (g .1) (h .1) (c .1), c .2);
+    instantiation = λ s τ k es bs ps vs t r de db e p. i-instantiation de db e p;
+  }
 
   -- Theorems 10 and 11 to the letter: a typed text has a residue, which is typed or a breach by its parties, from the
   -- start to the reading
-  pub text-gives : {x : Text} {ps : List ℕ} (τ : ℕ) → Typed ag x ps → W τ → Gives τ x ps
-  text-gives τ (t-clause {s = s} {c = c} n env bs ok ty) wτ = clause-gives (length (ag .templates)) (instances (length (ag .templates))) c n env s τ bs (typed-guarded ag mains fair c n env bs ty) ok wτ ty
+  pub text-gives : {x : Text} {ps : List ℕ} (τ : ℕ) → Typed ag x ps → W τ → Given τ x ps
+  text-gives τ (t-clause {s = s} {c = c} n env bs ok ty) wτ = typed-gives ag W (Residual Text) Sound Reduced mains fair sighted-rules c n env s τ bs ok wτ ty
   text-gives τ (t-joins {j = j} {ps = ps} {qs = qs} x y ok) wτ =
       let g = text-gives τ x wτ in
       let h = text-gives τ y wτ in
