@@ -102,7 +102,7 @@ module _ (ag : Agreement) (mains : List ℕ) (fair : Fair ag mains) where
   typed-guarded badClause n env bs ty = tt
 
   -- what a template's body blames, its parameters put in, lies within what an instance declares and names
-  body-sub : (k : ℕ) (t : Template) (ft : FairTemplate ag k t) (vs : List Val) (ps : List ℕ) → SightOk ag (t .head .params) (t .head .values) (record { params = ps; values = vs }) → Sub (standFor ps (ft .blames)) (t .head .declared ++ ps)
+  pub body-sub : (k : ℕ) (t : Template) (ft : FairTemplate ag k t) (vs : List Val) (ps : List ℕ) → SightOk ag (t .head .params) (t .head .values) (record { params = ps; values = vs }) → Sub (standFor ps (ft .blames)) (t .head .declared ++ ps)
   unfolding Sub blameOk namesOf
   body-sub k t ft vs ps ok x i =
       let r = stand-in ps (ft .blames) x i in

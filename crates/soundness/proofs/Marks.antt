@@ -210,7 +210,7 @@ module _ (bytes : List ℕ) (a : Agreement) (mains : List ℕ) (ck : checked byt
       go (stays n nb e) = let c = n t b refl in absurd (omega arith)
       go (broken u c qs e le is pos sub all) = let same = breach-inj e in (qs, is ∙ ap (λ v. runAt (timeIn m) (breach v qs)) (sym (same .0)), all (omega (arith, same .0)) ∙ sym (same .1))
 
-  forecast-is : (cells : List ℤ) (q : Run) → length cells ≡ 3080 → runOf a mains cells ≡ some q → forecastOf bytes cells ≡ shown (forecastRun a q)
+  pub forecast-is : (cells : List ℤ) (q : Run) → length cells ≡ 3080 → runOf a mains cells ≡ some q → forecastOf bytes cells ≡ shown (forecastRun a q)
   unfolding forecastOf
   forecast-is cells q h e =
       ap (λ c. elim c [ refused n ↦ refusedForecast n | accepted a ps ↦ elim (isTable cells) [ false ↦ refusedForecast 6 | true ↦ elim (runOf a ps cells) [ none ↦ refusedForecast 7 | some x ↦ shown (forecastRun a x) ] ] ]) ck

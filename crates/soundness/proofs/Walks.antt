@@ -140,7 +140,7 @@ abbrev wanted : Agreement → Wait → List Ty
 wanted ag w = orNil (readingOfType (ag .readings) (w .wanted))
 
 -- parties of an instance: the declared ones stand for themselves
-stand-instance : (params ds cs : List ℕ) → ((q : ℕ) → In q ds → q < 128) → Sub (ds ++ standFor params cs) (standFor params (ds ++ cs))
+pub stand-instance : (params ds cs : List ℕ) → ((q : ℕ) → In q ds → q < 128) → Sub (ds ++ standFor params cs) (standFor params (ds ++ cs))
 unfolding Sub standsFor
 stand-instance params ds cs h = rw (stand-++ params ds cs) (sub-both ds (standFor params cs) (standFor params ds) (standFor params cs)
     (λ x k. subst (λ z. In z (standFor params ds)) (self x (h x k)) (in-stand params ds x k)) (sub-refl (standFor params cs)))
