@@ -507,7 +507,7 @@ types =
 -- ---- 4: guards
 unfoldable pub guards : List Trial
 guards =
-    refusesAll "4: itself" 4 (agreement (template 0 (call 0) ∷ []) (asking (op 43 one one)))
+    refuses "4: itself" 4 (agreement (template 0 (call 0) ∷ []) (asking (op 43 one one)))
     ∷ refuses "a later one" 4 (beside (template 0 (call 1) ∷ template 0 nothing ∷ []))
     ∷ refuses "the second body" 4 (beside (template 0 nothing ∷ template 0 (call 1) ∷ []))
     ∷ refuses "a join's left side" 4 (beside (template 0 (all′ (call 0) nothing) ∷ []))
@@ -589,7 +589,7 @@ over n ts c = shows n (decides (checkTyped (laddered ts c) []) ∷ []) (decides 
 unfoldable pub widths : List Trial
 widths =
     accepts "256" 0 (agreement ladder (wide (otherwise nothing)))
-    ∷ refusesAll "5: 257" 5 (agreement ladder (wide (all′ nothing nothing)))
+    ∷ refuses "5: 257" 5 (agreement ladder (wide (all′ nothing nothing)))
     ∷ narrow "a clause of 256" [] widest
     ∷ narrow "a `then` of 256" [] (next′ widest)
     ∷ narrow "a body of 256, an obligation of 1" (body widest ∷ [])
@@ -752,10 +752,6 @@ entries =
     follows "values, truths, parties and parameters in cells" mixed
     (readingWith 110 1 (pos 7 ∷ pos 1 ∷ pos 2 ∷ []) ∷ [])
     (live 100 begun 160 3 ∷ live 110 (units′ 20 21 (pos 7) 1 1 100) 160 2 ∷ [])
-    ∷ follows "a forecast that is none, a fulfilled run that goes on"
-    (main (may yes′ (pos 0) (pos 50) nothing nothing)) (mark 151 ∷ mark 160 ∷ [])
-    (record { number = 0; table = runningTable 100 (unitOf 18 17 100 [] [] ∷ []); forecast = noBreach } ∷ fulfils 151
-    ∷ fulfils 160 ∷ [])
     ∷ shows "6: a cell too few and one too many"
     (answers (startOf sample (take 3079 zeros)) ∷ answers (readingOf sample (take 3079 zeros) []) ∷ forecasts
     (forecastOf sample (take 3079 zeros)) ∷ answers (startOf sample (pos 1 ∷ zeros)) ∷ [])

@@ -66,6 +66,11 @@ unfoldable pub byEntries : List ℕ → Answer → List (List ℕ) → List Seen
 byEntries bytes a [] = answers a ∷ forecasts (forecastOf bytes (a .table)) ∷ []
 byEntries bytes a (r ∷ rs) = answers a ∷ forecasts (forecastOf bytes (a .table)) ∷ byEntries bytes (readingOf bytes (a .table) r) rs
 
+-- the same without the forecasts
+unfoldable pub byReadings : List ℕ → Answer → List (List ℕ) → List Seen
+byReadings bytes a [] = answers a ∷ []
+byReadings bytes a (r ∷ rs) = answers a ∷ byReadings bytes (readingOf bytes (a .table) r) rs
+
 -- by the rules: no table is read
 unfoldable pub byRules : Agreement → Stepped → List (List ℕ) → List Seen
 byRules ag s [] = gives (s .number) (tableOf (s .run)) ∷ []
@@ -91,6 +96,9 @@ ofRules (m ∷ ms) = gives (m .number) (m .table) ∷ ofRules ms
 
 unfoldable pub follows : String → List ℕ → List (List ℕ) → List Moment → Trial
 follows n bytes rs ms = record { name = n; shown = byEntries bytes (startOf bytes zeros) rs ++ rulesOf (checked bytes) rs; expected = ofEntries ms ++ ofRules ms }
+
+unfoldable pub grows : String → List ℕ → List (List ℕ) → List Moment → Trial
+grows n bytes rs ms = record { name = n; shown = byReadings bytes (startOf bytes zeros) rs ++ rulesOf (checked bytes) rs; expected = ofRules ms ++ ofRules ms }
 
 -- running: the last reading time, the units, and the forecast breach
 unfoldable pub live : ℕ → List (List ℤ) → ℕ → ℕ → Moment
@@ -171,7 +179,7 @@ doubled a zero = owed 25 a ∷ []
 doubled a (suc n) = joinOf 20 ∷ (doubled a n ++ doubled a n)
 
 unfoldable pub p15 : Trial
-p15 = follows "P15" doubling (reading 101 (pos 0) ∷ reading 102 (pos 0) ∷ reading 103 (pos 0) ∷ reading 104 (pos 0) ∷ reading 105 (pos 0) ∷ reading 106 (pos 0) ∷ reading 107 (pos 0) ∷ [])
+p15 = grows "P15" doubling (reading 101 (pos 0) ∷ reading 102 (pos 0) ∷ reading 103 (pos 0) ∷ reading 104 (pos 0) ∷ reading 105 (pos 0) ∷ reading 106 (pos 0) ∷ reading 107 (pos 0) ∷ [])
     (live 100 (doubled 100 0) 160 1
     ∷ live 101 (doubled 101 1) 161 1
     ∷ live 102 (doubled 102 2) 162 1
@@ -186,7 +194,7 @@ trials = p1to4 ∷ p5and6 ∷ p7 ∷ p8 ∷ p9 ∷ p10 ∷ p11 ∷ p12a ∷ p12b
 
 -- what a proof by computation unfolds
 unfoldable pub harness : Unit {0}
-unfolding computes gives byEntries byRules rulesOf ofEntries ofRules follows live fulfils breaches refusing owed chosen
+unfolding computes gives byEntries byReadings byRules rulesOf ofEntries ofRules follows grows live fulfils breaches refusing owed chosen
 harness = tt
 
 pub trials-pass : map (λ t. t .shown) trials ≡ map (λ t. t .expected) trials
