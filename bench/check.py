@@ -36,7 +36,7 @@ def hostile(n):
     return agreement(c)
 
 
-def stream(*agreements): return b"".join(u2(len(a)) + a for a in agreements)
+def stream(*agreements): return b"".join(b"\x01" + u2(len(a)) + a + b"\x05" for a in agreements)
 
 
 def least_stack(data):

@@ -19,4 +19,4 @@ pub mod Demand3
 pub mod Marks
 pub mod Build
 pub mod Trials
-pub mod Refusals
+pub mod Further

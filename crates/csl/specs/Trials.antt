@@ -1,12 +1,12 @@
--- Paper 01, "Pond trials": P1 to P15 and some further ones, by computation, as one claim over a list.
--- At the start and after every reading the entry's answer, the table's head and the forecast are as expected, and number and table, cell for cell, are the run's.
-use mathlib.Core.Bool.{Bool, true, false, _&&_}
-use mathlib.Core.List.{List, [], _∷_, _++_}
-use mathlib.Core.Option.{Option, none, some}
-use Prim.Native.Nat.{ℕ}
-use lib.Dec.{T, eqb}
+-- Paper 01, "Pond trials": P1 to P15 by computation, as one claim over a list.
+-- What the entries and the run show is, in every number and cell, what stands beside it: equal by computing, so no comparison is to be believed.
+use mathlib.Core.Bool.{Bool}
+use mathlib.Core.List.{List, [], _∷_, _++_, map}
+use mathlib.Core.Option.{Option}
+use mathlib.Core.Path.{_≡_, refl}
+use Prim.Native.Nat.{ℕ, zero, suc}
+use Prim.Native.String.{String}
 use lib.IntN.{ℤ, pos, negsuc}
-use lib.ListN.{replicate}
 use Rattle.csl.specs.Lists as Lists
 use Rattle.csl.specs.Numbers as Numbers
 use Rattle.csl.specs.Bytes as Bytes
@@ -24,138 +24,148 @@ use Rattle.csl.specs.Run as Run
 use Rattle.csl.specs.Table as Table
 use Rattle.csl.specs.Entries as Entries
 use Rattle.csl.specs.Build as Build
-use Rattle.csl.specs.Lists.{all, split}
-use Rattle.csl.specs.Numbers.{eqZ}
 use Rattle.csl.specs.Syntax.{Agreement}
-use Rattle.csl.specs.Check.{Checked, refused, accepted, checked}
+use Rattle.csl.specs.Check.{CheckAnswer, Checked, refused, accepted, checked}
+use Rattle.csl.specs.Values.{Val}
+use Rattle.csl.specs.Outcomes.{Outcome}
 use Rattle.csl.specs.Run.{Run, Stepped, started, step}
-use Rattle.csl.specs.Table.{tableOf, asNats}
-use Rattle.csl.specs.Entries.{Answer, Forecast, refusedForecast, noBreach, breachAt, noForecast, startOf, readingOf, forecastOf}
-use Rattle.csl.specs.Build.{lit, truthOf, yes′, partyOf, var, opposite, op, nothing, owesTyped, owes, simply, may, ifs, all′, any′, inst, templateOf, agreement, reading, mark, sample}
+use Rattle.csl.specs.Table.{tableOf}
+use Rattle.csl.specs.Entries.{Answer, Forecast, noBreach, breachAt, startOf, readingOf, forecastOf}
+use Rattle.csl.specs.Build.{lit, yes′, op, nothing, owes, simply, may, all′, any′, inst, templateOf, agreement, reading, mark, sample, zeros, unitOf, joinOf, runningTable, fulfilledTable, breachedTable}
 
 -- everything that the trials compute with
 unfoldable pub computes : Unit {0}
 unfolding Lists.computes Numbers.computes Bytes.computes Parties.computes Decode.computes Typing.computes Guards.computes Widths.computes Check.computes Values.computes Outcomes.computes Rules.computes Places.computes Run.computes Table.computes Entries.computes Build.computes
 computes = tt
 
--- ---- what is seen after an entry: its number; state, last reading, breach time, parties and units; the forecast
-unfoldable pub forecastSeen : Forecast → List ℕ
-forecastSeen (refusedForecast n) = 0 ∷ 0 ∷ n ∷ []
-forecastSeen noBreach = []
-forecastSeen (breachAt t b) = t ∷ b ∷ []
-forecastSeen noForecast = 0 ∷ 0 ∷ 0 ∷ 0 ∷ []
-
-unfoldable pub headSeen : List ℤ → List ℕ
-headSeen cells = elim (split 5 cells) [ none ↦ [] | some s ↦ elim (asNats (s .0)) [ none ↦ [] | some ns ↦ ns ] ]
-
-unfoldable pub seen : List ℕ → Answer → List ℕ
-seen bytes a = a .number ∷ (headSeen (a .table) ++ forecastSeen (forecastOf bytes (a .table)))
-
-unfoldable pub live : ℕ → ℕ → ℕ → ℕ → List ℕ
-live time used t b = 0 ∷ 1 ∷ time ∷ 0 ∷ 0 ∷ used ∷ t ∷ b ∷ []
-
-unfoldable pub fulfils : ℕ → List ℕ
-fulfils time = 0 ∷ 2 ∷ time ∷ 0 ∷ 0 ∷ 0 ∷ []
-
-unfoldable pub breaches : ℕ → ℕ → ℕ → List ℕ
-breaches time t b = 0 ∷ 3 ∷ time ∷ t ∷ b ∷ 0 ∷ t ∷ b ∷ []
-
--- ---- comparing
-unfoldable pub sameCells : List ℤ → List ℤ → Bool
-sameCells [] [] = true
-sameCells [] (y ∷ ys) = false
-sameCells (x ∷ xs) [] = false
-sameCells (x ∷ xs) (y ∷ ys) = elim (eqZ x y) [ true ↦ sameCells xs ys | false ↦ false ]
-
-unfoldable pub sameNats : List ℕ → List ℕ → Bool
-sameNats [] [] = true
-sameNats [] (y ∷ ys) = false
-sameNats (x ∷ xs) [] = false
-sameNats (x ∷ xs) (y ∷ ys) = elim (eqb x y) [ true ↦ sameNats xs ys | false ↦ false ]
-
-unfoldable pub fits : List ℕ → Answer → Stepped → List ℕ → Bool
-fits bytes a s expected = sameNats (seen bytes a) expected && (eqb (a .number) (s .number) && sameCells (a .table) (tableOf (s .run)))
-
--- ---- a trial: an agreement, what is seen at the start, and readings with what is seen after each
-pub record Line : Type 0 where
-  pub bytes : List ℕ
-  pub expected : List ℕ
+-- ---- a trial: what is computed, and what it must be
+pub data Seen : Type 0 where
+  -- the entries' answers
+  checks : CheckAnswer → Seen
+  answers : Answer → Seen
+  forecasts : Forecast → Seen
+  -- a step of the run with what it would become if only time went on, the run that a table shows, a definition alone
+  steps : Stepped → Outcome → Seen
+  reads : Option Run → Seen
+  becomes : Outcome → Seen
+  decides : Checked → Seen
+  evaluates : Option Val → Seen
+  holds : Bool → Seen
 
 pub record Trial : Type 0 where
-  pub bytes : List ℕ
-  pub first : List ℕ
-  pub lines : List Line
+  pub name : String
+  pub shown : List Seen
+  pub expected : List Seen
 
-unfoldable pub line : List ℕ → List ℕ → Line
-line b e = record { bytes = b; expected = e }
+-- a number, and a table
+unfoldable pub gives : ℕ → List ℤ → Seen
+gives n cells = answers (record { number = n; table = cells })
 
-unfoldable pub trial : List ℕ → List ℕ → List Line → Trial
-trial b f ls = record { bytes = b; first = f; lines = ls }
+-- ---- an agreement started and given readings: by the entries, on the table that the one before left, with the forecast of each table
+unfoldable pub byEntries : List ℕ → Answer → List (List ℕ) → List Seen
+byEntries bytes a [] = answers a ∷ forecasts (forecastOf bytes (a .table)) ∷ []
+byEntries bytes a (r ∷ rs) = answers a ∷ forecasts (forecastOf bytes (a .table)) ∷ byEntries bytes (readingOf bytes (a .table) r) rs
 
-unfoldable pub zeros : List ℤ
-zeros = replicate 3080 (pos 0)
+-- the same without the forecasts
+unfoldable pub byReadings : List ℕ → Answer → List (List ℕ) → List Seen
+byReadings bytes a [] = answers a ∷ []
+byReadings bytes a (r ∷ rs) = answers a ∷ byReadings bytes (readingOf bytes (a .table) r) rs
 
-unfoldable pub follows : List ℕ → Agreement → List ℤ → Run → List Line → Bool
-follows bytes ag cells r [] = true
-follows bytes ag cells r (l ∷ ls) =
-    let a = readingOf bytes cells (l .bytes) in
-    let s = step ag r (l .bytes) in
-    elim (fits bytes a s (l .expected)) [ true ↦ follows bytes ag (a .table) (s .run) ls | false ↦ false ]
+-- by the rules: no table is read
+unfoldable pub byRules : Agreement → Stepped → List (List ℕ) → List Seen
+byRules ag s [] = gives (s .number) (tableOf (s .run)) ∷ []
+byRules ag s (r ∷ rs) = gives (s .number) (tableOf (s .run)) ∷ byRules ag (step ag (s .run) r) rs
 
-unfoldable pub passes : Trial → Bool
-passes t = elim (checked (t .bytes)) [
-  | refused n ↦ false
-  | accepted ag ps ↦
-      let a = startOf (t .bytes) zeros in
-      let s = started ag in
-      elim (fits (t .bytes) a s (t .first)) [ true ↦ follows (t .bytes) ag (a .table) (s .run) (t .lines) | false ↦ false ]
-]
+unfoldable pub rulesOf : Checked → List (List ℕ) → List Seen
+rulesOf (refused n) rs = []
+rulesOf (accepted ag ps) rs = byRules ag (started ag) rs
+
+-- ---- a moment: a number, the table with it, and its forecast
+pub record Moment : Type 0 where
+  pub number : ℕ
+  pub table : List ℤ
+  pub forecast : Forecast
+
+unfoldable pub ofEntries : List Moment → List Seen
+ofEntries [] = []
+ofEntries (m ∷ ms) = gives (m .number) (m .table) ∷ forecasts (m .forecast) ∷ ofEntries ms
+
+unfoldable pub ofRules : List Moment → List Seen
+ofRules [] = []
+ofRules (m ∷ ms) = gives (m .number) (m .table) ∷ ofRules ms
+
+unfoldable pub follows : String → List ℕ → List (List ℕ) → List Moment → Trial
+follows n bytes rs ms = record { name = n; shown = byEntries bytes (startOf bytes zeros) rs ++ rulesOf (checked bytes) rs; expected = ofEntries ms ++ ofRules ms }
+
+unfoldable pub grows : String → List ℕ → List (List ℕ) → List Moment → Trial
+grows n bytes rs ms = record { name = n; shown = byReadings bytes (startOf bytes zeros) rs ++ rulesOf (checked bytes) rs; expected = ofRules ms ++ ofRules ms }
+
+-- running: the last reading time, the units, and the forecast breach
+unfoldable pub live : ℕ → List (List ℤ) → ℕ → ℕ → Moment
+live now us t b = record { number = 0; table = runningTable now us; forecast = breachAt t b }
+
+unfoldable pub fulfils : ℕ → Moment
+fulfils now = record { number = 0; table = fulfilledTable now; forecast = noBreach }
+
+unfoldable pub breaches : ℕ → ℕ → ℕ → Moment
+breaches now t b = record { number = 0; table = breachedTable now t b; forecast = breachAt t b }
+
+-- the moment before, with a number
+unfoldable pub refusing : ℕ → Moment → Moment
+refusing n m = record { number = n; table = m .table; forecast = m .forecast }
+
+-- an obligation and a choice that wait since A, with nothing in sight
+unfoldable pub owed : ℕ → ℕ → List ℤ
+owed p a = unitOf 17 p a [] []
+
+unfoldable pub chosen : ℕ → ℕ → List ℤ
+chosen p a = unitOf 18 p a [] []
 
 -- ---- P1 to P15
--- P1 to P4 with the sample transcript's refused reading
 unfoldable pub p1to4 : Trial
-p1to4 = trial sample (live 100 1 160 1) (
-    line (reading 110 (pos 240)) (live 110 1 160 1)
-    ∷ line (reading 105 (pos 250)) (10 ∷ 1 ∷ 110 ∷ 0 ∷ 0 ∷ 1 ∷ 160 ∷ 1 ∷ [])
-    ∷ line (mark 160) (live 160 1 160 1)
-    ∷ line (reading 160 (pos 250)) (fulfils 160) ∷ [])
+p1to4 = follows "P1 to P4 and the transcript's refused reading" sample (reading 110 (pos 240) ∷ reading 105 (pos 250) ∷ mark 160 ∷ reading 160 (pos 250) ∷ [])
+    (live 100 (owed 17 100 ∷ []) 160 1 ∷ live 110 (owed 17 100 ∷ []) 160 1 ∷ refusing 10 (live 110 (owed 17 100 ∷ []) 160 1) ∷ live 160 (owed 17 100 ∷ []) 160 1 ∷ fulfils 160 ∷ [])
 
 unfoldable pub p5and6 : Trial
-p5and6 = trial sample (live 100 1 160 1) (line (mark 161) (breaches 161 160 1) ∷ line (reading 161 (pos 250)) (breaches 161 160 1) ∷ [])
+p5and6 = follows "P5 and P6" sample (mark 161 ∷ reading 161 (pos 250) ∷ []) (live 100 (owed 17 100 ∷ []) 160 1 ∷ breaches 161 160 1 ∷ breaches 161 160 1 ∷ [])
 
 unfoldable pub p7 : Trial
-p7 = trial (agreement [] (simply 0 (negsuc 4))) (live 100 1 100 1) (line (mark 100) (breaches 100 100 1) ∷ [])
+p7 = follows "P7" (agreement [] (simply 0 (negsuc 4))) (mark 100 ∷ []) (live 100 (owed 17 100 ∷ []) 100 1 ∷ breaches 100 100 1 ∷ [])
+
+-- two obligations joined, from place 17 on
+unfoldable pub pair : ℕ → List (List ℤ)
+pair s = joinOf s ∷ owed 21 100 ∷ owed 52 100 ∷ []
 
 unfoldable pub p8 : Trial
-p8 = trial (agreement [] (all′ (simply 0 (pos 60)) (simply 1 (pos 60)))) (live 100 3 160 3) (line (mark 161) (breaches 161 160 3) ∷ [])
+p8 = follows "P8" (agreement [] (all′ (simply 0 (pos 60)) (simply 1 (pos 60)))) (mark 161 ∷ []) (live 100 (pair 20) 160 3 ∷ breaches 161 160 3 ∷ [])
 
 unfoldable pub p9 : Trial
-p9 = trial (agreement [] (all′ (simply 0 (pos 60)) (simply 1 (pos 50)))) (live 100 3 150 2) (line (mark 161) (breaches 161 150 2) ∷ [])
+p9 = follows "P9" (agreement [] (all′ (simply 0 (pos 60)) (simply 1 (pos 50)))) (mark 161 ∷ []) (live 100 (pair 20) 150 2 ∷ breaches 161 150 2 ∷ [])
 
 unfoldable pub p10 : Trial
-p10 = trial (agreement [] (all′ (simply 0 (pos 60)) (simply 1 (pos 50)))) (live 100 3 150 2) (line (reading 120 (pos 1)) (fulfils 120) ∷ [])
+p10 = follows "P10" (agreement [] (all′ (simply 0 (pos 60)) (simply 1 (pos 50)))) (reading 120 (pos 1) ∷ []) (live 100 (pair 20) 150 2 ∷ fulfils 120 ∷ [])
 
 unfoldable pub p11 : Trial
-p11 = trial (agreement [] (any′ (simply 0 (pos 50)) (simply 0 (pos 60)))) (live 100 3 160 1) (line (mark 155) (live 155 1 160 1) ∷ line (mark 161) (breaches 161 160 1) ∷ [])
+p11 = follows "P11" (agreement [] (any′ (simply 0 (pos 50)) (simply 0 (pos 60)))) (mark 155 ∷ mark 161 ∷ []) (live 100 (pair 21) 160 1 ∷ live 155 (owed 52 100 ∷ []) 160 1 ∷ breaches 161 160 1 ∷ [])
 
 unfoldable pub choosing : List ℕ
 choosing = agreement [] (may yes′ (pos 0) (pos 50) nothing (simply 1 (pos 20)))
 
 unfoldable pub p12a : Trial
-p12a = trial choosing (live 100 1 170 2) (line (reading 165 (pos 1)) (fulfils 165) ∷ [])
+p12a = follows "P12, a reading" choosing (reading 165 (pos 1) ∷ []) (live 100 (chosen 17 100 ∷ []) 170 2 ∷ fulfils 165 ∷ [])
 
 unfoldable pub p12b : Trial
-p12b = trial choosing (live 100 1 170 2) (line (mark 171) (breaches 171 170 2) ∷ [])
+p12b = follows "P12, a mark" choosing (mark 171 ∷ []) (live 100 (chosen 17 100 ∷ []) 170 2 ∷ breaches 171 170 2 ∷ [])
 
--- an equation of two numbers as `where`
+-- an obligation whose `where` is an equation of two numbers
 unfoldable pub asks : List ℕ → ℤ → List ℕ
 asks e z = agreement [] (owes 0 (op 43 e (lit z)) (pos 0) (pos 60) nothing)
 
 unfoldable pub p13 : Trial
-p13 = trial (asks (op 40 (lit (negsuc 6)) (lit (pos 2))) (negsuc 2)) (live 100 1 160 1) (line (reading 110 (pos 1)) (fulfils 110) ∷ [])
+p13 = follows "P13" (asks (op 40 (lit (negsuc 6)) (lit (pos 2))) (negsuc 2)) (reading 110 (pos 1) ∷ []) (live 100 (owed 17 100 ∷ []) 160 1 ∷ fulfils 110 ∷ [])
 
 unfoldable pub p14 : Trial
-p14 = trial (asks (op 37 (lit (pos 1_000_000_000)) (lit (pos 1))) (pos 1_000_000_000)) (live 100 1 160 1) (line (reading 110 (pos 1)) (fulfils 110) ∷ [])
+p14 = follows "P14" (asks (op 37 (lit (pos 1_000_000_000)) (lit (pos 1))) (pos 1_000_000_000)) (reading 110 (pos 1) ∷ []) (live 100 (owed 17 100 ∷ []) 160 1 ∷ fulfils 110 ∷ [])
 
 unfoldable pub self : List ℕ
 self = inst 0 [] []
@@ -163,129 +173,30 @@ self = inst 0 [] []
 unfoldable pub doubling : List ℕ
 doubling = agreement (templateOf [] 0 1 (owes 0 yes′ (pos 0) (pos 60) (all′ self self)) ∷ []) self
 
+-- as often doubled as there were readings
+unfoldable pub doubled : ℕ → ℕ → List (List ℤ)
+doubled a zero = owed 25 a ∷ []
+doubled a (suc n) = joinOf 20 ∷ (doubled a n ++ doubled a n)
+
 unfoldable pub p15 : Trial
-p15 = trial doubling (live 100 1 160 1) (
-    line (reading 101 (pos 0)) (live 101 3 161 1)
-    ∷ line (reading 102 (pos 0)) (live 102 7 162 1)
-    ∷ line (reading 103 (pos 0)) (live 103 15 163 1)
-    ∷ line (reading 104 (pos 0)) (live 104 31 164 1)
-    ∷ line (reading 105 (pos 0)) (live 105 63 165 1)
-    ∷ line (reading 106 (pos 0)) (live 106 127 166 1)
-    ∷ line (reading 107 (pos 0)) (11 ∷ 1 ∷ 106 ∷ 0 ∷ 0 ∷ 127 ∷ 166 ∷ 1 ∷ []) ∷ [])
-
--- `then` does not see the reading that activated it
-unfoldable pub twice : Trial
-twice = trial (agreement [] (owes 0 yes′ (pos 0) (pos 60) (simply 1 (pos 30)))) (live 100 1 160 1) (
-    line (reading 120 (pos 1)) (live 120 1 150 2)
-    ∷ line (reading 150 (pos 1)) (fulfils 150) ∷ [])
-
--- numbers at both ends, quotients by either sign and by 0; truths, and what is equal
-unfoldable pub is : List ℕ → ℤ → List ℕ
-is e z = op 43 e (lit z)
-
-unfoldable pub every : List (List ℕ) → List ℕ
-every [] = yes′
-every (e ∷ es) = op 41 e (every es)
-
-unfoldable pub most : List ℕ
-most = lit (pos 1_000_000_000)
-
-unfoldable pub least : List ℕ
-least = lit (negsuc 999_999_999)
-
-unfoldable pub facts : List (List ℕ)
-facts =
-    is (op 37 least (lit (negsuc 0))) (negsuc 999_999_999)
-    ∷ is (op 38 most (lit (negsuc 0))) (pos 1_000_000_000)
-    ∷ is (op 38 least (lit (pos 1))) (negsuc 999_999_999)
-    ∷ is (op 38 (lit (pos 5)) (lit (pos 7))) (negsuc 1)
-    ∷ is (op 39 most most) (pos 1_000_000_000)
-    ∷ is (op 39 most least) (negsuc 999_999_999)
-    ∷ is (op 40 (lit (pos 7)) (lit (negsuc 1))) (negsuc 2)
-    ∷ is (op 40 (lit (negsuc 6)) (lit (negsuc 1))) (pos 3)
-    ∷ is (op 40 (lit (negsuc 6)) (lit (pos 0))) (pos 0)
-    ∷ op 42 (lit (negsuc 0)) (lit (pos 0))
-    ∷ opposite (op 42 (lit (pos 1)) (lit (pos 1)))
-    ∷ op 43 (truthOf 0) (truthOf 0)
-    ∷ opposite (op 43 yes′ (truthOf 0))
-    ∷ op 43 (partyOf 1) (partyOf 1)
-    ∷ opposite (op 43 (partyOf 0) (partyOf 1)) ∷ []
-
-unfoldable pub reckoning : Trial
-reckoning = trial (agreement [] (owes 0 (every facts) (pos 0) (pos 60) nothing)) (live 100 1 160 1) (line (reading 110 (pos 1)) (fulfils 110) ∷ [])
-
--- an `and` of truths, by either side
-unfoldable pub bothTrue : Trial
-bothTrue = trial (agreement [] (owes 0 (opposite (op 41 yes′ (truthOf 0))) (pos 0) (pos 60) (owes 0 (opposite (op 41 (truthOf 0) yes′)) (pos 0) (pos 60) nothing))) (live 100 1 160 1) (line (reading 110 (pos 1)) (live 110 1 170 1) ∷ line (reading 120 (pos 1)) (fulfils 120) ∷ [])
-
--- a reading before `first` is not taken, at `first` it is
-unfoldable pub early : Trial
-early = trial (agreement [] (owes 0 yes′ (pos 30) (pos 20) nothing)) (live 100 1 150 1) (line (reading 129 (pos 1)) (live 129 1 150 1) ∷ line (reading 130 (pos 1)) (fulfils 130) ∷ [])
-
--- a window is not held at a number's limit
-unfoldable pub far : Trial
-far = trial (agreement [] (owes 0 yes′ (pos 1_000_000_000) (pos 1_000_000_000) nothing)) (live 100 1 2_000_000_100 1) []
-
--- P9 and P11 with the sides the other way round, and a breach beside what still waits
-unfoldable pub mirrored : Trial
-mirrored = trial (agreement [] (all′ (simply 0 (pos 50)) (simply 1 (pos 60)))) (live 100 3 150 1) (line (mark 161) (breaches 161 150 1) ∷ [])
-
-unfoldable pub besideLeft : Trial
-besideLeft = trial (agreement [] (all′ (simply 0 (pos 50)) (simply 1 (pos 60)))) (live 100 3 150 1) (line (mark 155) (breaches 155 150 1) ∷ [])
-
-unfoldable pub besideRight : Trial
-besideRight = trial (agreement [] (all′ (simply 0 (pos 60)) (simply 1 (pos 50)))) (live 100 3 150 2) (line (mark 155) (breaches 155 150 2) ∷ [])
-
-unfoldable pub either : Trial
-either = trial (agreement [] (any′ (simply 0 (pos 60)) (simply 0 (pos 50)))) (live 100 3 160 1) (line (mark 155) (live 155 1 160 1) ∷ line (mark 161) (breaches 161 160 1) ∷ [])
-
-unfoldable pub eitherLate : Trial
-eitherLate = trial (agreement [] (any′ (simply 0 (pos 60)) (simply 0 (pos 50)))) (live 100 3 160 1) (line (mark 161) (breaches 161 160 1) ∷ [])
-
--- `then` sees the reading's value and after it the remaining time
-unfoldable pub remaining : Trial
-remaining = trial (agreement [] (owes 0 yes′ (pos 0) (pos 60) (owesTyped 1 1 (op 42 (var 0) (var 2)) (lit (pos 0)) (var 1) nothing))) (live 100 1 160 1) (
-    line (reading 120 (pos 5)) (live 120 1 160 2)
-    ∷ line (reading 130 (pos 5)) (live 130 1 160 2)
-    ∷ line (reading 160 (pos 6)) (fulfils 160) ∷ [])
-
--- a template's value and parameter
-unfoldable pub lends : Trial
-lends = trial (agreement (templateOf (1 ∷ []) 1 0 (owesTyped 128 1 yes′ (lit (pos 0)) (var 0) nothing) ∷ []) (inst 0 (lit (pos 30) ∷ []) (1 ∷ []))) (live 100 1 130 2) (line (mark 131) (breaches 131 130 2) ∷ [])
-
--- an else is activated at the later of A and last, and may be chosen by an if
-unfoldable pub belated : Trial
-belated = trial (agreement [] (may yes′ (pos 0) (negsuc 4) nothing (ifs (truthOf 0) nothing (simply 1 (pos 20))))) (live 100 1 120 2) (line (mark 100) (live 100 1 120 2) ∷ line (mark 121) (breaches 121 120 2) ∷ [])
-
--- forecast none: alone, beside `and`, beside `or`; a fulfilled run goes on
-unfoldable pub idle : ℕ → ℕ → List ℕ
-idle time used = 0 ∷ 1 ∷ time ∷ 0 ∷ 0 ∷ used ∷ []
-
-unfoldable pub harmless : List ℕ
-harmless = may yes′ (pos 0) (pos 50) nothing nothing
-
-unfoldable pub noneAlone : Trial
-noneAlone = trial (agreement [] harmless) (idle 100 1) (line (mark 151) (fulfils 151) ∷ line (mark 160) (fulfils 160) ∷ [])
-
-unfoldable pub noneBoth : Trial
-noneBoth = trial (agreement [] (all′ harmless (simply 0 (pos 60)))) (live 100 3 160 1) (line (mark 151) (live 151 1 160 1) ∷ [])
-
-unfoldable pub noneEither : Trial
-noneEither = trial (agreement [] (any′ (simply 0 (pos 60)) harmless)) (idle 100 3) (line (mark 151) (fulfils 151) ∷ [])
-
--- at the very forecast minute fewer parties may be blamed: the second window is still open (docs/DECISIONS.md)
-unfoldable pub closing : List ℕ
-closing = agreement [] (all′ (simply 0 (negsuc 4)) (simply 1 (pos 0)))
-
-unfoldable pub atTheMinute : Trial
-atTheMinute = trial closing (live 100 3 100 3) (line (mark 100) (breaches 100 100 1) ∷ [])
-
-unfoldable pub afterTheMinute : Trial
-afterTheMinute = trial closing (live 100 3 100 3) (line (mark 101) (breaches 101 100 3) ∷ [])
+p15 = grows "P15" doubling (reading 101 (pos 0) ∷ reading 102 (pos 0) ∷ reading 103 (pos 0) ∷ reading 104 (pos 0) ∷ reading 105 (pos 0) ∷ reading 106 (pos 0) ∷ reading 107 (pos 0) ∷ [])
+    (live 100 (doubled 100 0) 160 1
+    ∷ live 101 (doubled 101 1) 161 1
+    ∷ live 102 (doubled 102 2) 162 1
+    ∷ live 103 (doubled 103 3) 163 1
+    ∷ live 104 (doubled 104 4) 164 1
+    ∷ live 105 (doubled 105 5) 165 1
+    ∷ live 106 (doubled 106 6) 166 1
+    ∷ refusing 11 (live 106 (doubled 106 6) 166 1) ∷ [])
 
 unfoldable pub trials : List Trial
-trials = p1to4 ∷ p5and6 ∷ p7 ∷ p8 ∷ p9 ∷ p10 ∷ p11 ∷ p12a ∷ p12b ∷ p13 ∷ p14 ∷ p15 ∷ twice ∷ reckoning ∷ bothTrue ∷ early ∷ far ∷ mirrored ∷ besideLeft ∷ besideRight ∷ either ∷ eitherLate ∷ remaining ∷ lends ∷ belated ∷ atTheMinute ∷ afterTheMinute ∷ noneAlone ∷ noneBoth ∷ noneEither ∷ []
+trials = p1to4 ∷ p5and6 ∷ p7 ∷ p8 ∷ p9 ∷ p10 ∷ p11 ∷ p12a ∷ p12b ∷ p13 ∷ p14 ∷ p15 ∷ []
 
-pub trials-pass : T (all passes trials)
-unfolding computes forecastSeen headSeen seen live fulfils breaches sameCells sameNats fits line trial zeros follows passes p1to4 p5and6 p7 p8 p9 p10 p11 choosing p12a p12b asks p13 p14 self doubling p15 twice is every most least facts reckoning bothTrue early far mirrored besideLeft besideRight either eitherLate remaining lends belated idle harmless closing atTheMinute afterTheMinute noneAlone noneBoth noneEither trials
-trials-pass = tt
+-- what a proof by computation unfolds
+unfoldable pub harness : Unit {0}
+unfolding computes gives byEntries byReadings byRules rulesOf ofEntries ofRules follows grows live fulfils breaches refusing owed chosen
+harness = tt
+
+pub trials-pass : map (λ t. t .shown) trials ≡ map (λ t. t .expected) trials
+unfolding harness p1to4 p5and6 p7 pair p8 p9 p10 p11 choosing p12a p12b asks p13 p14 self doubling doubled p15 trials
+trials-pass = refl

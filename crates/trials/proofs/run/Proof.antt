@@ -7,10 +7,11 @@ use Rattle.trials.proofs.run.Statement.{statement}
 use Rattle.trials.proofs.run.Tie as tie
 
 abbrev Inv-loop : tie.InvT-loop
-Inv-loop head₀ buf₀ out₀ at₀ n₀ head buf out at n = (length head ≡ length head₀) × (length buf ≡ length buf₀) × (length out ≡ length out₀)
+Inv-loop head₀ agreement₀ reading₀ table₀ out₀ t₀ counter₀ head agreement reading table out t counter =
+    (length head ≡ length head₀) × (length agreement ≡ length agreement₀) × (length reading ≡ length reading₀) × (length table ≡ length table₀) × (length out ≡ length out₀)
 
 abbrev μ-loop : tie.MeasureT-loop
-μ-loop head₀ buf₀ out₀ at₀ n₀ head buf out at n = 2 ^ 64 - n
+μ-loop head₀ agreement₀ reading₀ table₀ out₀ t₀ counter₀ head agreement reading table out t counter = 2 ^ 64 - counter
 
 pub run-spec : {M : Type 1} → statement M
 run-spec =
@@ -20,6 +21,10 @@ run-spec =
     μ-loop
     (λ c. search needs)
     (λ c κs. search needs)
+    (λ c. search needs)
+    (λ c. search needs)
+    (λ c. search needs)
+    (λ c. search needs)
     (λ c. search needs)
     (λ c. search needs)
     (λ c. search needs)
