@@ -9,6 +9,7 @@
 //! which alone decides whether an agreement is accepted.
 
 pub mod assemble;
+pub mod check;
 pub mod dates;
 pub mod decode;
 pub mod disassemble;
@@ -18,11 +19,13 @@ pub mod fault;
 mod known;
 pub mod limits;
 pub mod model;
+mod near;
 mod numbers;
 pub mod parse;
 pub mod print;
 pub mod readings;
 pub mod resolve;
+pub mod shown;
 mod sites;
 pub mod syntax;
 pub mod table;

@@ -1,8 +1,8 @@
 //! The names in sight.
 
 use crate::fault::Fault;
-use crate::limits;
 use crate::model::{Blame, Expression, Head, Value};
+use crate::near::did_you_mean;
 use crate::syntax::Name;
 
 #[derive(Clone)]
@@ -25,14 +25,16 @@ impl Scope {
         Scope { parties: self.parties.clone(), parameters: head.parameters.clone(), values: head.values.clone() }
     }
 
-    /// The same with further values; the reading that binds them is named for the message.
-    pub fn with(&self, bound: &[Value], reading: &Name) -> Result<Scope, Fault> {
+    /// The same with further values.
+    pub fn with(&self, bound: &[Value]) -> Scope {
         let mut scope = self.clone();
         scope.values.extend_from_slice(bound);
-        match scope.values.len() {
-            0..=limits::SIGHT => Ok(scope),
-            over => Fault::err(reading.at, format!("{over} values would be in sight: at most {}", limits::SIGHT)),
-        }
+        scope
+    }
+
+    /// How many values are in sight.
+    pub fn sight(&self) -> usize {
+        self.values.len()
     }
 
     /// What a name stands for in an expression. An inner name hides an outer one.
@@ -42,11 +44,12 @@ impl Scope {
         }
         if self.parameters.iter().any(|parameter| is(parameter, name)) {
             let what = format!("`{}` is a party parameter; those are no values, so no expression has them", name.text);
-            return Fault::err(name.at, what);
+            return Err(name.fault(what));
         }
+        let values = self.values.iter().map(|value| value.name.as_str());
         match self.parties.iter().position(|party| is(party, name)) {
             Some(party) => Ok(Expression::Party(party)),
-            None => Err(unknown("value", name)),
+            None => Err(unknown("value", name, values.chain(self.parties.iter().map(String::as_str)))),
         }
     }
 
@@ -55,11 +58,12 @@ impl Scope {
     pub fn blame(&self, name: &Name) -> Result<Blame, Fault> {
         if self.values.iter().any(|value| is(&value.name, name)) {
             let what = format!("`{}` is a value here; to blame is a party or a party parameter", name.text);
-            return Fault::err(name.at, what);
+            return Err(name.fault(what));
         }
         let parameter = self.parameters.iter().position(|parameter| is(parameter, name)).map(Blame::Parameter);
         let party = || self.parties.iter().position(|party| is(party, name)).map(Blame::Party);
-        parameter.or_else(party).ok_or_else(|| unknown("party", name))
+        let known = self.parameters.iter().chain(&self.parties).map(String::as_str);
+        parameter.or_else(party).ok_or_else(|| unknown("party", name, known))
     }
 }
 
@@ -68,6 +72,7 @@ fn is(known: &str, name: &Name) -> bool {
     known == name.text && known != "_"
 }
 
-pub fn unknown(what: &str, name: &Name) -> Fault {
-    Fault::new(name.at, format!("unknown {what} `{}`", name.text))
+/// The fault of a name that none of those known is.
+pub fn unknown<'k>(what: &str, name: &Name, known: impl IntoIterator<Item = &'k str>) -> Fault {
+    name.fault(format!("unknown {what} `{}`{}", name.text, did_you_mean(&name.text, known)))
 }
