@@ -66,11 +66,7 @@ impl<'t> Meeting<'t> {
                 parties
             }
             Form::And(left, right) => self.sides(left, right, sight),
-            Form::Or(left, right) => {
-                let parties = self.sides(left, right, sight);
-                self.at_most_one(clause, &parties, sight);
-                parties
-            }
+            Form::Or(left, right) => self.or(clause, left, right, sight),
             Form::Instance(instance) => self.instance(instance, sight),
         }
     }
@@ -107,12 +103,21 @@ impl<'t> Meeting<'t> {
         template.declared.iter().filter_map(number).collect()
     }
 
-    fn at_most_one(&mut self, or: &Clause, parties: &[Origin<'t>], sight: &Sight<'t>) {
-        if parties.len() > 1 {
+    /// A fault where more than one party meet, unless all of them met in an `or` that is a side of this one.
+    fn or(&mut self, or: &Clause, left: &'t Clause, right: &'t Clause, sight: &Sight<'t>) -> Parties<'t> {
+        let (one, other) = (self.clause(left, sight), self.clause(right, sight));
+        let met = [(left, &one), (right, &other)].map(|(side, parties)| match side.form {
+            Form::Or(..) => parties.len(),
+            _ => 0,
+        });
+        let mut parties = one;
+        add(&mut parties, other);
+        if parties.len() > 1 && !met.contains(&parties.len()) {
             let told: Vec<String> = parties.iter().map(|origin| origin_told(origin, sight)).collect();
             let what = format!("{} meet in this `or`, whose two sides together may have one party", listed(&told));
             self.faults.push(Fault::new(or.at, what).of_length("or".len()).refused(REFUSAL));
         }
+        parties
     }
 
     fn declared(&mut self, template: &'t Template, parties: &[Origin<'t>]) {
