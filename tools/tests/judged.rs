@@ -1,6 +1,6 @@
 //! What `check` explains is what the proved check decides, on generated agreements, valid and with slips.
 //!
-//! `AGREEMENTS=100000 cargo test --release --test verdicts` takes that many instead of the few of every day.
+//! `AGREEMENTS=100000 cargo test --release --test judged` takes that many instead of the few of every day.
 
 use reference::generate::{agreements, damage, random::Random};
 use tools::check::{check, Verdict};
