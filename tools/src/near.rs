@@ -1,5 +1,8 @@
 //! The name that was perhaps meant.
 
+/// No more names than this are looked at.
+const MOST: usize = 1_000;
+
 /// "; did you mean `..`?", or nothing where no known name is near.
 pub fn did_you_mean<'k>(word: &str, known: impl IntoIterator<Item = &'k str>) -> String {
     nearest(word, known).map(|name| format!("; did you mean `{name}`?")).unwrap_or_default()
@@ -10,7 +13,7 @@ pub fn nearest<'k>(word: &str, known: impl IntoIterator<Item = &'k str>) -> Opti
     let word: Vec<char> = word.to_lowercase().chars().collect();
     let most = slips(word.len());
     let name = |known: &&str| *known != "_";
-    let measured = known.into_iter().filter(name).map(|name| (distance(&word, name, most), name));
+    let measured = known.into_iter().take(MOST).filter(name).map(|name| (distance(&word, name, most), name));
     measured.filter(|(distance, _)| *distance <= most).min_by_key(|(distance, _)| *distance).map(|(_, name)| name)
 }
 

@@ -9,6 +9,7 @@ mod meter;
 mod scope;
 
 use crate::fault::{Fault, Place};
+use crate::limits;
 use crate::model::{Agreement, Clause, Head, Reading, Template};
 use crate::syntax;
 use meter::{Meter, Room};
@@ -21,7 +22,7 @@ pub struct Resolved {
     pub agreement: Option<Agreement>,
     /// In the order of the text.
     pub faults: Vec<Fault>,
-    /// Whether the tree is no deeper and no longer than records may be.
+    /// Whether the tree is no deeper and no longer than records may be, and has no more templates.
     pub bounded: bool,
 }
 
@@ -49,7 +50,8 @@ pub fn resolve(tree: &syntax::Agreement) -> Resolved {
         main,
     });
     in_order(&mut faults);
-    Resolved { agreement, faults, bounded: !meter.deep && !meter.is_full() }
+    let bounded = !meter.deep && !meter.is_full() && tree.templates.len() <= limits::TEMPLATES;
+    Resolved { agreement, faults, bounded }
 }
 
 /// In the order of the text, each once: sugar may write an operand twice.

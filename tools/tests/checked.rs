@@ -131,18 +131,18 @@ fn parties_that_are_not_declared() {
 #[test]
 fn guards() {
     let rule = "a template names itself or a later one only inside a `then`";
+    let later = ", a later template, outside every `then`";
+    let none = "and no order of these would do";
     assert_eq!(template_faults("f() = f()"), [format!("2:7: `f` names itself outside every `then`: {rule} (4)")]);
     assert_eq!(
         template_faults("f() = if E() due within 5 then f() else g()\nh() = fulfilment\ng() = h()"),
-        [format!(
-            "2:41: `f` names `g`, a later template, outside every `then`: {rule}; the order `h`, `g`, `f` would do (4)"
-        )]
+        [format!("2:41: `f` names `g`{later}: {rule}; the order `h`, `g`, `f` would do (4)")]
     );
     assert_eq!(
         template_faults("f() = fulfilment and g()\ng() = h()\nh() = f()"),
         [
-            format!("2:22: `f` names `g`, a later template, outside every `then`, and `g` names `h`, `h` names `f`: {rule}, and no order of these would do (4)"),
-            format!("3:7: `g` names `h`, a later template, outside every `then`, and `h` names `f`, `f` names `g`: {rule}, and no order of these would do (4)"),
+            format!("2:22: `f` names `g`{later}, and `g` names `h`, `h` names `f`: {rule}, {none} (4)"),
+            format!("3:7: `g` names `h`{later}, and `h` names `f`, `f` names `g`: {rule}, {none} (4)"),
         ]
     );
 }
@@ -195,7 +195,7 @@ parties Keeper, Buyer
 readings Salinity(level: number)
 letrec
   watch() = <Keeper> Salinity(level) where level due within 60 then watch()
-  twice() = watch() and twice()
+  twice() = twice()
 in
   watch() or <Buyer> Salinity(l) where !(level < 250) due within 60
 starting 100
@@ -209,9 +209,10 @@ sale.csl:4:14: `watch` does not declare `Keeper`: `declares Keeper` would do (re
 sale.csl:4:44: the condition after `where` must be a truth, and `level` is a number (refusal 3)
   4 |   watch() = <Keeper> Salinity(level) where level due within 60 then watch()
     |                                            ^^^^^
-sale.csl:5:25: `twice` names itself outside every `then`: a template names itself or a later one only inside a `then` (refusal 4)
-  5 |   twice() = watch() and twice()
-    |                         ^^^^^
+sale.csl:5:13: `twice` names itself outside every `then`: \
+a template names itself or a later one only inside a `then` (refusal 4)
+  5 |   twice() = twice()
+    |             ^^^^^
 sale.csl:7:42: unknown value `level`
   7 |   watch() or <Buyer> Salinity(l) where !(level < 250) due within 60
     |                                          ^^^^^

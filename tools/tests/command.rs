@@ -129,7 +129,13 @@ fn checks() {
 #[test]
 fn no_control_characters() {
     let told = complaint(&["check", "-"], b"parties \x1b[2J\x07", REFUSED);
-    assert_eq!(told, "-:1:9: `\\u{1b}` stands for nothing here\n  1 | parties  [2J\n    |         ^\n-: no record can be written of this text\n");
+    let expected = "\
+-:1:9: `\\u{1b}` stands for nothing here
+  1 | parties  [2J
+    |         ^
+-: no record can be written of this text
+";
+    assert_eq!(told, expected);
     assert_eq!(
         complaint(&["readings", "-"], b"5 1 \x1b", REFUSED),
         "-:1:5: `\\u{1b}` is no number, and names need the agreement's text (--for)\n"

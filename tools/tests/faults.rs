@@ -207,8 +207,16 @@ fn grammar() {
     assert_eq!(main_fault("(g()"), "5:1: expected `)`, found `starting`");
     assert_eq!(main_fault("if 1 < 2 < 3 then g()"), "4:10: a second comparison: one of the two needs parentheses");
     assert_eq!(main_fault("if then g()"), "4:4: expected an expression, found `then`");
-    assert_eq!(main_fault("if -n < 1 then g()"), "4:4: expected an expression, found `-`: a minus sign may stand before a number only; `0 - n` is the negative of `n`");
-    assert_eq!(main_fault("g() else g()"), "4:5: expected `starting`, found `else`: only an `if` has an `else`; an obligation that is not met in time is its party's breach");
+    assert_eq!(
+        main_fault("if -n < 1 then g()"),
+        "4:4: expected an expression, found `-`: \
+         a minus sign may stand before a number only; `0 - n` is the negative of `n`"
+    );
+    assert_eq!(
+        main_fault("g() else g()"),
+        "4:5: expected `starting`, found `else`: \
+         only an `if` has an `else`; an obligation that is not met in time is its party's breach"
+    );
     assert_eq!(main_fault("g() ; g()"), "4:5: `;` stands for nothing here");
     assert_eq!(main_fault("g()\nstarting 5 g()"), "5:12: expected the end of the text, found `g`");
     assert_eq!(

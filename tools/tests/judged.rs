@@ -7,7 +7,7 @@ use tools::check::{check, Verdict};
 use tools::disassemble;
 
 /// How many agreements are tried where nothing else is said.
-const FEW: usize = 20_000;
+const FEW: usize = 12_000;
 
 fn count() -> usize {
     std::env::var("AGREEMENTS").ok().and_then(|count| count.parse().ok()).unwrap_or(FEW)
@@ -96,12 +96,27 @@ fn slipped(random: &mut Random, text: &str) -> String {
         return reordered(random, text);
     }
     let mut words = words(text);
-    let open: Vec<usize> = (0..words.len()).filter(|n| sort(words[*n]).is_some()).collect();
+    let open = open(&words);
     for _ in 0..1 + random.below(3) {
         let Some(at) = random.any(&open) else { break };
         words[at] = exchanged(random, words[at], &words);
     }
     words.concat()
+}
+
+/// The words that can be exchanged: not those that are declared or bound where they stand.
+fn open(words: &[&str]) -> Vec<usize> {
+    let mut binds = false;
+    let mut open = Vec::new();
+    for (n, word) in words.iter().enumerate() {
+        match *word {
+            "(" => binds = n > 0 && words[n - 1].starts_with('R'),
+            ")" => binds = false,
+            _ if binds || words.get(n + 1) == Some(&":") || sort(word).is_none() => {}
+            _ => open.push(n),
+        }
+    }
+    open
 }
 
 /// The lines of a template are those from its head to the next head.

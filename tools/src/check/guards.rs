@@ -12,12 +12,12 @@ pub fn faults(tree: &Agreement) -> Vec<Fault> {
     let number = |name: &Name| tree.templates.iter().position(|template| template.name.text == name.text);
     let named = |clause: &Clause| -> Vec<usize> { unguarded(clause).into_iter().filter_map(number).collect() };
     let edges: Vec<Vec<usize>> = tree.templates.iter().map(|template| named(&template.body)).collect();
+    let guards = Guards { tree, order: whole_order(&edges), edges };
     let mut faults = Vec::new();
     for (n, template) in tree.templates.iter().enumerate() {
         for name in unguarded(&template.body) {
             if let Some(m) = number(name).filter(|m| *m >= n) {
-                let what = told(tree, n, m, &edges);
-                faults.push(name.fault(what).refused(REFUSAL));
+                faults.push(name.fault(guards.told(n, m)).refused(REFUSAL));
             }
         }
     }
@@ -38,23 +38,37 @@ fn unguarded(clause: &Clause) -> Vec<&Name> {
     }
 }
 
-fn told(tree: &Agreement, naming: usize, named: usize, edges: &[Vec<usize>]) -> String {
-    let name = |n: usize| format!("`{}`", tree.templates[n].name.text);
-    let rule = "a template names itself or a later one only inside a `then`";
-    if naming == named {
-        return format!("{} names itself outside every `then`: {rule}", name(naming));
+struct Guards<'t> {
+    tree: &'t Agreement,
+    /// The templates that each names unguarded.
+    edges: Vec<Vec<usize>>,
+    /// An order of all that would do.
+    order: Option<Vec<usize>>,
+}
+
+impl Guards<'_> {
+    fn name(&self, template: usize) -> String {
+        format!("`{}`", self.tree.templates[template].name.text)
     }
-    let what = format!("{} names {}, a later template, outside every `then`", name(naming), name(named));
-    if let Some(path) = path(named, naming, edges) {
-        let steps: Vec<String> =
-            path.windows(2).map(|pair| format!("{} names {}", name(pair[0]), name(pair[1]))).collect();
-        return format!("{what}, and {}: {rule}, and no order of these would do", steps.join(", "));
-    }
-    match whole_order(edges) {
-        Some(order) => {
-            let order: Vec<String> = order.into_iter().map(name).collect();
-            format!("{what}: {rule}; the order {} would do", order.join(", "))
+
+    fn told(&self, naming: usize, named: usize) -> String {
+        let rule = "a template names itself or a later one only inside a `then`";
+        let (one, other) = (self.name(naming), self.name(named));
+        if naming == named {
+            return format!("{one} names itself outside every `then`: {rule}");
         }
-        None => format!("{what}: {rule}; {} before {} would do", name(named), name(naming)),
+        let what = format!("{one} names {other}, a later template, outside every `then`");
+        if let Some(path) = path(named, naming, &self.edges) {
+            let step = |pair: &[usize]| format!("{} names {}", self.name(pair[0]), self.name(pair[1]));
+            let steps: Vec<String> = path.windows(2).map(step).collect();
+            return format!("{what}, and {}: {rule}, and no order of these would do", steps.join(", "));
+        }
+        match &self.order {
+            Some(order) => {
+                let order: Vec<String> = order.iter().map(|template| self.name(*template)).collect();
+                format!("{what}: {rule}; the order {} would do", order.join(", "))
+            }
+            None => format!("{what}: {rule}; {other} before {one} would do"),
+        }
     }
 }

@@ -28,8 +28,8 @@ pub fn faults(tree: &Agreement) -> Vec<Fault> {
 fn told(what: &str, width: usize) -> Option<String> {
     let over = width.checked_sub(limits::WIDTH).filter(|over| *over > 0)?;
     Some(format!(
-        "{what} has a width of {width}, {over} over the {} there may be; each clause outside a further `then` counts 1, \
-         an instance its template's body too",
+        "{what} has a width of {width}, {over} over the {} there may be; \
+         each clause outside a further `then` counts 1, an instance its template's body too",
         limits::WIDTH
     ))
 }

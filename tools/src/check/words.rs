@@ -4,6 +4,9 @@ use super::{Accepted, Refused, Verdict};
 use crate::shown::{excerpt, printable};
 use givuntha::{Parties, Refusal};
 
+/// No more faults than this are told.
+const MOST: usize = 100;
+
 impl Accepted {
     /// One line for people.
     pub fn told(&self, file: &str) -> String {
@@ -23,10 +26,13 @@ impl Refused {
     pub fn told(&self, file: &str, text: &[u8]) -> String {
         let (file, text) = (printable(file), String::from_utf8_lossy(text));
         let mut lines = Vec::new();
-        for fault in &self.faults {
+        for fault in self.faults.iter().take(MOST) {
             let refusal = fault.refusal.map(|number| format!(" (refusal {number})")).unwrap_or_default();
             lines.push(format!("{file}:{fault}{refusal}"));
             lines.push(excerpt(&text, fault.at, fault.length));
+        }
+        if let Some(more) = self.faults.len().checked_sub(MOST).filter(|more| *more > 0) {
+            lines.push(format!("{file}: {more} more mistakes are not told"));
         }
         lines.push(format!("{file}: {}", self.verdict_told()));
         lines.join("\n")

@@ -3,9 +3,11 @@
 use super::meter::Meter;
 use super::scope::unknown;
 use super::Resolver;
+use crate::fault::Fault;
 use crate::limits;
 use crate::model::{Head, Reading, Value};
-use crate::syntax::{Agreement, Name, Parameter, Template};
+use crate::syntax::{self, Agreement, Name, Parameter, Template};
+use std::collections::BTreeSet;
 
 impl Resolver {
     /// The declarations, which clauses may refer to before they come.
@@ -20,7 +22,7 @@ impl Resolver {
         resolver.distinct(tree.readings.iter().map(|reading| &reading.name), "reading");
         resolver.distinct(tree.templates.iter().map(|template| &template.name), "template");
         if tree.readings.is_empty() {
-            let fault = crate::fault::Fault::new(tree.main.from, "no reading is declared: at least 1 is needed");
+            let fault = Fault::new(tree.main.from, "no reading is declared: at least 1 is needed");
             resolver.faults.push(fault.refused(2));
         }
         resolver.readings = tree.readings.iter().map(|reading| resolver.reading_type(reading)).collect();
@@ -28,7 +30,7 @@ impl Resolver {
         resolver
     }
 
-    fn reading_type(&mut self, tree: &crate::syntax::Reading) -> Reading {
+    fn reading_type(&mut self, tree: &syntax::Reading) -> Reading {
         if tree.name.text == "mark" {
             self.faults.push(tree.name.fault("`mark` is the name of the time mark, type 0"));
         }
@@ -75,14 +77,13 @@ impl Resolver {
 
     /// Names that others refer to: each once, and no `_`.
     pub fn distinct<'n>(&mut self, names: impl IntoIterator<Item = &'n Name>, what: &str) {
-        let mut known: Vec<&str> = Vec::new();
+        let mut known: BTreeSet<&str> = BTreeSet::new();
         for name in names {
             if name.text == "_" {
                 self.faults.push(name.fault(format!("`_` names no {what}")));
-            } else if known.contains(&name.text.as_str()) {
+            } else if !known.insert(&name.text) {
                 self.faults.push(name.fault(format!("the {what} `{}` is named twice", name.text)));
             }
-            known.push(&name.text);
         }
     }
 

@@ -4,11 +4,12 @@ use crate::fault::Fault;
 use crate::model::{Blame, Expression, Head, Value};
 use crate::near::did_you_mean;
 use crate::syntax::Name;
+use std::rc::Rc;
 
 #[derive(Clone)]
 pub struct Scope {
-    parties: Vec<String>,
-    parameters: Vec<String>,
+    parties: Rc<[String]>,
+    parameters: Rc<[String]>,
     /// "the template's, then those bound outside in"
     values: Vec<Value>,
 }
@@ -17,12 +18,13 @@ impl Scope {
     /// What the main clause sees.
     pub fn empty(parties: &[Name]) -> Scope {
         let parties = parties.iter().map(|party| party.text.clone()).collect();
-        Scope { parties, parameters: Vec::new(), values: Vec::new() }
+        Scope { parties, parameters: Rc::new([]), values: Vec::new() }
     }
 
     /// What a template's body sees.
     pub fn of_template(&self, head: &Head) -> Scope {
-        Scope { parties: self.parties.clone(), parameters: head.parameters.clone(), values: head.values.clone() }
+        let parameters = head.parameters.as_slice().into();
+        Scope { parties: self.parties.clone(), parameters, values: head.values.clone() }
     }
 
     /// The same with further values.
@@ -62,7 +64,7 @@ impl Scope {
         }
         let parameter = self.parameters.iter().position(|parameter| is(parameter, name)).map(Blame::Parameter);
         let party = || self.parties.iter().position(|party| is(party, name)).map(Blame::Party);
-        let known = self.parameters.iter().chain(&self.parties).map(String::as_str);
+        let known = self.parameters.iter().chain(self.parties.iter()).map(String::as_str);
         parameter.or_else(party).ok_or_else(|| unknown("party", name, known))
     }
 }
