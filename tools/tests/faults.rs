@@ -29,10 +29,12 @@ fn names_that_nobody_has() {
     assert_eq!(main_fault("if M(n) due within 5"), "4:4: unknown reading `M`");
     assert_eq!(main_fault("h()"), "4:1: unknown template `h`");
     assert_eq!(main_fault("<A> N(n) where m < 1 due within 5"), "4:16: unknown value `m`");
-    assert_eq!(main_fault("<A> N(n) due within n"), "4:21: unknown value `n`");
-    assert_eq!(main_fault("<A> N(n) due within 1 after n"), "4:29: unknown value `n`");
-    assert_eq!(main_fault("<A> N(n) where z = 1 due within 5 remaining z"), "4:16: unknown value `z`");
-    assert_eq!(main_fault("if N(n) due within 5 else if n < 1 then fulfilment"), "4:30: unknown value `n`");
+    let seen = "is not in sight here: `where` and `then` see the values of a reading, and `then` the remaining time";
+    assert_eq!(main_fault("<A> N(n) due within n"), format!("4:21: `n` {seen}"));
+    assert_eq!(main_fault("<A> N(n) due within 1 after n"), format!("4:29: `n` {seen}"));
+    assert_eq!(main_fault("<A> N(n) where z = 1 due within 5 remaining z"), format!("4:16: `z` {seen}"));
+    assert_eq!(main_fault("if N(n) due within 5 else if n < 1 then fulfilment"), format!("4:30: `n` {seen}"));
+    assert_eq!(main_fault("<A> N(n) due within 5 and <A> N(_) where n = 1 due within 5"), "4:42: unknown value `n`");
     assert_eq!(main_fault("<A> N(_) where _ = 1 due within 5"), "4:16: unknown value `_`");
     assert_eq!(main_fault("f(1)<C>"), "4:6: unknown party `C`");
     assert_eq!(template_fault("f() declares A, C = fulfilment"), "2:17: unknown party `C`");

@@ -75,8 +75,9 @@ impl Resolver {
         scope: &Scope,
         inner: usize,
     ) -> Option<Clause> {
+        let outside = scope.hiding(wait.bound.iter().chain(&wait.remaining));
         let wait = self.wait(at, wait, scope, inner);
-        let otherwise = self.optional(at, otherwise, scope, inner);
+        let otherwise = self.optional(at, otherwise, &outside, inner);
         Some(Clause::Wait(Box::new(Wait { late: Late::Else(otherwise?), ..wait? })))
     }
 
@@ -89,9 +90,11 @@ impl Resolver {
         let inside = scope.with(&bound);
         let after_all = inside.with(std::slice::from_ref(&remaining));
         self.sight(&tree.reading, scope, &after_all);
+        let (inside, outside) =
+            (inside.hiding(&tree.remaining), scope.hiding(tree.bound.iter().chain(&tree.remaining)));
         let condition = self.or_literal(at, tree.condition.as_ref(), Expression::TRUE, &inside, inner);
-        let after = self.or_literal(at, tree.after.as_ref(), Expression::ZERO, scope, inner);
-        let within = self.or_literal(at, tree.within.as_ref(), Expression::ZERO, scope, inner);
+        let after = self.or_literal(at, tree.after.as_ref(), Expression::ZERO, &outside, inner);
+        let within = self.or_literal(at, tree.within.as_ref(), Expression::ZERO, &outside, inner);
         let then = self.optional(at, tree.then.as_deref(), &after_all, inner);
         Some(Wait {
             place: 0,

@@ -12,25 +12,34 @@ pub struct Scope {
     parameters: Rc<[String]>,
     /// "the template's, then those bound outside in"
     values: Vec<Value>,
+    /// Names of a reading's values where they are not seen.
+    hidden: Vec<String>,
 }
 
 impl Scope {
     /// What the main clause sees.
     pub fn empty(parties: &[Name]) -> Scope {
         let parties = parties.iter().map(|party| party.text.clone()).collect();
-        Scope { parties, parameters: Rc::new([]), values: Vec::new() }
+        Scope { parties, parameters: Rc::new([]), values: Vec::new(), hidden: Vec::new() }
     }
 
     /// What a template's body sees.
     pub fn of_template(&self, head: &Head) -> Scope {
         let parameters = head.parameters.as_slice().into();
-        Scope { parties: self.parties.clone(), parameters, values: head.values.clone() }
+        Scope { parties: self.parties.clone(), parameters, values: head.values.clone(), hidden: Vec::new() }
     }
 
     /// The same with further values.
     pub fn with(&self, bound: &[Value]) -> Scope {
         let mut scope = self.clone();
         scope.values.extend_from_slice(bound);
+        scope
+    }
+
+    /// The same where some names are bound and not seen.
+    pub fn hiding<'n>(&self, names: impl IntoIterator<Item = &'n Name>) -> Scope {
+        let mut scope = self.clone();
+        scope.hidden.extend(names.into_iter().map(|name| name.text.clone()));
         scope
     }
 
@@ -48,11 +57,19 @@ impl Scope {
             let what = format!("`{}` is a party parameter; those are no values, so no expression has them", name.text);
             return Err(name.fault(what));
         }
-        let values = self.values.iter().map(|value| value.name.as_str());
         match self.parties.iter().position(|party| is(party, name)) {
             Some(party) => Ok(Expression::Party(party)),
-            None => Err(unknown("value", name, values.chain(self.parties.iter().map(String::as_str)))),
+            None => Err(self.no_value(name)),
         }
+    }
+
+    fn no_value(&self, name: &Name) -> Fault {
+        if self.hidden.iter().any(|hidden| is(hidden, name)) {
+            let seen = "`where` and `then` see the values of a reading, and `then` the remaining time";
+            return name.fault(format!("`{}` is not in sight here: {seen}", name.text));
+        }
+        let values = self.values.iter().map(|value| value.name.as_str());
+        unknown("value", name, values.chain(self.parties.iter().map(String::as_str)))
     }
 
     /// "A blame byte is a party below the party count, or 128 to 131 for the template's party
