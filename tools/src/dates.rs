@@ -1,5 +1,9 @@
 //! Dates as minutes since 1970-01-01T00:00, without zones.
 
+mod slips;
+
+pub use slips::slip;
+
 const DAY: i64 = 24 * 60;
 
 /// How a time is written, for messages.
@@ -31,34 +35,6 @@ pub fn shape(text: &str) -> Option<usize> {
 /// What is wrong with a text that only looks like a date.
 pub fn no_date(date: &str) -> String {
     format!("`{date}` is no date from 1970-01-01 on")
-}
-
-/// A time written in a way that other programs read and this one does not: its length in characters, and what is
-/// wanted in its place.
-pub fn slip(text: &str) -> Option<(usize, String)> {
-    let rest = after(text, DATE)?;
-    let date = &text[..DATE.len()];
-    let written = |end: &str| text.len() - end.len();
-    if let Some(end) = after(rest.trim_start_matches([' ', '\t']), "00:00").filter(|_| rest.starts_with([' ', '\t'])) {
-        let time = &text[..written(end)];
-        let clock = &time[time.len() - "00:00".len()..];
-        return Some((time.len(), format!("a `T` stands between date and time of day: write {date}T{clock}")));
-    }
-    let Some(rest) = after(text, MINUTE) else {
-        let clock = rest.strip_prefix(['T', 't'])?;
-        let length = clock.find(|c: char| !c.is_ascii_alphanumeric() && c != ':').unwrap_or(clock.len());
-        let what = format!("a time of day is two digits, `:` and two digits: write {date}T09:30");
-        return Some((DATE.len() + 1 + length, what));
-    };
-    let minute = &text[..MINUTE.len()];
-    if let Some(end) = after(rest, ":00").or_else(|| after(rest, ".0")) {
-        let end = end.trim_start_matches(|c: char| c.is_ascii_digit() || c == '.');
-        return Some((written(end), format!("times are in minutes, without seconds: write {minute}")));
-    }
-    let zone = after(rest, "+00").or_else(|| after(rest, "-00")).or_else(|| rest.strip_prefix(['Z', 'z']))?;
-    let end = zone.trim_start_matches(|c: char| c.is_ascii_digit() || c == ':');
-    let what = format!("times have no zone: write {minute}, with all times of an agreement on one clock");
-    Some((written(end), what))
 }
 
 /// The minutes of a date such as 2011-01-01 or 2011-01-01T09:30; none if there is no such day or
@@ -144,27 +120,6 @@ mod tests {
         for (day, expected) in known {
             assert_eq!(minutes(day), Some(expected), "{day}");
             assert_eq!(date(i64::from(expected)), day);
-        }
-    }
-
-    #[test]
-    fn times_of_other_programs() {
-        for (time, length, wanted) in [
-            ("2026-06-01 06:00", 16, "a `T` stands between date and time of day: write 2026-06-01T06:00"),
-            ("2026-06-01T06:00:30 mark", 19, "times are in minutes, without seconds: write 2026-06-01T06:00"),
-            ("2026-06-01T06:00:30.25Z", 22, "times are in minutes, without seconds: write 2026-06-01T06:00"),
-            ("2026-06-01T6:00", 15, "a time of day is two digits, `:` and two digits: write 2026-06-01T09:30"),
-            ("2026-06-01t06:00", 16, "a time of day is two digits, `:` and two digits: write 2026-06-01T09:30"),
-        ] {
-            assert_eq!(slip(time), Some((length, wanted.to_string())), "{time}");
-        }
-        for time in ["2026-06-01T06:00Z", "2026-06-01T06:00+02:00", "2026-06-01T06:00-0530"] {
-            let (length, what) = slip(time).expect(time);
-            assert!(length == time.len() && what.starts_with("times have no zone: write 2026-06-01T06:00,"), "{what}");
-        }
-        for time in ["2026-06-01", "2026-06-01T06:00", "2026-06-01 Paid 7", "2026-06-01T06:00--why", "5 06:00", "2026"]
-        {
-            assert_eq!(slip(time), None, "{time}");
         }
     }
 
