@@ -33,17 +33,21 @@ pub fn piece(text: &str) -> String {
 
 /// The line of a text, and below it a sign under the characters that are meant.
 pub fn excerpt(text: &str, at: Place, length: usize) -> String {
-    let line = text.lines().nth(at.line - 1).unwrap_or_default();
-    let columns: Vec<char> = line.chars().map(|c| if is_hidden(c) { ' ' } else { c }).collect();
-    let column = (at.column - 1).min(columns.len());
-    let length = length.min(columns.len() - column).max(1);
-    // A long line is shown from shortly before the place.
-    let first = if columns.len() > WIDEST { column.saturating_sub(WIDEST / 4) } else { 0 };
-    let shown: String = columns[first..].iter().take(WIDEST).collect();
-    let sign = "^".repeat(length.min(WIDEST - (column - first)));
-    let number = at.line.to_string();
-    let margin = " ".repeat(number.len());
-    let before = " ".repeat(column - first);
+    let line = text.lines().nth(at.line.saturating_sub(1)).unwrap_or_default();
+    let mut columns: Vec<char> = line.chars().map(|c| if is_hidden(c) { ' ' } else { c }).collect();
+    let mut column = at.column.saturating_sub(1).min(columns.len());
+    // Of a long line the half before the place is shown, and the half after it.
+    if columns.len() > WIDEST {
+        let first = column.saturating_sub(WIDEST / 2);
+        let end = (first + WIDEST).min(columns.len());
+        let cut = |at: bool| if at { ".." } else { "" };
+        let shown: String = columns[first..end].iter().collect();
+        columns = format!("{}{shown}{}", cut(first > 0), cut(end < columns.len())).chars().collect();
+        column = column - first + cut(first > 0).len();
+    }
+    let sign = "^".repeat(length.min(columns.len() - column).max(1));
+    let (number, shown) = (at.line.to_string(), columns.into_iter().collect::<String>());
+    let (margin, before) = (" ".repeat(number.len()), " ".repeat(column));
     format!("  {number} | {}\n  {margin} | {before}{sign}", shown.trim_end())
 }
 
@@ -68,6 +72,8 @@ mod tests {
         assert_eq!(excerpt("one", Place { line: 1, column: 4 }, 9), "  1 | one\n    |    ^");
         assert_eq!(excerpt("", Place { line: 1, column: 1 }, 1), "  1 | \n    | ^");
         let long = excerpt(&"word ".repeat(1_000), Place { line: 1, column: 4_001 }, 4);
-        assert!(long.lines().all(|line| line.len() <= 6 + WIDEST) && long.ends_with("^^^^"), "{long}");
+        let (words, sign) = long.split_once('\n').expect("two lines");
+        assert!(words.len() < 6 + WIDEST + 5 && words.starts_with("  1 | ..word") && words.ends_with(" .."), "{long}");
+        assert_eq!((&words[sign.len() - 4..sign.len()], sign.trim_start_matches([' ', '|'])), ("word", "^^^^"));
     }
 }

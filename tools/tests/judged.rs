@@ -226,3 +226,27 @@ fn limits() {
         assert_eq!(number(&text(parties, &main)), expected, "{main}");
     }
 }
+
+/// Counts that are passed: refusal 2.
+#[test]
+fn counts() {
+    let many = |count: usize, item: &str| (0..count).map(|n| item.replace('#', &n.to_string())).collect::<Vec<_>>();
+    let text = |readings: &str, templates: &str| {
+        format!("parties A, B readings {readings} letrec {templates} in fulfilment starting 0")
+    };
+    let template = "t() = fulfilment";
+    for (count, over) in [(16, Some(0)), (17, Some(2)), (300, Some(2))] {
+        assert_eq!(number(&text(&many(count, "R#()").join(" "), template)), over);
+    }
+    for (count, over) in [(4, Some(0)), (5, Some(2)), (300, Some(2))] {
+        assert_eq!(number(&text(&format!("R({})", many(count, "x#: truth").join(", ")), template)), over);
+        assert_eq!(number(&text("R()", &format!("t()<{}> = fulfilment", many(count, "p#").join(", ")))), over);
+    }
+    for (count, over) in [(8, Some(0)), (9, Some(2))] {
+        assert_eq!(number(&text("R()", &format!("t({}) = fulfilment", many(count, "x#: party").join(", ")))), over);
+    }
+    for (count, over) in [(32, Some(0)), (33, Some(2)), (300, Some(2))] {
+        assert_eq!(number(&text("R()", &many(count, "t#() = fulfilment").join(" "))), over);
+    }
+    assert_eq!(number(&text("", template)), Some(2));
+}
