@@ -1,6 +1,7 @@
 //! What README.md shows is so.
 
 use tools::assemble;
+use tools::check::check;
 use tools::readings::readings;
 
 const README: &str = include_str!("../README.md");
@@ -32,9 +33,23 @@ fn its_lines_are_readings() {
 #[test]
 fn its_commands_are_those_of_the_usage() {
     let usage = include_str!("../src/bin/agreement.rs");
-    for line in block("agreement assemble").lines() {
+    for line in block("agreement check").lines() {
         let command = line.split("  ").next().unwrap_or(line);
         let command = command.split(" TABLE").next().unwrap_or(command);
         assert!(usage.contains(command), "{command}");
     }
+}
+
+/// What both pages show of a mistake is what is said of it.
+#[test]
+fn its_mistakes_are_told_so() {
+    let told = |file: &str, text: &str| match check(text.as_bytes()) {
+        Ok(_) => panic!("accepted: {text}"),
+        Err(refused) => refused.told(file, text.as_bytes()) + "\n",
+    };
+    let sample = include_str!("sample.csl").replace("!(level < 250)", "!level");
+    assert_eq!(block("sample.csl:"), told("sample.csl", &sample));
+    let pond = include_str!("../../examples/pond/agreement.csl").replace("g >= 250", "g");
+    let shown = include_str!("../../README.md").split("```\n").find(|block| block.starts_with("agreement.csl:"));
+    assert_eq!(shown, Some(told("agreement.csl", &pond).as_str()));
 }
