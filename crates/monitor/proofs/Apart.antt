@@ -16,9 +16,11 @@ use Rattle.csl.specs.Check.{CheckAnswer, checked, accepted}
 use Rattle.csl.specs.Run.{Run}
 use Rattle.csl.specs.Table.{runOf}
 use Rattle.csl.specs.Entries as entries
-use Rattle.csl.specs.Entries.{Answer, Forecast, forecastOf}
-use Rattle.csl.specs.ForecastClaim.{ForecastFits, ForecastClaim}
-use Rattle.soundness.proofs.Marks.{forecast-claim}
+use Rattle.csl.specs.Entries.{Answer, Forecast, forecastOf, forecastRun}
+use Rattle.csl.specs.Marks.{ForecastFits}
+use Rattle.soundness.proofs.Runs.{isFair}
+use Rattle.soundness.proofs.ReadBack.{runOf-good}
+use Rattle.soundness.proofs.Marks.{fits, forecast-is, run-ok}
 use Rattle.bridge.proofs.Refusals.{from-check, forecast-refused, forecast-six, forecast-seven}
 use Rattle.monitor.specs.declared.Refusal.{Refusal}
 use Rattle.monitor.specs.declared.Refusal.the-variants.{AgreementLength, AgreementForm, AgreementTyping, AgreementGuards, AgreementWidth, TableLength, TableContent, ReadingForm, ReadingTyping, ReadingTime, Units}
@@ -101,12 +103,17 @@ fits-plain a mains (entries.breachAt t b) h = h .0
 fits-plain a mains entries.noForecast h = h
 
 pub forecast-plain : (s : List ℕ) (us : List ℤ) → Plain (forecastOf s us)
-unfolding ForecastClaim
 forecast-plain s us = from-check s (λ n h ck _. subst Plain (sym (forecast-refused us s n ck)) h) (λ mains ck _. by-length mains ck (eqb (length us) 3080) refl)
   where
     by-run : (mains : List ℕ) → checked s ≡ accepted (agreementOf s) mains → length us ≡ 3080 → (q : Option Run) → runOf (agreementOf s) mains us ≡ q → Plain (forecastOf s us)
     by-run mains ck l none e = subst Plain (sym (forecast-seven us s (agreementOf s) mains ck l e)) (omega arith)
-    by-run mains ck l (some q) e = fits-plain (agreementOf s) mains (forecastOf s us) (forecast-claim s (agreementOf s) mains us q ck l e .0)
+    by-run mains ck l (some q) e =
+        let a = agreementOf s in
+        let good = runOf-good a mains us q (isFair s a mains ck) e in
+        let ok = run-ok s a mains ck (q .lastTime) (q .outcome) good in
+        let here : ForecastFits a mains (forecastOf s us) =
+            subst (ForecastFits a mains) (sym (forecast-is s a mains ck us q l e)) (fits s a mains ck (forecastRun a q) ok) in
+        fits-plain a mains (forecastOf s us) here
 
     by-length : (mains : List ℕ) → checked s ≡ accepted (agreementOf s) mains → (b : Bool) → eqb (length us) 3080 ≡ b → Plain (forecastOf s us)
     by-length mains ck true e = by-run mains ck (eqb-true (length us) 3080 e) (runOf (agreementOf s) mains us) refl

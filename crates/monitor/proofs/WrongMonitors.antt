@@ -8,9 +8,9 @@ use lib.IntN.{ℤ, pos, natAbs}
 use lib.ListN.{getD, set}
 use Rattle.csl.specs.Bytes.{le32}
 use Rattle.csl.specs.Entries.{Answer, startOf, readingOf}
-use Rattle.csl.specs.Build.{sample, agreement, all′, simply}
+use Rattle.csl.specs.Build.{sample, agreement, all′, simply, zeros}
 use Rattle.csl.specs.Build as Build
-use Rattle.csl.specs.Trials.{computes, zeros}
+use Rattle.csl.specs.Trials.{computes}
 
 -- ---- the trials: P1 starts the sample, P2 (110, 240) waits, then P3 (160, 250) fulfils; P8 has two units and a join
 abbrev p2bytes : List ℕ
