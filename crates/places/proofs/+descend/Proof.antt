@@ -1,3 +1,4 @@
+-- Each step goes into a part that is shorter, and the place lies in that part or nowhere.
 use borrow.Author.Needs.{needs}
 use Rattle.places.proofs.Steps.{typed-room}
 use Rattle.places.proofs.Descents.{descent-absent, descent-here, into-typed, into-room, descent-into}
@@ -41,7 +42,9 @@ descend-returns : (t : ℕ) → descend-lts.Need-returns (claims t) (descend-at 
 descend-returns t c = descent-absent (c .before .before .before .before .step-down .ensures) (c .before .before .before .before .before .before .before .before .before .before .args .params) (c .enum-told .given .1)
 
 descend-returns-2 : (t : ℕ) → descend-lts.Need-returns-2 (claims t) (descend-at t) descend.Post
-descend-returns-2 t c = descent-here (c .before .before .before .before .before .step-down .ensures) (c .before .before .before .before .before .before .before .before .before .before .before .args .params) (c .before .before .before .before .before .before .before .before .before .before .before .pre .1 .2) (c .before .k .given .1)
+descend-returns-2 t c =
+    let s = c .before .before .before .before .before .before .before .before .before .before .before in
+    descent-here (c .before .before .before .before .before .step-down .ensures) (s .args .params) (s .pre .1 .2) (c .before .k .given .1)
 
 descend-returns-3 : (t : ℕ) → descend-lts.Need-returns-3 (claims t) (descend-at t) descend.Post
 descend-returns-3 t c = descent-into (c .before .before .before .before .before .before .before .before .before .before .step-down .ensures) (c .before .before .before .before .before .before .a .given .1) (c .before .before .before .before .before .before .before .before .before .before .before .before .before .before .before .before .args .params) (c .before .before .descend .ensures)

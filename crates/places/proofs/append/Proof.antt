@@ -1,3 +1,4 @@
+-- After i bytes the first n stay and i more stand behind them.
 use borrow.Author.Needs.{needs}
 use mathlib.Core.Path.{_≡_, refl, _∙_}
 use mathlib.Core.List.{_++_}

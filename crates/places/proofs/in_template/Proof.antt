@@ -1,3 +1,4 @@
+-- A template's body is searched with its own values and parameters in sight.
 use borrow.Author.Needs.{needs}
 use Prim.Native.Nat.{_+_}
 use Rattle.places.proofs.Descents.{template-room, values-are, body-typed, template-located}

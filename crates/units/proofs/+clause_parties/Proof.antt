@@ -1,3 +1,4 @@
+-- The parties of a clause are those of its parts, each shorter than the clause.
 use mathlib.Core.Path.{sym, _∙_}
 use Rattle.units.proofs.Blames.{whole-room, then-in, then-parties, sides-in, sides-parties, low-parties, high-parties}
 use Rattle.arith.proofs.Lists.{length-part}
@@ -58,7 +59,9 @@ clause-parties-union-requires t c κs = (omega (arith, c .before .before .party-
 
 clause-parties-instance-parties-requires :
     (t : ℕ) → clause-parties-lts.Need-instance-parties-requires (claims t) (clause-parties-at t) clause-parties.Post
-clause-parties-instance-parties-requires t c κs = (c .before .before .before .before .before .before .pre .1 .0, c .before .before .before .before .before .before .pre .1 .1, sym (c .before .kind .ensures) ∙ c .match .keys2)
+clause-parties-instance-parties-requires t c κs =
+    let s = c .before .before .before .before .before .before in
+    (s .pre .1 .0, s .pre .1 .1, sym (c .before .kind .ensures) ∙ c .match .keys2)
 
 clause-parties-first-clause-requires-2 : (t : ℕ) → clause-parties-lts.Need-first-clause-requires-2 (claims t) (clause-parties-at t) clause-parties.Post
 clause-parties-first-clause-requires-2 t c κs = whole-room (c .before .before .before .before .before .before .before .before .pre .1 .1)

@@ -1,3 +1,4 @@
+-- A shift by less than 16 gives the party's bit.
 use Rattle.units.proofs.Blames.{bit-party, bit-none}
 use borrow.Author.Needs.{needs}
 use Rattle.units.proofs.party_bit.Statement.{statement}

@@ -1,3 +1,4 @@
+-- Parties, zeros, values, zeros: the four parts that csl splits the cells into.
 use Rattle.units.proofs.Units.{no-parties, no-zeros, no-values, no-rest, cells-show}
 use Rattle.units.proofs.Cells.{yes-true, no-false}
 use Rattle.arith.proofs.Lists.{length-part}
@@ -12,13 +13,19 @@ use Rattle.units.proofs.unit_cells.Statement.{statement}
 use Rattle.units.proofs.unit_cells.Tie as tie
 
 returns : tie.Need-returns
-returns c = (λ e. absurd (false≢true e), λ _. no-parties (c .before .before .before .before .before .before .before .before .args .types .now) (c .before .before .before .before .before .before .before .before .args .cells .now) (c .before .before .before .party-cells .ensures .1 (no-false (c .before .before .before .party-cells .result) (c .if1 .taken))))
+returns c =
+    let s = c .before .before .before .before .before .before .before .before in
+    (λ e. absurd (false≢true e), λ _. no-parties (s .args .types .now) (s .args .cells .now) (c .before .before .before .party-cells .ensures .1 (no-false (c .before .before .before .party-cells .result) (c .if1 .taken))))
 
 returns-2 : tie.Need-returns-2
-returns-2 c = (λ e. absurd (false≢true e), λ _. no-zeros (c .before .before .before .before .before .before .before .before .before .before .before .args .types .now) (c .before .before .before .before .before .before .before .before .before .before .before .args .cells .now) (c .before .zeros .ensures) (c .if2 .taken))
+returns-2 c =
+    let s = c .before .before .before .before .before .before .before .before .before .before .before in
+    (λ e. absurd (false≢true e), λ _. no-zeros (s .args .types .now) (s .args .cells .now) (c .before .zeros .ensures) (c .if2 .taken))
 
 returns-3 : tie.Need-returns-3
-returns-3 c = (λ e. absurd (false≢true e), λ _. no-values (c .before .before .before .before .before .before .before .before .before .before .before .before .before .before .args .types .now) (c .before .before .before .before .before .before .before .before .before .before .before .before .before .before .args .cells .now) (c .before .values-ok .ensures) (c .if3 .taken))
+returns-3 c =
+    let s = c .before .before .before .before .before .before .before .before .before .before .before .before .before .before in
+    (λ e. absurd (false≢true e), λ _. no-values (s .args .types .now) (s .args .cells .now) (c .before .values-ok .ensures) (c .if3 .taken))
 
 returns-4 : tie.Need-returns-4
 returns-4 c =

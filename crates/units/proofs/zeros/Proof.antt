@@ -1,3 +1,4 @@
+-- The ones of all cells together are none exactly where each cell is zero.
 use borrow.Author.Needs.{needs}
 use mathlib.Core.Path.{_≡_, refl}
 use mathlib.Core.Bool.{_&&_}
