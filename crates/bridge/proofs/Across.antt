@@ -1,10 +1,10 @@
 -- At every unit of a table the rules on cells show what csl's rules give for the residue.
 -- Main theorems: `across-shows` for any step and mode, `follow-across` and `forecast-across` for whole tables.
 use mathlib.Core.Bool.{cond}
-use mathlib.Core.List.{List, [], _∷_, _++_, append-nil}
+use mathlib.Core.List.{List, [], _∷_, _++_}
 use mathlib.Core.Option.{Option, none, some}
 use mathlib.Core.Path.{ap, ap₂, refl, sym, _∙_, _≡_}
-use Prim.Native.Nat.{_+_, _-_, suc, zero, ℕ, _≤_}
+use Prim.Native.Nat.{_+_, _-_, suc, ℕ, _≤_}
 use native.Mathlib.Omega.{arith}
 use lib.Dec.{ltb}
 use lib.IntN.{pos, ℤ}
@@ -33,19 +33,14 @@ use Rattle.cells.specs.Across.{natOf, unitReduced}
 use Rattle.bridge.proofs.Shows.{Shows, good-moves, joined-shows, shows-bind}
 use Rattle.bridge.proofs.Reduce.{follow-shows, forecast-shows}
 
--- ---- the numbers of party parameters and of values in sight, unit by unit; a join has 0 and 0
+-- ---- the numbers of party parameters and of values in sight, unit by unit; a join has the number of its left side's units and 0
 unfoldable pub sightAt : Option Found → List ℕ
 sightAt none = 0 ∷ 0 ∷ []
 sightAt (some f) = f .params ∷ length (f .sight) ∷ []
 
 unfoldable pub sightsOf : Agreement → Residue → List ℕ
 sightsOf ag (unit s p a e) = sightAt (clauseAt ag p)
-sightsOf ag (both j l r) = 0 ∷ 0 ∷ (sightsOf ag l ++ sightsOf ag r)
-
--- the same, read from the cells of n units
-unfoldable pub sightsIn : Agreement → ℕ → List ℤ → List ℕ
-sightsIn ag zero us = []
-sightsIn ag (suc n) us = cond (ltb (natOf (getD us 0 (pos 0))) 20) (sightAt (clauseAt ag (natOf (getD us 1 (pos 0))))) (0 ∷ 0 ∷ []) ++ sightsIn ag n (drop 24 us)
+sightsOf ag (both j l r) = units l ∷ 0 ∷ (sightsOf ag l ++ sightsOf ag r)
 
 -- a clause that is found is what the bytes at its place decode to
 abbrev pub FoundIs : List ℕ → Type 0
@@ -101,44 +96,6 @@ table-units : (now : ℕ) (res : Residue) → drop 8 (tableOf (runAt now (runnin
 unfolding tableOf padded headCells natCells zeros
 table-units now res = refl
 
--- ---- the sights of a residue are those of its cells
-module _ (ag : Agreement) where
-  -- what a unit has, from its sort's number and its place
-  abbrev sightBy : ℕ → ℕ → List ℕ
-  sightBy i p = cond (ltb i 20) (sightAt (clauseAt ag p)) (0 ∷ 0 ∷ [])
-
-  sights-first : (m n i p : ℕ) (us rest : List ℤ) → m ≡ suc n → length us ≡ 24 → natOf (getD us 0 (pos 0)) ≡ i → natOf (getD us 1 (pos 0)) ≡ p → sightsIn ag m (us ++ rest) ≡ sightBy i p ++ sightsIn ag n rest
-  unfolding sightsIn
-  sights-first m n i p us rest e l q r =
-      ap (λ m. sightsIn ag m (us ++ rest)) e
-      ∙ ap₂ (λ i p. sightBy i p ++ sightsIn ag n (drop 24 (us ++ rest))) (ap natOf (List·getD-append us rest (pos 0) 0 (omega arith)) ∙ q) (ap natOf (List·getD-append us rest (pos 0) 1 (omega arith)) ∙ r)
-      ∙ ap (λ v. sightBy i p ++ sightsIn ag n v) (drop-at us rest 24 l)
-
-  sights-read : (W : ℕ → Type 0) (res : Residue) (ps : List ℕ) (n : ℕ) (rest : List ℤ) → Ok ag W res ps → sightsIn ag (units res + n) (residueCells res ++ rest) ≡ sightsOf ag res ++ sightsIn ag n rest
-  unfolding Ok units residueCells sightsOf sortNumber joinNumber natOf unitCells joinCells padded
-  sights-read W (unit anObligation p a e) ps n rest ok = sights-first (1 + n) n 17 p (unitCells anObligation p a e) rest (omega arith) (units-length ag W anObligation p a e ps ok) refl refl
-  sights-read W (unit aChoice p a e) ps n rest ok = sights-first (1 + n) n 18 p (unitCells aChoice p a e) rest (omega arith) (units-length ag W aChoice p a e ps ok) refl refl
-  sights-read W (both j l r) ps n rest ok =
-      ap (sightsIn ag (1 + units l + units r + n)) (++-assoc (joinCells j) (residueCells l ++ residueCells r) rest ∙ ap (λ x. joinCells j ++ x) (++-assoc (residueCells l) (residueCells r) rest))
-      ∙ join-sights j
-      ∙ ap (λ x. 0 ∷ 0 ∷ x) (sights-read W l (ok .0) (units r + n) (residueCells r ++ rest) (ok .2) ∙ ap (λ x. sightsOf ag l ++ x) (sights-read W r (ok .1) n rest (ok .3)) ∙ sym (++-assoc (sightsOf ag l) (sightsOf ag r) (sightsIn ag n rest)))
-    where
-      us : List ℤ
-      us = residueCells l ++ (residueCells r ++ rest)
-
-      join-sights : (j : Join) → sightsIn ag (1 + units l + units r + n) (joinCells j ++ us) ≡ 0 ∷ 0 ∷ sightsIn ag (units l + (units r + n)) us
-      join-sights and = sights-first _ (units l + (units r + n)) 20 0 (joinCells and) us (both-count l r n) refl refl refl
-      join-sights or = sights-first _ (units l + (units r + n)) 21 0 (joinCells or) us (both-count l r n) refl refl refl
-
-  -- the sights of a run, from its table
-  pub sights-are : (mains : List ℕ) → Fair ag mains → (now : ℕ) (res : Residue) (us : List ℤ) → length us ≡ 3080 → runOf ag mains us ≡ some (runAt now (running res)) → sightsIn ag (units res) (drop 8 us) ≡ sightsOf ag res
-  unfolding Good sightsIn
-  sights-are mains fair now res us l is =
-      let g = (runOf-good ag mains us (runAt now (running res)) fair is) .good in
-      ap₂ (sightsIn ag) (none-more res) (ap (drop 8) (sym (table-back ag mains us (runAt now (running res)) is l)) ∙ table-units now res)
-      ∙ sights-read (Since ag now) res (g .0) 0 (zeros now res) (g .1)
-      ∙ append-nil (sightsOf ag res)
-
 module _ (s mains : List ℕ) (fair : Fair (agreementOf s) mains) (found : FoundIs s) where
   abbrev ag : Agreement
   ag = agreementOf s
@@ -173,12 +130,12 @@ module _ (s mains : List ℕ) (fair : Fair (agreementOf s) mains) (found : Found
   join-across : (W : ℕ → Type 0) (m : Mode) (j : Join) (l r : Residue) (x y : Reduced) (n : ℕ) (sights : List ℕ) (rest : List ℤ)
       → table.across m s (units l + (units r + n)) (sightsOf ag l ++ (sightsOf ag r ++ sights)) (residueCells l ++ (residueCells r ++ rest)) ≡ x ∷ table.across m s (units r + n) (sightsOf ag r ++ sights) (residueCells r ++ rest)
       → table.across m s (units r + n) (sightsOf ag r ++ sights) (residueCells r ++ rest) ≡ y ∷ table.across m s n sights rest
-      → table.across m s (1 + units l + units r + n) (0 ∷ 0 ∷ ((sightsOf ag l ++ sightsOf ag r) ++ sights)) ((joinCells j ++ (residueCells l ++ residueCells r)) ++ rest) ≡ cells.joined j x y ∷ table.across m s n sights rest
+      → table.across m s (1 + units l + units r + n) (units l ∷ 0 ∷ ((sightsOf ag l ++ sightsOf ag r) ++ sights)) ((joinCells j ++ (residueCells l ++ residueCells r)) ++ rest) ≡ cells.joined j x y ∷ table.across m s n sights rest
   unfolding natOf joinCells padded table.joinFirst
   join-across W m j l r x y n sights rest p q =
-      ap₂ (λ i o. table.across m s i (0 ∷ 0 ∷ o) ((joinCells j ++ (residueCells l ++ residueCells r)) ++ rest)) (both-count l r n) (++-assoc (sightsOf ag l) (sightsOf ag r) sights)
-      ∙ ap (table.across m s (suc (units l + (units r + n))) (0 ∷ 0 ∷ (sightsOf ag l ++ (sightsOf ag r ++ sights)))) (++-assoc (joinCells j) (residueCells l ++ residueCells r) rest ∙ ap (λ x. joinCells j ++ x) (++-assoc (residueCells l) (residueCells r) rest))
-      ∙ join-first m s (units l + (units r + n)) 0 0 (sightsOf ag l ++ (sightsOf ag r ++ sights)) (joinCells j) (residueCells l ++ (residueCells r ++ rest)) (join-length ag W j) j refl
+      ap₂ (λ i o. table.across m s i (units l ∷ 0 ∷ o) ((joinCells j ++ (residueCells l ++ residueCells r)) ++ rest)) (both-count l r n) (++-assoc (sightsOf ag l) (sightsOf ag r) sights)
+      ∙ ap (table.across m s (suc (units l + (units r + n))) (units l ∷ 0 ∷ (sightsOf ag l ++ (sightsOf ag r ++ sights)))) (++-assoc (joinCells j) (residueCells l ++ residueCells r) rest ∙ ap (λ x. joinCells j ++ x) (++-assoc (residueCells l) (residueCells r) rest))
+      ∙ join-first m s (units l + (units r + n)) (units l) 0 (sightsOf ag l ++ (sightsOf ag r ++ sights)) (joinCells j) (residueCells l ++ (residueCells r ++ rest)) (join-length ag W j) j refl
       ∙ ap (table.joinFirst j) (p ∙ ap (λ o. x ∷ o) q)
 
   -- ---- any step and mode: W says at what times the step may be taken, Q since when a unit waits

@@ -1,5 +1,5 @@
 -- The rules on cells at every unit of a table: "A reading at time T reaches every waiting unit".
--- The units are taken from the last to the first, as csl's `trees` takes them; a join takes the two outcomes behind it.
+-- Like csl's `trees` this gives the outcomes of all the trees that n units make, in their order: a join takes the first two of those behind it. A table's units make one tree, so there is one outcome.
 use mathlib.Core.Bool.{true, false, cond}
 use mathlib.Core.List.{List, [], _∷_}
 use Prim.Native.Nat.{ℕ, zero, suc, _+_, _*_}
@@ -27,7 +27,7 @@ joinFirst j [] = []
 joinFirst j (l ∷ []) = []
 joinFirst j (l ∷ r ∷ rs) = joined j l r ∷ rs
 
--- `sights` has for each unit, from the one at hand on, its two numbers
+-- `sights` has for each unit, from the one at hand on, two numbers: of a waiting unit those that `unitReduced` takes; of a join nothing that is used here
 unfoldable pub across : Mode → List ℕ → ℕ → List ℕ → List ℤ → List Reduced
 across m s zero sights cs = []
 across m s (suc n) sights cs =

@@ -41,11 +41,13 @@ use Rattle.readings.specs.declared.Taken.{Taken as Fitting}
 use Rattle.readings.specs.declared.Taken.the-variants.{Malformed, Untyped, Fits}
 use Rattle.rules.specs.Parts.{modeAt}
 use Rattle.rules.specs.Reduces.{Is}
-use Rattle.rules.specs.Units.{Units, Settles, unitsOf, bitsIn}
+use Rattle.rules.specs.Units.{Settles, unitsOf, bitsIn}
+use Rattle.rules.specs.Tree.{Tree, treeReduced}
 use Rattle.rules.specs.declared.Event.{Event}
 use Rattle.rules.specs.declared.Step.the-variants.{Follow}
 use Rattle.rules.specs.declared.Reduced.{Reduced}
 use Rattle.rules.proofs.Few.{outcome-few, answer-few}
+use Rattle.rules.proofs.Trees.{tree-only}
 use Rattle.units.specs.Units.{sightNumbers}
 use Rattle.state.specs.Shown.{RunShows, RunningAs, BreachedAs, Shows, runIn}
 use Rattle.state.specs.declared.State.{State}
@@ -57,7 +59,7 @@ use Rattle.monitor.specs.declared.Refusal.the-variants.{TableLength, Tab
 use Rattle.monitor.specs.declared.Taken.the-variants.{Accepted as acceptedReading, Refused as refusedReading}
 use Rattle.monitor.specs.Answers.{numberOf, takenAnswer, Goes, Verified, Opened, Fitted, isDamaged}
 use Rattle.monitor.proofs.Begins.{goes-on, kept-no, kept-yes, written-few}
-use Rattle.monitor.proofs.Tabled.{founds, sighted, has-units}
+use Rattle.monitor.proofs.Tabled.{founds, sighted, has-tree}
 
 -- ---- the main clause's parties are those that check found
 mains-same : {s places : List ℕ} {p : ℕ} (g : Goes s places p) → mainsOf s ≡ g .mains
@@ -113,8 +115,8 @@ module _ {s places : List ℕ} {us : List ℤ} {sights : List ℕ} (o : Opened s
     pub residue-sights : take (2 * units res) sights ≡ sightNumbers res
     residue-sights = rw (run .count) at (run .sighted)
 
-    pub units-ready : Units (length s) sights (take (length us - 8) (drop 8 us)) n
-    units-ready = rw (behind-head us, run .count) (has-units s (mainsOf s) ck (run .shows .now) res us (o .isTable) (run .shows .is) sights residue-sights (omega (arith, run .few, run .count, o .room)))
+    pub units-ready : Tree (length s) sights (take (length us - 8) (drop 8 us)) n
+    units-ready = rw (behind-head us, run .count) (has-tree s (mainsOf s) ck (run .shows .now) res us (o .isTable) (run .shows .is) sights residue-sights)
 
     -- what the rules on cells give for a reading
     record Given (bytes : List ℕ) (e : Event) (rs : List ℤ) : Type 0 where
@@ -135,22 +137,25 @@ module _ {s places : List ℕ} {us : List ℤ} {sights : List ℕ} (o : Opened s
           reads = reading-running s (mainsOf s) ck us (o .isTable) (run .shows .now) bytes d (fits-as f) le (founds s (mainsOf s) ck) res more (w .given) (run .shows .is) (w .only) ∙ ap (λ t. keptCells t us (w .given)) (sym (f .time));
         }
 
-    module _ (e : Event) (rs : List ℤ) (r : Reduced) (out : List ℤ) (h : (x : cells.Reduced) → table.across (modeAt e rs) s n sights (take (length us - 8) (drop 8 us)) ≡ x ∷ [] → Is x r out) where
+    module _ (e : Event) (rs : List ℤ) (r : Reduced) (out : List ℤ) (h : Is (treeReduced (modeAt e rs) s n sights (take (length us - 8) (drop 8 us))) r out) where
+      given-is : {bytes : List ℕ} (g : Given bytes e rs) → Is (g .given) r out
+      given-is g = rw (tree-only (g .is)) at h
+
       pub follow-few : (bytes : List ℕ) × Fitted s bytes us e rs → bitsIn r < 65_536
-      follow-few f = let g = following (f .0) e rs (f .1) in answer-few (g .given) r out (outcome-few (modeAt e rs) s n sights (take (length us - 8) (drop 8 us)) (g .is)) (h (g .given) (g .is))
+      follow-few f = let g = following (f .0) e rs (f .1) in answer-few (g .given) r out (outcome-few (modeAt e rs) s n sights (take (length us - 8) (drop 8 us)) (g .is)) (given-is g)
 
       module _ {t : ℕ} (et : t ≡ e .time) {after : List ℤ} {q : Bool} (settles : Settles t r out us after q) (bytes : List ℕ) (f : Fitted s bytes us e rs) where
         reads-as : (g : Given bytes e rs) → keptCells t us (g .given) ≡ readingOf s us bytes
         reads-as g = ap (λ k. keptCells k us (g .given)) et ∙ sym (g .reads)
 
         pub follow-no : not q ≡ true → takenAnswer (refusedReading tooManyUnits) after ≡ readingOf s us bytes
-        follow-no p = let g = following bytes e rs f in kept-no settles (g .given) (h (g .given) (g .is)) p ∙ reads-as g
+        follow-no p = let g = following bytes e rs f in kept-no settles (g .given) (given-is g) p ∙ reads-as g
 
         pub follow-yes : not q ≡ false → takenAnswer acceptedReading after ≡ readingOf s us bytes
-        follow-yes p = let g = following bytes e rs f in kept-yes settles (g .given) (h (g .given) (g .is)) p ∙ reads-as g
+        follow-yes p = let g = following bytes e rs f in kept-yes settles (g .given) (given-is g) p ∙ reads-as g
 
         pub follow-little : unitsOf r ≤ 128 → takenAnswer acceptedReading after ≡ readingOf s us bytes
-        follow-little k = let g = following bytes e rs f in follow-yes (written-few settles (g .given) (h (g .given) (g .is)) k)
+        follow-little k = let g = following bytes e rs f in follow-yes (written-few settles (g .given) (given-is g) k)
 
   -- ---- by the state
   module _ {st : State} (v : Shows (runIn s us) us sights st) where

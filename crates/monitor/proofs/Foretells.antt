@@ -1,6 +1,6 @@
 -- Laws for a forecast.
 use mathlib.Core.Path.{_≡_, sym, ap, ap₂, subst, _∙_}
-use mathlib.Core.List.{List, [], _∷_}
+use mathlib.Core.List.{List}
 use Prim.Native.Nat.{ℕ, _-_, _*_, _^_, _<_}
 use native.Mathlib.Omega.{arith}
 use lib.Dec.{le→leb}
@@ -23,9 +23,11 @@ use Rattle.bridge.proofs.Across.{forecast-across}
 use Rattle.bridge.proofs.Refusals.{forecast-refused, forecast-six, forecast-seven}
 use Rattle.bridge.proofs.Entries.{foretold, forecast-done, forecast-breach, forecast-running}
 use Rattle.rules.specs.Reduces.{Is}
+use Rattle.rules.specs.Tree.{treeReduced}
 use Rattle.rules.specs.declared.Reduced.{Reduced}
 use Rattle.rules.specs.declared.Reduced.the-variants.{Done, Breach, Running}
 use Rattle.rules.proofs.Reduces.{is-done, is-breach, is-running}
+use Rattle.rules.proofs.Trees.{tree-only}
 use Rattle.state.specs.Shown.{RunningAs, Shows, runIn}
 use Rattle.state.specs.declared.State.{State}
 use Rattle.state.specs.declared.State.the-variants.{Damaged, Fulfilled, Breached}
@@ -55,7 +57,7 @@ module _ {s places : List ℕ} {us : List ℤ} {sights : List ℕ} (o : Opened s
   ck = accepts (o .goes)
 
   -- ---- a running run
-  module _ {n : ℕ} (run : RunningAs (runIn s us) us sights n) (r : Reduced) (out : List ℤ) (h : (x : cells.Reduced) → table.across cells.forecasting s n sights (take (length us - 8) (drop 8 us)) ≡ x ∷ [] → Is x r out) where
+  module _ {n : ℕ} (run : RunningAs (runIn s us) us sights n) (r : Reduced) (out : List ℤ) (h : Is (treeReduced cells.forecasting s n sights (take (length us - 8) (drop 8 us))) r out) where
     record Given : Type 0 where
       given : cells.Reduced
       isFor : Is given r out
@@ -72,7 +74,7 @@ module _ {s places : List ℕ} {us : List ℤ} {sights : List ℕ} (o : Opened s
         let same = sighted s (mainsOf s) ck now res us (o .isTable) (run .shows .is) sights (residue-sights o run) in
         record {
           given = w .given;
-          isFor = h (w .given) (ap (table.across cells.forecasting s n sights) (behind-head us) ∙ ap₂ (λ k q. table.across cells.forecasting s k q (drop 8 us)) (run .count) same ∙ w .only);
+          isFor = rw (tree-only {x = w .given} (ap (table.across cells.forecasting s n sights) (behind-head us) ∙ ap₂ (λ k q. table.across cells.forecasting s k q (drop 8 us)) (run .count) same ∙ w .only)) at h;
           answers = f .0;
           ends = f .1;
         }

@@ -1,57 +1,35 @@
--- A table that shows a running run has the units that the rules ask for.
+-- A table that shows a running run has the tree of units that the rules ask for.
 use mathlib.Core.Path.{_≡_, refl, sym, ap, _∙_, subst}
 use mathlib.Core.Bool.{Bool, true, false}
 use mathlib.Core.List.{List, [], _∷_, _++_}
-use mathlib.Core.Option.{none, some}
-use Prim.Native.Nat.{ℕ, zero, suc, _+_, _-_, _*_, _^_, _≤_, _<_}
+use mathlib.Core.Option.{some}
+use Prim.Native.Nat.{ℕ, _-_, _*_, _^_, _≤_, _<_}
 use native.Mathlib.Omega.{arith}
 use borrow.Author.Tests.{leb-true, leb-false}
-use lib.Dec.{T, leb}
+use lib.Dec.{T, leb, ltb}
 use lib.IntN.{ℤ, pos}
-use lib.ListN.{length, getD, take-append-drop, take, drop, replicate, length-append, length-drop, List·getD-append}
+use lib.ListN.{length, take-append-drop, take, drop, replicate, length-append}
 use lib.Seq.{take-at, drop-at, drop-drop}
 use Rattle.arith.proofs.Bytes.{record-end-within}
 use Rattle.csl.specs.Bytes.{part, recordEnd, isRecord}
 use Rattle.csl.specs.Syntax.{Agreement, Clause, Join, and, or}
 use Rattle.csl.specs.Decode.{agreementOf, headsOf, clause, clauseHead, clauseBody, whole, wellFormed}
 use Rattle.csl.specs.Check.{checked, accepted}
-use Rattle.csl.specs.Outcomes.{Residue, Sight, Sort, unit, both, units, running}
-use Rattle.csl.specs.Table.{runOf, tableOf, padded, headCells, natCells, cellsOf, residueCells, unitCells, joinCells, joinNumber}
+use Rattle.csl.specs.Outcomes.{Residue, Sight, Sort, anObligation, aChoice, unit, both, units, running}
+use Rattle.csl.specs.Table.{runOf, tableOf, padded, headCells, natCells, cellsOf, residueCells, unitCells, joinCells, joinNumber, sortNumber}
 use Rattle.csl.specs.Demand3.{needed}
 use Rattle.soundness.proofs.Checked.{passed}
 use Rattle.soundness.proofs.Decoding.{decode-is}
 use Rattle.soundness.proofs.Good.{Good, Ok, OkUnit}
 use Rattle.soundness.proofs.RoundTrip.{++-assoc, units-length, join-length, len-padded, len-nats, len-cells, len-typed}
-use Rattle.soundness.proofs.Runs.{Since, isFair, runAt}
+use Rattle.soundness.proofs.Runs.{Since, cells-len, isFair, runAt}
 use Rattle.soundness.proofs.ReadBack.{runOf-good, table-back}
 use Rattle.cells.specs.Across.{natOf}
 use Rattle.places.proofs.Found.{found-is}
 use Rattle.bridge.proofs.Across.{FoundIs, sightAt, sightsOf}
-use Rattle.rules.specs.Units.{Units, Waiting, sortAt, unitAt, paramsAt, valuesAt}
+use Rattle.rules.specs.Units.{Waiting}
+use Rattle.rules.specs.Tree.{TreeOf, Tree}
 use Rattle.units.specs.Units.{sightNumbers}
-
--- ---- every unit that waits is as asked
-abbrev AllWait : ℕ → List ℕ → List ℤ → ℕ → Type 0
-AllWait size sights cs n = (k : ℕ) → k < n → sortAt cs k < 20 → Waiting size (paramsAt sights k) (valuesAt sights k) (unitAt cs k)
-
-next-two : (j : ℕ) → 2 * suc j ≡ suc (suc (2 * j))
-next-two j = omega arith
-
-drop-next : (us rest : List ℤ) (j : ℕ) → length us ≡ 24 → drop (24 * suc j) (us ++ rest) ≡ drop (24 * j) rest
-drop-next us rest j l =
-    let e : 24 * suc j ≡ 24 + 24 * j = omega arith in
-    ap (λ n. drop n (us ++ rest)) e ∙ sym (drop-drop (24 * j) 24 (us ++ rest)) ∙ ap (drop (24 * j)) (drop-at us rest 24 l)
-
-module _ (size p v n : ℕ) (sights : List ℕ) (us rest : List ℤ) (l : length us ≡ 24) (first : natOf (getD us 0 (pos 0)) < 20 → Waiting size p v us) (behind : AllWait size sights rest n) where
-  wait-first : AllWait size (p ∷ v ∷ sights) (us ++ rest) (suc n)
-  wait-first zero h w =
-      let s : getD (us ++ rest) 0 (pos 0) ≡ getD us 0 (pos 0) = List·getD-append us rest (pos 0) 0 (omega arith) in
-      let w′ : natOf (getD us 0 (pos 0)) < 20 = rw s at w in
-      rw (take-at us rest 24 l) (first w′)
-  wait-first (suc j) h w =
-      let d = drop-next us rest j l in
-      let w′ : sortAt rest j < 20 = rw d at w in
-      rw (d, next-two j) (behind j (omega arith) w′)
 
 -- ---- the place of a clause that is found lies within the agreement
 no-clause : (s : List ℕ) (p : ℕ) → T (whole (clause (headsOf s) 23 p [])) → ⊥
@@ -104,20 +82,43 @@ module _ (s mains : List ℕ) (ck : checked s ≡ accepted (agreementOf s) mains
           early = omega (arith, ok .when .1);
         }
 
-    residue-waits : (res : Residue) (ps : List ℕ) (n : ℕ) (sights : List ℕ) (rest : List ℤ) → Ok ag (Since ag now) res ps → AllWait (length s) sights rest n → AllWait (length s) (sightsOf ag res ++ sights) (residueCells res ++ rest) (units res + n)
-    unfolding Ok units sightsOf residueCells sightAt joinCells joinNumber padded natOf
-    residue-waits (unit k p a e) ps n sights rest ok h =
-        let one : 1 + n ≡ suc n = omega arith in
-        rw (ok .isAt, one) (wait-first (length s) (ok .found .params) (length (ok .found .sight)) n sights (unitCells k p a e) rest (units-length ag (Since ag now) k p a e ps ok) (λ w. unit-waits k p a e ps ok) h)
-    residue-waits (both j l r) ps n sights rest ok h =
-        let more : 1 + units l + units r + n ≡ suc (units l + (units r + n)) = omega arith in
-        let below = residue-waits l (ok .0) (units r + n) (sightsOf ag r ++ sights) (residueCells r ++ rest) (ok .2) (residue-waits r (ok .1) n sights rest (ok .3) h) in
-        rw (more, ++-assoc (sightsOf ag l) (sightsOf ag r) sights, ++-assoc (joinCells j) (residueCells l ++ residueCells r) rest, ++-assoc (residueCells l) (residueCells r) rest)
-        (wait-first (length s) 0 0 (units l + (units r + n)) (sightsOf ag l ++ (sightsOf ag r ++ sights)) (joinCells j) (residueCells l ++ (residueCells r ++ rest)) (join-length ag (Since ag now) j) (λ w. absurd (no-wait j w)) below)
-      where
-        no-wait : (j : Join) → natOf (getD (joinCells j) 0 (pos 0)) < 20 → ⊥
-        no-wait and w = omega arith
-        no-wait or w = omega arith
+    sort-waits : (k : Sort) → ltb (sortNumber k) 20 ≡ true
+    unfolding sortNumber
+    sort-waits anObligation = refl
+    sort-waits aChoice = refl
+
+    join-waits : (j : Join) → ltb (joinNumber j) 20 ≡ false
+    unfolding joinNumber
+    join-waits and = refl
+    join-waits or = refl
+
+    unit-tree : (k : Sort) (p a : ℕ) (e : Sight) (ps sights : List ℕ) (rest : List ℤ) (ok : OkUnit ag (Since ag now) k p a e ps) → TreeOf (length s) (unit k p a e) (ok .found .params ∷ length (ok .found .sight) ∷ sights) (unitCells k p a e ++ rest)
+    unfolding TreeOf unitCells natOf
+    unit-tree k p a e ps sights rest ok =
+        let l = units-length ag (Since ag now) k p a e ps ok in
+        (omega (arith, length-append (unitCells k p a e) rest, l), omega arith, sort-waits k, rw (take-at (unitCells k p a e) rest 24 l) (unit-waits k p a e ps ok))
+
+    sights-length : (res : Residue) (ps : List ℕ) → Ok ag (Since ag now) res ps → length (sightsOf ag res) ≡ 2 * units res
+    unfolding Ok units sightsOf sightAt
+    sights-length (unit k p a e) ps ok = rw (ok .isAt) refl
+    sights-length (both j l r) ps ok = omega (arith, length-append (sightsOf ag l) (sightsOf ag r), sights-length l (ok .0) (ok .2), sights-length r (ok .1) (ok .3))
+
+    join-tree : (j : Join) (l r : Residue) (more : List ℕ) (rest : List ℤ) → TreeOf (length s) l more rest → TreeOf (length s) r (drop (2 * units l) more) (drop (24 * units l) rest) → TreeOf (length s) (both j l r) (units l ∷ 0 ∷ more) (joinCells j ++ rest)
+    unfolding TreeOf joinCells padded natOf
+    join-tree j l r more rest t v =
+        let a = drop-drop (2 * units l) 2 (units l ∷ 0 ∷ more) in
+        let b = drop-drop (24 * units l) 24 (joinCells j ++ rest) in
+        (omega (arith, length-append (joinCells j) rest, join-length ag (Since ag now) j), omega arith, join-waits j, refl, t, rw (← a, ← b) v)
+
+    residue-tree : (res : Residue) (ps sights : List ℕ) (rest : List ℤ) → Ok ag (Since ag now) res ps → TreeOf (length s) res (sightsOf ag res ++ sights) (residueCells res ++ rest)
+    unfolding Ok sightsOf residueCells sightAt
+    residue-tree (unit k p a e) ps sights rest ok = rw (ok .isAt) (unit-tree k p a e ps sights rest ok)
+    residue-tree (both j l r) ps sights rest ok =
+        let left = residue-tree l (ok .0) (sightsOf ag r ++ sights) (residueCells r ++ rest) (ok .2) in
+        let right = residue-tree r (ok .1) sights rest (ok .3) in
+        rw (++-assoc (sightsOf ag l) (sightsOf ag r) sights, ++-assoc (joinCells j) (residueCells l ++ residueCells r) rest, ++-assoc (residueCells l) (residueCells r) rest)
+        (join-tree j l r (sightsOf ag l ++ (sightsOf ag r ++ sights)) (residueCells l ++ (residueCells r ++ rest)) left
+        (rw (drop-at (sightsOf ag l) (sightsOf ag r ++ sights) (2 * units l) (sights-length l (ok .0) (ok .2)), drop-at (residueCells l) (residueCells r ++ rest) (24 * units l) (cells-len ag (Since ag now) l (ok .0) (ok .2))) right))
 
     -- the two numbers of each unit, as the residue has them
     sights-same : (res : Residue) (ps : List ℕ) → Ok ag (Since ag now) res ps → sightNumbers res ≡ sightsOf ag res
@@ -138,19 +139,13 @@ module _ (s mains : List ℕ) (ck : checked s ≡ accepted (agreementOf s) mains
           let inv = runOf-good ag mains us (runAt now (running res)) (isFair s ag mains ck) is in
           sym (take-append-drop (2 * units res) sights) ∙ ap (λ x. x ++ drop (2 * units res) sights) (taken ∙ sights-same now (inv .fits) res (inv .good .0) (inv .good .1))
 
-      pub has-units : 2 * units res ≤ length sights → Units (length s) sights (drop 8 us) (units res)
+      pub has-tree : Tree (length s) sights (drop 8 us) (units res)
       unfolding Good needed
-      has-units long =
+      has-tree =
           let inv = runOf-good ag mains us (runAt now (running res)) (isFair s ag mains ck) is in
           record {
+            residue = res;
+            count = refl;
             few = inv .small;
-            room = omega (arith, inv .small, length-drop 8 us);
-            seen = long;
-            waiting = subst (λ cs. AllWait (length s) sights cs (units res)) (sym units-behind) (subst (λ q. AllWait (length s) q zeros (units res)) (sym sighted) (subst (AllWait (length s) (sightsOf ag res ++ drop (2 * units res) sights) zeros) none (residue-waits now (inv .fits) res (inv .good .0) 0 (drop (2 * units res) sights) _ (inv .good .1) (λ k h w. absurd (omega arith)))));
+            stands = subst (TreeOf (length s) res sights) (sym units-behind) (subst (λ q. TreeOf (length s) res q (residueCells res ++ replicate (3080 - length (headCells 1 now 0 0 (units res) ++ residueCells res)) (pos 0))) (sym sighted) (residue-tree now (inv .fits) res (inv .good .0) (drop (2 * units res) sights) _ (inv .good .1)));
           }
-        where
-          zeros : List ℤ
-          zeros = residueCells res ++ replicate (3080 - length (headCells 1 now 0 0 (units res) ++ residueCells res)) (pos 0)
-
-          none : units res + 0 ≡ units res
-          none = omega arith

@@ -1,13 +1,13 @@
 -- Cells that are copied and filled, and the cells of a unit.
-use mathlib.Core.Path.{_≡_, sym, ap, _∙_}
-use mathlib.Core.List.{List, [], _∷_, _++_, append-nil}
+use mathlib.Core.Path.{_≡_, sym, ap, ap₂, _∙_}
+use mathlib.Core.List.{List, [], _∷_, _++_, append-nil, append-assoc}
 use Prim.Native.Nat.{ℕ, suc, _+_, _-_, _≤_, _<_}
 use native.Mathlib.Numerals.{add-one}
 use native.Mathlib.Omega.{arith}
 use native.Mathlib.Decide.{decLt}
 use lib.IntN.{ℤ, pos}
 use lib.ListN.{length, getD, take, drop, set, replicate, length-drop, length-append, length-take, length-replicate, getD-replicate, List·getD-append, List·getD-eq-default, length-set, drop-of-length-le}
-use lib.Seq.{set-at, take-suc, drop-cons, append-snoc, length-take-le, take-length, drop-length, take-at, drop-at, getD-append-add, sets-eq, drop-drop}
+use lib.Seq.{set-at, take-suc, drop-cons, append-snoc, length-take-le, take-length, drop-length, take-at, drop-at, getD-append-add, sets-eq, drop-drop, take-add}
 use borrow.Rule.Slice.PartMut.{putMid}
 use Rattle.arith.proofs.Lists.{part-put}
 use mir.Syntax.{w64}
@@ -34,9 +34,22 @@ module _ {A : Type 0} where
   pub filled-all : (s d : List A) {i : ℕ} → i ≡ length s → length s ≡ length d → take i s ++ drop i d ≡ s
   filled-all s d e f = rw (e, take-length, f, drop-length, append-nil)
 
+  pub copied-whole : (s d : List A) → length s ≡ length d → s ++ drop (length s) d ≡ s
+  copied-whole s d e = rw (e, drop-length, append-nil)
+
   -- a copy goes on from what is copied so far
   pub left-over : (s d : List A) {e : List A} {i : ℕ} → i ≤ length s → e ≡ take i s ++ drop i d → e ≡ take i s ++ drop i e
   left-over s d {i = i} h q = q ∙ ap (λ x. take i s ++ x) (sym (ap (drop i) q ∙ drop-at (take i s) (drop i d) i (length-take-le i s h)))
+
+  -- the cells from n to m
+  pub copy-part : (s d : List A) (n m : ℕ) {e u : List A} → n ≤ m → n ≤ length s → e ≡ take n s ++ drop n d → u ≡ take (m - n) (drop n s) → putMid n (m - n) e u ≡ take m s ++ drop m d
+  copy-part s d n m {e} {u} h i q r =
+      let l : length (take n s) ≡ n = length-take-le n s i in
+      let k : n + (m - n) ≡ m = omega arith in
+      let front : take n e ≡ take n s = ap (take n) q ∙ take-at (take n s) (drop n d) n l in
+      let rest : drop m e ≡ drop m d = ap₂ drop (sym k) q ∙ sym (drop-drop (m - n) n (take n s ++ drop n d)) ∙ ap (drop (m - n)) (drop-at (take n s) (drop n d) n l) ∙ drop-drop (m - n) n d ∙ ap (λ j. drop j d) k in
+      let more : take n s ++ u ≡ take m s = ap (λ x. take n s ++ x) r ∙ sym (take-add n (m - n) s) ∙ ap (λ j. take j s) k in
+      part-put n m e u h ∙ rw (front, rest) (sym (append-assoc (take n s) u (drop m d))) ∙ ap (λ x. x ++ drop m d) more
 
 -- ---- with zeros behind
 pub length-padded : (n : ℕ) (xs : List ℤ) → length xs ≤ n → length (padded n xs) ≡ n

@@ -7,5 +7,6 @@ pub mod Instances
 pub mod Walks
 pub mod Sites
 pub mod Settled
-pub mod Stack
+pub mod Trees
+pub mod Sorts
 mod Natural

@@ -12,7 +12,7 @@ use Rattle.arith.proofs.Lists.{length-part}
 use Rattle.csl.specs.Bytes.{byte, part}
 use Rattle.csl.specs.Decode.{clause}
 use Rattle.cells.specs.Reduce as cells
-use Rattle.rules.specs.Reduces.{Stands, Is, Sides, roomLeft}
+use Rattle.rules.specs.Reduces.{Stands, Is, Sides, roomLeft, farthest}
 use Rattle.rules.specs.Leads.{Ready, Fits, innerSite, weight}
 use Rattle.rules.specs.declared.Reduced.{Reduced}
 use Rattle.rules.specs.declared.Reduced.the-variants.{Done, Breach, Running}
@@ -35,8 +35,8 @@ module _ {places ag : List ℕ} {e : Event} {rs : List ℤ} {t : Site} {ps vs : 
     dated = r .dated;
   })
 
-  pub lighter-within : weight e w < weight e t
-  lighter-within = rw ew (omega arith)
+  pub lighter-within : (n m : ℕ) → n < m → weight e w n < weight e t m
+  lighter-within n m h = rw ew (omega arith)
 
 pub fits-within : {ag : List ℕ} {t : Site} {s : List ℕ} {out : List ℤ} → Fits ag t s out → {w : Site} {x y b : ℕ} → w ≡ innerSite t x b → x ≤ y → y ≤ length s → {o : List ℤ} → length o ≤ length out → Fits ag w (part s x y) o
 fits-within {s = s} f {x = x} {y = y} ew h i l = rw ew (record {
@@ -65,8 +65,8 @@ module _ {places ag : List ℕ} {e : Event} {rs : List ℤ} {t : Site} {ps vs : 
     dated = r .dated;
   })
 
-  pub lighter-then : e .step ≡ Follow → weight f w < weight e t
-  lighter-then h = rw (ef, ew, h) (omega (arith, r .shallow, r .indexed .fewTemplates))
+  pub lighter-then : e .step ≡ Follow → (n m : ℕ) → n ≤ farthest → weight f w n < weight e t m
+  lighter-then h n m few = rw (ef, ew, h) (omega (arith, r .indexed .fewTemplates))
 
 pub fits-then : {ag : List ℕ} {t : Site} {s : List ℕ} {out : List ℤ} → Fits ag t s out → {w : Site} {x y b n : ℕ} → w ≡ thenSite t x b n → x ≤ y → y ≤ length s → {o : List ℤ} → length o ≤ length out → Fits ag w (part s x y) o
 fits-then {s = s} f {x = x} {y = y} ew h i l = rw ew (record {
@@ -89,8 +89,8 @@ module _ {places ag : List ℕ} {e : Event} {rs : List ℤ} {t : Site} {ps vs : 
     dated = r .dated;
   })
 
-  pub lighter-body : weight e w < weight e t
-  lighter-body = rw ew (omega arith)
+  pub lighter-body : (n : ℕ) → n ≤ farthest → weight e w n < weight e t 0
+  lighter-body n few = rw ew (omega arith)
 
 -- ---- what an answer within says of the whole
 pub is-as : (r : Reduced) (o : List ℤ) {x y : cells.Reduced} → x ≡ y → Is y r o → Is x r o

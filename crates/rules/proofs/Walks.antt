@@ -102,23 +102,23 @@ module _ (e : Event) (rs : List ℤ) (ag : List ℕ) (below : ℕ) (s : List ℕ
   choice-waits f = (rw (f, cells.walk), omega arith)
 
   -- the else at z
-  pub choice-late : {c z y b : ℕ} → c ≡ waitEnd s 4 → z ≡ recordEnd s c → y ≡ length s → z ≤ y → fate (modeAt e rs) vs a (waitOf 4) ≡ late → {l : ℤ} → l ≡ lastOf vs a (waitOf 4) → (b ≡ laterOf a l) × (b ≤ a + 2_000_000_000) → LeadsTo choiceKind (Goes z y b)
+  pub choice-late : {c z y b : ℕ} → c ≡ waitEnd s 4 → z ≡ recordEnd s c → y ≡ length s → (4 ≤ z) × (z ≤ y) → fate (modeAt e rs) vs a (waitOf 4) ≡ late → {l : ℤ} → l ≡ lastOf vs a (waitOf 4) → (b ≡ laterOf a l) × (b ≤ a + 2_000_000_000) → LeadsTo choiceKind (Goes z y b)
   unfolding Leads reduceBelow cells.walk clauseBody
-  choice-late ec ez ey o f el eb = record { is = rw (f, cells.walk, ← el, ← eb .0, ey, ez, ec); order = o; inside = omega arith; deep = deep; soon = eb .1 }
+  choice-late ec ez ey o f el eb = record { is = rw (f, cells.walk, ← el, ← eb .0, ey, ez, ec); past = o .0; order = o .1; inside = omega arith; deep = deep; soon = eb .1 }
 
   -- ---- `if`
   module _ {c f : ℕ} (ec : c ≡ recordEnd s 4) (ef : f ≡ recordEnd s c) {x : ℤ} (ex : (x ≡ evalCells vs (expr (depth - 1) (part s 4 c))) × Held x) where
-    pub chosen-then : isTrue (seen x) ≡ true → (c ≤ f) × (f ≤ length s) → LeadsTo ifKind (Goes c f a)
+    pub chosen-then : isTrue (seen x) ≡ true → (4 ≤ c) × (c ≤ f) × (f ≤ length s) → LeadsTo ifKind (Goes c f a)
     unfolding Leads reduceBelow cells.walk clauseBody
     chosen-then t o =
         let g : isTrue (evalCells vs (expr (depth - 1) (part s 4 (recordEnd s 4)))) ≡ true = rw (read (held-fits (ex .1)), ex .0, ec) at t in
-        record { is = rw (g, cells.walk, ef, ec); order = o .0; inside = o .1; deep = deep; soon = omega arith }
+        record { is = rw (g, cells.walk, ef, ec); past = o .0; order = o .1; inside = o .2; deep = deep; soon = omega arith }
 
-    pub chosen-else : isTrue (seen x) ≡ false → f ≤ length s → LeadsTo ifKind (Goes f (length s) a)
+    pub chosen-else : isTrue (seen x) ≡ false → (4 ≤ f) × (f ≤ length s) → LeadsTo ifKind (Goes f (length s) a)
     unfolding Leads reduceBelow cells.walk clauseBody
     chosen-else t o =
         let g : isTrue (evalCells vs (expr (depth - 1) (part s 4 (recordEnd s 4)))) ≡ false = rw (read (held-fits (ex .1)), ex .0, ec) at t in
-        record { is = rw (g, cells.walk, ef, ec); order = o; inside = omega arith; deep = deep; soon = omega arith }
+        record { is = rw (g, cells.walk, ef, ec); past = o .0; order = o .1; inside = omega arith; deep = deep; soon = omega arith }
 
 -- ---- templates
 module _ (m : Mode) (th : Clause → List ℤ → List ℤ → ℕ → cells.Reduced) (ts : List Template) (ps vs : List ℤ) (a : ℕ) where
@@ -355,7 +355,7 @@ module _ (e : Event) (rs : List ℤ) (ag : List ℕ) (below : ℕ) (s : List ℕ
 
     pub right-goes : k ≡ 20 → SidesAre (Shape.Goes f (length s))
     unfolding Shaped joinOf cells.joined cells.joinBoth
-    right-goes x = record { is = two ∙ rw (x, p .is e rs ag (sideSite 4) ps vs); order = i; inside = omega arith; deep = omega (arith, n); soon = omega arith }
+    right-goes x = record { is = two ∙ rw (x, p .is e rs ag (sideSite 4) ps vs); past = o; order = i; inside = omega arith; deep = omega (arith, n); soon = omega arith }
 
     pub left-ends : (k ≡ 20 → ⊥) → SidesAre Shape.Ends
     unfolding Shaped joinOf cells.joined cells.joinEither
@@ -364,7 +364,7 @@ module _ (e : Event) (rs : List ℤ) (ag : List ℕ) (below : ℕ) (s : List ℕ
   module _ (q : Ended (part s f (length s))) where
     pub left-goes : k ≡ 20 → SidesAre (Shape.Goes 4 f)
     unfolding Shaped joinOf
-    left-goes x = record { is = two ∙ rw (x, q .is e rs ag (sideSite f) ps vs) (and-done (side 4 f)); order = o; inside = i; deep = omega (arith, n); soon = omega arith }
+    left-goes x = record { is = two ∙ rw (x, q .is e rs ag (sideSite f) ps vs) (and-done (side 4 f)); past = omega arith; order = o; inside = i; deep = omega (arith, n); soon = omega arith }
 
     pub right-ends : (k ≡ 20 → ⊥) → SidesAre Shape.Ends
     unfolding Shaped joinOf

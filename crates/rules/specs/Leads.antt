@@ -57,6 +57,7 @@ module _ (e : Event) (rs : List ℤ) (ag : List ℕ) (below : ℕ) (s : List ℕ
 
   pub record GoesOn (x y b : ℕ) : Type 0 where
     pub is : reduced c a ≡ reduced (inner x y) b
+    pub past : 4 ≤ x
     pub order : x ≤ y
     pub inside : y ≤ length s
     pub deep : 1 ≤ depth
@@ -139,12 +140,12 @@ reduceAt e rs ag t s ps vs = reduceBelow (modeAt e rs) ag (t .below) (clause (he
 pub record Ended (s : List ℕ) : Type 0 where
   pub is : (e : Event) (rs : List ℤ) (ag : List ℕ) (t : Site) (ps vs : List ℤ) → reduceAt e rs ag t s ps vs ≡ cells.done
 
--- a step that takes readings before one that takes none
+-- a reading that is followed activates a `then` anew, with every template in reach: its step stands before the pair that falls
 abbrev pub rank : Step → ℕ
 rank Activate = 0
 rank Forecast = 0
 rank Follow = 1
 
--- what falls from an activation to those within it
-abbrev pub weight : Event → Site → ℕ
-weight e t = (rank (e .step) * 64 + t .below) * 32 + t .depth
+-- what falls from an activation to those within it: the pair of the template number and the clause's size in bytes
+abbrev pub weight : Event → Site → ℕ → ℕ
+weight e t size = (rank (e .step) * 64 + t .below) * (farthest + 1) + size

@@ -2,4 +2,4 @@ pub mod Reduces
 pub mod Parts
 pub mod Leads
 pub mod Units
-pub mod Pile
+pub mod Tree

@@ -2,10 +2,10 @@
 use mathlib.Core.Path.{_≡_}
 use mathlib.Core.Bool.{Bool, true, false}
 use mathlib.Core.List.{List, _++_}
-use Prim.Native.Nat.{ℕ, _+_, _-_, _*_, _/_, _≤_, _<_}
+use Prim.Native.Nat.{ℕ, _*_, _/_, _≤_}
 use lib.Dec.{leb}
 use lib.IntN.{ℤ, pos}
-use lib.ListN.{length, getD, take, drop}
+use lib.ListN.{length, getD}
 use Rattle.csl.specs.Table.{padded, headCells, tableLength}
 use Rattle.cells.specs.Reduce.{done, breach, running}
 use Rattle.cells.specs.Reduce as cells
@@ -30,19 +30,6 @@ bitsIn Done = 0
 bitsIn (Breach t b) = b
 bitsIn (Running n) = 0
 
--- ---- unit k: its cells, its sort and the two numbers in sight
-abbrev pub unitAt : List ℤ → ℕ → List ℤ
-unitAt cs k = take 24 (drop (24 * k) cs)
-
-abbrev pub sortAt : List ℤ → ℕ → ℕ
-sortAt cs k = natOf (getD (drop (24 * k) cs) 0 (pos 0))
-
-abbrev pub paramsAt : List ℕ → ℕ → ℕ
-paramsAt sights k = getD (drop (2 * k) sights) 0 0
-
-abbrev pub valuesAt : List ℕ → ℕ → ℕ
-valuesAt sights k = getD (drop (2 * k) sights) 1 0
-
 -- a waiting unit of an agreement of so many bytes
 pub record Waiting (size params values : ℕ) (unit : List ℤ) : Type 0 where
   pub fewParams : params ≤ 4
@@ -51,13 +38,6 @@ pub record Waiting (size params values : ℕ) (unit : List ℤ) : Type 0 where
   pub within : natOf (getD unit 1 (pos 0)) ≤ size
   pub since : getD unit 2 (pos 0) ≡ pos (natOf (getD unit 2 (pos 0)))
   pub early : natOf (getD unit 2 (pos 0)) ≤ 4_294_967_296
-
--- the units that are in use; those below sort 20 wait
-pub record Units (size : ℕ) (sights : List ℕ) (cs : List ℤ) (used : ℕ) : Type 0 where
-  pub few : used ≤ 128
-  pub room : 24 * used ≤ length cs
-  pub seen : 2 * used ≤ length sights
-  pub waiting : (k : ℕ) → k < used → sortAt cs k < 20 → Waiting size (paramsAt sights k) (valuesAt sights k) (unitAt cs k)
 
 -- ---- a run's table after a reading
 unfoldable pub reducedTable : ℕ → cells.Reduced → List ℤ

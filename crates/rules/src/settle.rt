@@ -1,9 +1,9 @@
 // A run's table after a reading.
 ghost use mathlib.Core.Path.{_≡_};
-ghost use mathlib.Core.List.{_∷_, []};
-ghost use Prim.Native.Nat.{_≤_, _<_};
+ghost use mathlib.Core.List.{_∷_, [], _++_};
+ghost use Prim.Native.Nat.{_*_, _≤_, _<_};
 ghost use lib.IntN.{pos};
-ghost use lib.ListN.{length};
+ghost use lib.ListN.{length, drop};
 ghost use Rattle.csl.specs.Table.{padded};
 ghost use Rattle.cells.specs.Across.{natOf};
 ghost use Rattle.rules.specs.Units.{Settles, Whole, bitsIn};
@@ -20,6 +20,27 @@ fn put_head(table: &mut [i64], state: i64, time: i64, breach: i64, parties: usiz
     let units = used as i64;
     let head = [state, time, breach, bits, units, 0, 0, 0];
     fill(table, &head);
+}
+
+// One unit's 24 cells.
+fn copy_unit(unit: &mut [i64], cells: &[i64])
+    requires { ⌜ (length (now unit) ≡ 24) × (length (now cells) ≡ 24) ⌝ }
+    ensures { λ _. ⌜ now (unit .exit) ≡ now (cells .entry) ⌝ }
+{
+    copy(unit, cells);
+}
+
+// A residue's n units go to the front of the table's, unit by unit.
+fn copy_units(units: &mut [i64], residue: &[i64], n: usize)
+    requires { ⌜ (length (now residue) ≡ 24 * n) × (24 * n ≤ length (now units)) ⌝ }
+    ensures { λ _. ⌜ now (units .exit) ≡ now (residue .entry) ++ drop (length (now (residue .entry))) (now (units .entry)) ⌝ }
+{
+    let mut k = 0;
+    while k < n {
+        let at = 24 * k;
+        copy_unit(&mut units[at..at + 24], &residue[at..at + 24]);
+        k += 1;
+    }
 }
 
 // Writes the table of a run at `time`, whose residue stands whole at the end of `out`, unless it has more than 128 units.
@@ -42,7 +63,7 @@ pub fn settle(table: &mut [i64], time: i64, r: Reduced, out: &[i64]) -> bool
             }
             put_head(table, 1, time, 0, 0, n);
             let from = out.len() - 24 * n;
-            copy(&mut table[8..], &out[from..]);
+            copy_units(&mut table[8..], &out[from..], n);
             true
         }
     }

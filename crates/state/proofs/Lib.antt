@@ -1,3 +1,3 @@
-pub mod Stacks
+pub mod Trees
 pub mod Heads
 pub mod Shows

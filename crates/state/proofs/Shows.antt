@@ -1,37 +1,38 @@
 -- The state that a table shows, by what the code read.
 use mathlib.Core.Path.{_≡_, refl, sym, ap, ap₂, subst, _∙_}
-use mathlib.Core.Bool.{Bool, true, false, cond, not, _&&_, true≢false}
-use mathlib.Core.List.{List, [], _∷_, _++_, append-nil}
-use mathlib.Core.Option.{Option, none, some}
+use mathlib.Core.Bool.{Bool, true, false, not, _&&_, true≢false}
+use mathlib.Core.List.{List, [], _∷_}
+use mathlib.Core.Option.{some}
 use Prim.Native.Nat.{ℕ, zero, suc, _+_, _-_, _*_, _^_, _≤_, _<_}
 use native.Mathlib.Omega.{arith}
 use lib.Bits.{bitOr}
 use lib.Dec.{T, leb, ltb, eqb, leb→le, le→leb, ltb→lt, lt→ltb, eqb→eq}
 use lib.IntN.{ℤ, pos, negsuc}
 use lib.ListN.{length, getD, take, drop, length-drop}
-use lib.Seq.{take-all}
-use borrow.Author.Tests.{eq-eqb, ne-eqb}
-use Rattle.csl.specs.Lists.{_>>=_, need, all, at, split}
+use lib.Seq.{take-all, drop-drop}
+use Rattle.arith.proofs.Lists.{take-drop}
+use borrow.Author.Tests.{ne-eqb}
+use Rattle.csl.specs.Lists.{all, at}
 use Rattle.csl.specs.Bytes.{le32}
-use Rattle.csl.specs.Parties.{bitsOf, members, membersFrom, subset}
+use Rattle.csl.specs.Parties.{bitsOf, members, subset}
 use Rattle.csl.specs.Decode.{agreementOf}
 use Rattle.csl.specs.Outcomes.{Residue, units, Outcome, done, breach, running}
 use Rattle.csl.specs.Run.{Run}
-use Rattle.csl.specs.Table.{isZero, HeadNumbers, readState, runOf, trees, single, residueParties}
+use Rattle.csl.specs.Table.{isZero, HeadNumbers, readState, trees, single, residueParties}
 use Rattle.parties.proofs.Masks.{within-subset, bits-members}
 use Rattle.parties.proofs.Members.{members-in}
 use Rattle.soundness.proofs.Inversion.{from-bind, from-need, some-bind, passes, some-inj, T-both, both-true}
 use Rattle.places.specs.Locate.{mainsOf}
 use Rattle.units.specs.Cells.{numberBelow}
-use Rattle.units.specs.Units.{sightNumbers, PartiesOf}
+use Rattle.units.specs.Units.{sightNumbers}
 use Rattle.units.proofs.Cells.{below-is, below-not, yes-true, no-false}
 use Rattle.units.proofs.Waits.{none-is, option-none}
-use Rattle.state.specs.declared.State.{State}
 use Rattle.state.specs.declared.State.the-variants.{Damaged, Running, Fulfilled, Breached}
 use Rattle.state.specs.declared.Walk.{Walk}
-use Rattle.state.specs.declared.Walk.the-variants.{Damaged as Torn, Stacked}
-use Rattle.state.specs.Stack.{partiesAll, StackIs, unitsIn, sightsIn, Behind, StackedAs, WalkIs}
-use Rattle.state.specs.Shown.{RunShows, RunningAs, BreachedAs, Shows, runIn, HeadAt}
+use Rattle.state.specs.declared.Walk.the-variants.{Damaged as Torn, Tree}
+use Rattle.state.specs.Tree.{ReadsAs, TreeAs, WalkIs}
+use Rattle.state.specs.Shown.{RunShows, Shows, runIn, HeadAt}
+use Rattle.state.proofs.Trees.{AllRead, trees-read, tree-first, reads-same}
 use Rattle.state.proofs.Heads.{RunFacts, run-facts, run-is, eight}
 
 pos-inj : {m n : ℕ} → pos m ≡ pos n → m ≡ n
@@ -317,61 +318,62 @@ module _ (cells : List ℤ) (l : length cells ≡ 3080) (A : List ℕ) {time : �
     same-used : (w : Waits) → w .used ≡ n
     same-used w = pos-inj (sym (w .isUsed) ∙ is-used)
 
-    trees-at : (w : Waits) → trees (agreementOf A) n (take 3072 (drop 8 cells)) ≡ some (w .residue ∷ [])
-    trees-at w = ap₂ (trees (agreementOf A)) (sym (same-used w)) (unit-cells cells l) ∙ w .are
+    -- a run that the table shows, as the tree in prefix order
+    residue-read : (w : Waits) → ReadsAs (agreementOf A) (w .residue) (take 3072 (drop 8 cells)) × (units (w .residue) ≡ n) × (all isZero (drop (24 * n) (take 3072 (drop 8 cells))) ≡ true)
+    unfolding AllRead
+    residue-read w =
+        let all-read = trees-read (agreementOf A) n (take 3072 (drop 8 cells)) (w .residue ∷ []) (ap₂ (trees (agreementOf A)) (sym (same-used w)) (unit-cells cells l) ∙ w .are) in
+        let same : units (w .residue) ≡ n = omega (arith, all-read .1, all-read .2 .0) in
+        (all-read .0, same, subst (λ (k : ℕ). all isZero (drop (24 * k) (take 3072 (drop 8 cells))) ≡ true) same (all-read .2 .1))
 
-    module _ (stack sights : List ℕ) {r : Walk} (k : WalkIs A time n (trees (agreementOf A) n (take 3072 (drop 8 cells))) stack sights r) where
+    rest-cells : drop (24 * n) (take 3072 (drop 8 cells)) ≡ take (3080 - (8 + 24 * n)) (drop (8 + 24 * n) cells)
+    rest-cells =
+        let k : 3072 - 24 * n ≡ 3080 - (8 + 24 * n) = omega (arith, fewer) in
+        take-drop (24 * n) 3072 (drop 8 cells) ∙ ap₂ take k (drop-drop (24 * n) 8 cells)
+
+    module _ (sights : List ℕ) {r : Walk} (k : WalkIs A time n (take 3072 (drop 8 cells)) sights r) where
       pub running-torn : r ≡ Torn → Shows (runIn A cells) cells sights Damaged
-      unfolding WalkIs _>>=_ partiesAll
+      unfolding WalkIs
       running-torn t = waits-none sights λ w.
           let none-there = rw t at k in
-          none-is (sym none-there ∙ ap (λ (o : Option (List Residue)). o >>= partiesAll A time) (trees-at w) ∙ some-bind (residueParties (agreementOf A) (mainsOf A) time (w .residue)) _ (w .parties) (w .have))
+          let is = residue-read w in
+          none-is (sym (none-there (w .residue) (is .0) (omega (arith, is .1))) ∙ w .have)
 
-      module _ {m : ℕ} (t : r ≡ Stacked m) where
-        stacked : StackedAs A time n (trees (agreementOf A) n (take 3072 (drop 8 cells))) stack sights m
+      module _ {m x : ℕ} (t : r ≡ Tree m x) where
+        tree-there : TreeAs A time n (take 3072 (drop 8 cells)) sights m x
         unfolding WalkIs
-        stacked = rw t at k
+        tree-there = rw t at k
 
-        pub running-more : (m ≡ 1 → ⊥) → Shows (runIn A cells) cells sights Damaged
-        unfolding StackIs
-        running-more f = waits-none sights λ w.
-            let same : stacked .residues ≡ w .residue ∷ [] = some-inj (sym (stacked .are) ∙ trees-at w) in
-            let s = subst (λ (rs : List Residue). StackIs A time rs stack m) same (stacked .behind .stacked) in
-            f (omega (arith, s .0, s .2))
+        pub running-other : (m ≡ n → ⊥) → Shows (runIn A cells) cells sights Damaged
+        running-other f = waits-none sights λ w.
+            let is = residue-read w in
+            let same = reads-same (agreementOf A) (tree-there .residue) (w .residue) (take 3072 (drop 8 cells)) (tree-there .reads) (is .0) in
+            f (tree-there .count ∙ ap units same ∙ is .1)
 
-        record Alone : Type 0 where
-          pub residue : Residue
-          pub is : stacked .residues ≡ residue ∷ []
-          pub bits : ℕ
-          pub parties : PartiesOf A time residue bits
+        module _ (f : m ≡ n) {z : Bool} (e₂ : z ≡ all isZero (take (3080 - (8 + 24 * n)) (drop (8 + 24 * n) cells))) where
+          pub running-more : z ≡ false → Shows (runIn A cells) cells sights Damaged
+          running-more g = waits-none sights λ w. opposed ((residue-read w) .2) (ap (all isZero) rest-cells ∙ sym e₂ ∙ g)
 
-        alone : m ≡ 1 → Alone
-        unfolding StackIs
-        alone f = go (stacked .residues) refl (stacked .behind .stacked)
-          where
-            go : (rs : List Residue) → stacked .residues ≡ rs → StackIs A time rs stack m → Alone
-            go [] q s = absurd (omega arith)
-            go (x ∷ []) q s = record { residue = x; is = q; bits = getD stack (m - 1) 0; parties = s .1 }
-            go (x ∷ y ∷ rs) q s = absurd (omega (arith, s .2 .0))
-
-        pub running-is : {b : Bool} → b ≡ all isZero (take 2 (drop 2 cells)) → not b ≡ false → m ≡ 1 → Shows (runIn A cells) cells sights (Running n)
-        unfolding Shows readState unitsIn sightsIn single
-        running-is {b} p q f =
-            let a = alone f in
-            let x = a .residue in
-            let two = two-zeros cells l (true→T (sym p ∙ yes-true b q)) in
-            let are : trees (agreementOf A) n (drop 8 cells) ≡ some (x ∷ []) = ap (trees (agreementOf A) n) (sym (unit-cells cells l)) ∙ stacked .are ∙ ap some (a .is) in
-            record {
-              residue = x;
-              shows = shows cells l A h (running x) (two .0) (two .1) is-used
-                  (passes (leb n 128) _ (le→leb n 128 fewer)
-                  ∙ some-bind (trees (agreementOf A) n (drop 8 cells)) _ (x ∷ []) are
-                  ∙ some-bind (single (x ∷ [])) _ x refl
-                  ∙ some-bind (residueParties (agreementOf A) (mainsOf A) time x) _ (a .parties .parties) (a .parties .are));
-              count = sym (stacked .behind .count) ∙ ap unitsIn (a .is) ∙ omega arith;
-              few = fewer;
-              sighted = stacked .behind .sighted ∙ ap sightsIn (a .is) ∙ append-nil (sightNumbers x);
-            }
+          pub running-is : {b : Bool} → b ≡ all isZero (take 2 (drop 2 cells)) → not b ≡ false → z ≡ true → Shows (runIn A cells) cells sights (Running n)
+          unfolding Shows readState single trees
+          running-is {b} p q g =
+              let x = tree-there .residue in
+              let two = two-zeros cells l (true→T (sym p ∙ yes-true b q)) in
+              let count : n ≡ units x = sym f ∙ tree-there .count in
+              let count₀ : n ≡ units x + 0 = omega (arith, count) in
+              let none-behind : trees (agreementOf A) 0 (drop (24 * units x) (take 3072 (drop 8 cells))) ≡ some [] = passes (all isZero (drop (24 * units x) (take 3072 (drop 8 cells)))) _ (true→T (ap (λ (k : ℕ). all isZero (drop (24 * k) (take 3072 (drop 8 cells)))) (sym count) ∙ ap (all isZero) rest-cells ∙ sym e₂ ∙ g)) in
+              let are : trees (agreementOf A) n (drop 8 cells) ≡ some (x ∷ []) = ap₂ (trees (agreementOf A)) count₀ (sym (unit-cells cells l)) ∙ tree-first (agreementOf A) x 0 (take 3072 (drop 8 cells)) [] (tree-there .reads) none-behind in
+              record {
+                residue = x;
+                shows = shows cells l A h (running x) (two .0) (two .1) is-used
+                    (passes (leb n 128) _ (le→leb n 128 fewer)
+                    ∙ some-bind (trees (agreementOf A) n (drop 8 cells)) _ (x ∷ []) are
+                    ∙ some-bind (single (x ∷ [])) _ x refl
+                    ∙ some-bind (residueParties (agreementOf A) (mainsOf A) time x) _ (tree-there .parties .parties) (tree-there .parties .are));
+                count = count;
+                few = fewer;
+                sighted = subst (λ (k : ℕ). take (2 * k) sights ≡ sightNumbers x) f (tree-there .sighted);
+              }
 
 -- ---- the head
 state-in : (A : List ℕ) (d : HeadNumbers) (cells : List ℤ) (n : ℕ) (o : Outcome) → readState (agreementOf A) (mainsOf A) d cells n ≡ some o → (1 ≤ n) × (n ≤ 3)

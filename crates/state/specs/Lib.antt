@@ -1,2 +1,2 @@
-pub mod Stack
+pub mod Tree
 pub mod Shown

@@ -1,19 +1,18 @@
 // Refusal 7: the table keeps to its layout and typing, and the state that it shows.
 ghost use mathlib.Core.Path.{_≡_};
 ghost use mathlib.Core.Bool.{true};
-ghost use mathlib.Core.List.{List, _∷_};
-ghost use Prim.Native.Nat.{ℕ, _+_, _-_, _*_, _≤_, _<_};
-ghost use lib.IntN.{pos};
-ghost use lib.ListN.{length, getD, drop};
+ghost use mathlib.Core.List.{List};
+ghost use Prim.Native.Nat.{ℕ, _*_, _≤_, _<_};
+ghost use lib.IntN.{ℤ, pos};
+ghost use lib.ListN.{length, getD};
 ghost use Rattle.csl.specs.Parties.{member, bitsOf};
 ghost use Rattle.csl.specs.Typing.{joinOk};
-ghost use Rattle.csl.specs.Decode.{agreementOf};
-ghost use Rattle.csl.specs.Table.{trees, sortNumber, joinNumber};
+ghost use Rattle.csl.specs.Table.{sortNumber};
 ghost use Rattle.csl.specs.Decode.{joinOf};
 ghost use Rattle.records.specs.Index.{Indexed};
 ghost use Rattle.places.specs.Locate.{Accepted, mainsOf};
 ghost use Rattle.units.specs.Units.{sortOf};
-ghost use Rattle.state.specs.Stack.{SomeBehind, AddIs, WalkIs};
+ghost use Rattle.state.specs.Tree.{SidesAs, WalkIs};
 ghost use Rattle.state.specs.Shown.{Shows, runIn, HeadAt};
 use arith::unsigned32;
 use parties::member_count;
@@ -24,10 +23,10 @@ use units::number_below;
 use units::waiting_unit;
 use units::zeros;
 
-// The units from one on: damaged, or so many residues, whose parties are on the stack.
+// The tree of units at the front: damaged, or of so many units, with its parties by bit.
 pub enum Walk {
     Damaged,
-    Stacked(usize),
+    Tree(usize, usize),
 }
 
 // What a table shows: running with so many units, fulfilled, or breached at a time by parties by bit.
@@ -38,28 +37,25 @@ pub enum State {
     Breached(i64, usize),
 }
 
-// A waiting unit goes onto the stack; `cells` are those behind its sort.
-fn add_waiting(
+// A waiting unit at the front of the cells.
+fn read_unit(
     agreement: &[u8],
     places: &[usize],
     mains: usize,
     time: usize,
     sort: usize,
     cells: &[i64],
-    k: usize,
-    stack: &mut [usize],
     sights: &mut [usize],
 ) -> Walk
-    requires { ⌜ Indexed (now places) (now agreement) × Accepted (now agreement) × (mains ≡ bitsOf (mainsOf (now agreement))) × (time < 4_294_967_296) × (sortNumber (sortOf sort) ≡ sort) × (length (now cells) ≡ 23) × (k < length (now stack)) × (2 ≤ length (now sights)) ⌝ }
-    ensures { λ r. ⌜ AddIs (now (agreement .entry)) time (pos sort ∷ now (cells .entry)) (now (stack .entry)) (now (sights .entry)) k (now (stack .exit)) (now (sights .exit)) r ⌝ }
+    requires { ⌜ Indexed (now places) (now agreement) × Accepted (now agreement) × (mains ≡ bitsOf (mainsOf (now agreement))) × (time < 4_294_967_296) × (sortNumber (sortOf sort) ≡ sort) × (24 ≤ length (now cells)) × (getD (now cells) 0 (pos 0) ≡ pos sort) × (2 ≤ length (now sights)) ⌝ }
+    ensures { λ r. ⌜ ((n : ℕ) → 0 < n → WalkIs (now (agreement .entry)) time n (now (cells .entry)) (now (sights .exit)) r) ⌝ }
 {
-    match waiting_unit(agreement, places, mains, time, sort, cells) {
+    match waiting_unit(agreement, places, mains, time, sort, &cells[1..24]) {
         Waiting::Damaged => Walk::Damaged,
         Waiting::Of(bits, n, c) => {
-            stack[k] = bits;
             sights[0] = n;
             sights[1] = c;
-            Walk::Stacked(k + 1)
+            Walk::Tree(1, bits)
         }
     }
 }
@@ -76,100 +72,74 @@ fn join_ok(sort: usize, bits: usize) -> bool
     }
 }
 
-// A join takes the two residues behind it from the stack; `cells` are those behind its sort.
-fn add_join(sort: usize, cells: &[i64], k: usize, stack: &mut [usize], sights: &mut [usize]) -> Walk
-    requires { ⌜ (2 ≤ k → (getD (now stack) (k - 1) 0 < 1_048_576) × (getD (now stack) (k - 2) 0 < 1_048_576)) × (joinNumber (joinOf sort) ≡ sort) × (k ≤ length (now stack)) × (2 ≤ length (now sights)) ⌝ }
-    ensures { λ r. ⌜ ((a : List ℕ) (time : ℕ) → AddIs a time (pos sort ∷ now (cells .entry)) (now (stack .entry)) (now (sights .entry)) k (now (stack .exit)) (now (sights .exit)) r) ⌝ }
+// A join of two sides, of k and m units and with the parties x and y; where its right side begins goes into the sights.
+fn read_join(sort: usize, k: usize, x: usize, m: usize, y: usize, sights: &mut [usize]) -> Walk
+    requires { ⌜ (x < 1_048_576) × (y < 1_048_576) × (k ≤ 128) × (m ≤ 128) × (2 ≤ length (now sights)) ⌝ }
+    ensures { λ r. ⌜ ((a : List ℕ) (last n : ℕ) (cells : List ℤ) → SidesAs a last n (joinOf sort) cells (now (sights .entry)) k x m y → WalkIs a last n cells (now (sights .exit)) r) ⌝ }
 {
-    if k < 2 {
-        return Walk::Damaged;
-    }
-    if !zeros(cells) {
-        return Walk::Damaged;
-    }
-    let bits = union(stack[k - 1], stack[k - 2]);
+    let bits = union(x, y);
     if !join_ok(sort, bits) {
         return Walk::Damaged;
     }
-    stack[k - 2] = bits;
-    sights[0] = 0;
+    sights[0] = k;
     sights[1] = 0;
-    Walk::Stacked(k - 1)
+    Walk::Tree(1 + k + m, bits)
 }
 
-// A unit is put before the k residues behind it.
-fn add_unit(
-    agreement: &[u8],
-    places: &[usize],
-    mains: usize,
-    time: usize,
-    unit: &[i64],
-    k: usize,
-    stack: &mut [usize],
-    sights: &mut [usize],
-) -> Walk
-    requires { ⌜ Indexed (now places) (now agreement) × Accepted (now agreement) × (mains ≡ bitsOf (mainsOf (now agreement))) × (time < 4_294_967_296) × (length (now unit) ≡ 24) × (k < length (now stack)) × (2 ≤ length (now sights)) × SomeBehind (now agreement) time (now stack) (drop 2 (now sights)) k ⌝ }
-    ensures { λ r. ⌜ AddIs (now (agreement .entry)) time (now (unit .entry)) (now (stack .entry)) (now (sights .entry)) k (now (stack .exit)) (now (sights .exit)) r ⌝ }
-{
-    let sort = number_below(unit[0], 22);
-    match sort {
-        17..=18 => add_waiting(
-            agreement,
-            places,
-            mains,
-            time,
-            sort,
-            &unit[1..24],
-            k,
-            stack,
-            sights,
-        ),
-        20..=21 => add_join(sort, &unit[1..24], k, stack, sights),
-        _ => Walk::Damaged,
-    }
-}
-
-// The n units at the front of the cells, zeros behind them: first those behind the first, then it.
-fn walk_units(
+// The tree at the front of n units: a unit that waits, or a join with its left side behind it and then its right side.
+fn walk_tree(
     agreement: &[u8],
     places: &[usize],
     mains: usize,
     time: usize,
     cells: &[i64],
     n: usize,
-    stack: &mut [usize],
     sights: &mut [usize],
 ) -> Walk
-    requires { ⌜ Indexed (now places) (now agreement) × Accepted (now agreement) × (mains ≡ bitsOf (mainsOf (now agreement))) × (time < 4_294_967_296) × (24 * n ≤ length (now cells)) × (n ≤ length (now stack)) × (2 * n ≤ length (now sights)) ⌝ }
-    ensures { λ r. ⌜ WalkIs (now (agreement .entry)) time n (trees (agreementOf (now (agreement .entry))) n (now (cells .entry))) (now (stack .exit)) (now (sights .exit)) r ⌝ }
+    requires { ⌜ Indexed (now places) (now agreement) × Accepted (now agreement) × (mains ≡ bitsOf (mainsOf (now agreement))) × (time < 4_294_967_296) × (n ≤ 128) × (24 * n ≤ length (now cells)) × (2 * n ≤ length (now sights)) ⌝ }
+    ensures { λ r. ⌜ WalkIs (now (agreement .entry)) time n (now (cells .entry)) (now (sights .exit)) r ⌝ }
 {
     if n == 0 {
-        if zeros(cells) {
-            return Walk::Stacked(0);
-        }
         return Walk::Damaged;
     }
-    match walk_units(
+    let sort = number_below(cells[0], 22);
+    if sort < 20 {
+        if sort < 17 {
+            return Walk::Damaged;
+        }
+        if sort == 19 {
+            return Walk::Damaged;
+        }
+        return read_unit(agreement, places, mains, time, sort, cells, sights);
+    }
+    if sort == 22 {
+        return Walk::Damaged;
+    }
+    if !zeros(&cells[1..24]) {
+        return Walk::Damaged;
+    }
+    match walk_tree(
         agreement,
         places,
         mains,
         time,
         &cells[24..],
         n - 1,
-        stack,
         &mut sights[2..],
     ) {
         Walk::Damaged => Walk::Damaged,
-        Walk::Stacked(k) => add_unit(
+        Walk::Tree(k, x) => match walk_tree(
             agreement,
             places,
             mains,
             time,
-            &cells[0..24],
-            k,
-            stack,
-            sights,
-        ),
+            &cells[24 + 24 * k..],
+            n - 1 - k,
+            &mut sights[2 + 2 * k..],
+        ) {
+            Walk::Damaged => Walk::Damaged,
+            Walk::Tree(m, y) => read_join(sort, k, x, m, y, sights),
+        },
     }
 }
 
@@ -242,27 +212,22 @@ fn running(
     if n == 129 {
         return State::Damaged;
     }
-    let mut stack = [0usize; 128];
-    match walk_units(
-        agreement,
-        places,
-        mains,
-        time,
-        &table[8..3080],
-        n,
-        &mut stack,
-        sights,
-    ) {
+    match walk_tree(agreement, places, mains, time, &table[8..3080], n, sights) {
         Walk::Damaged => State::Damaged,
-        Walk::Stacked(k) => if k == 1 {
-            State::Running(n)
-        } else {
-            State::Damaged
-        },
+        Walk::Tree(k, _) => {
+            if k != n {
+                return State::Damaged;
+            }
+            if zeros(&table[8 + 24 * n..3080]) {
+                State::Running(n)
+            } else {
+                State::Damaged
+            }
+        }
     }
 }
 
-// The state that a table shows. The sights get two numbers for each unit, its party parameters and its values in sight.
+// The state that a table shows. The sights get two numbers for each unit: its party parameters and its values in sight, or for a join the units of its left side and 0.
 pub fn state_of(
     agreement: &[u8],
     places: &[usize],

@@ -1,3 +1,4 @@
+-- Each activation within another falls in the pair of template number and clause size, or takes no reading where the one around it did; what its answer says of a part is what the rules say of the whole.
 use Rattle.rules.proofs.Sites.{ready-within, lighter-within, fits-within, ready-then, lighter-then, fits-then, ready-body, lighter-body, is-as, is-ends, is-breaks, laid, laid-length, fits-body, few-more}
 use Rattle.rules.proofs.Walks.{then-is}
 use Rattle.rules.proofs.Reduces.{is-counted}
@@ -6,6 +7,7 @@ use mathlib.Core.Path.{sym, _∙_}
 use lib.ListN.{length, take, drop, length-take}
 use lib.Seq.{length-take-le}
 use Rattle.csl.specs.Bytes.{part}
+use Rattle.arith.proofs.Lists.{length-part}
 use Rattle.csl.specs.Decode.{clause, headsOf}
 use Rattle.rules.specs.Leads.{Leads, Shaped, reduceAt, innerSite, weight}
 use borrow.Author.Needs.{needs}
@@ -44,19 +46,19 @@ use Rattle.rules.proofs.+act+activate+both+inside+unfold.{statement}
 use Rattle.rules.proofs.+act+activate+both+inside+unfold.Tie.{close}
 
 abbrev μ-act : Measures 7 act-kinds.ps ℕ
-μ-act κs a = 3 * weight (a .1 .1 .0) (a .1 .1 .1 .1 .0) + 1
+μ-act κs a = 3 * weight (a .1 .1 .0) (a .1 .1 .1 .1 .0) (length (a .1 .1 .1 .1 .1 .0 .now)) + 1
 
 abbrev μ-activate : Measures 7 activate-kinds.ps ℕ
-μ-activate κs a = 3 * weight (a .1 .1 .0) (a .1 .1 .1 .1 .0) + 2
+μ-activate κs a = 3 * weight (a .1 .1 .0) (a .1 .1 .1 .1 .0) (length (a .1 .1 .1 .1 .1 .0 .now)) + 2
 
 abbrev μ-both : Measures 7 both-kinds.ps ℕ
-μ-both κs a = 3 * weight (a .1 .1 .0) (a .1 .1 .1 .1 .0)
+μ-both κs a = 3 * weight (a .1 .1 .0) (a .1 .1 .1 .1 .0) (length (a .1 .1 .1 .1 .1 .0 .now))
 
 abbrev μ-inside : Measures 7 inside-kinds.ps ℕ
-μ-inside κs a = 3 * weight (a .1 .1 .0) (a .1 .1 .1 .1 .0)
+μ-inside κs a = 3 * weight (a .1 .1 .0) (a .1 .1 .1 .1 .0) (a .1 .1 .1 .1 .1 .1 .1 .0 - a .1 .1 .1 .1 .1 .1 .0) + 3
 
 abbrev μ-unfold : Measures 5 unfold-kinds.ps ℕ
-μ-unfold κs a = 3 * weight (a .1 .1 .0) (a .1 .1 .1 .1 .0)
+μ-unfold κs a = 3 * weight (a .1 .1 .0) (a .1 .1 .1 .1 .0) 0
 
 abbrev act-at : ℕ → In 7 act-kinds.ps
 act-at t = and 7 act-kinds.ps (is 7 act-kinds.ps μ-act t) act.Pre
@@ -139,7 +141,7 @@ act-part-activate-end t c = let s = c .before .before .before .before .before .b
 
 act-activate-requires : (t : ℕ) → act-lts.Need-activate-requires (act-claims t) (act-at t) act.Post
 unfolding Leads
-act-activate-requires t c κs = let s = c .before .before .before .before .before .before .before .before .before .before .before .before .before .before .before in let r = s .pre .1 .0 in let f = s .pre .1 .1 in let g = rw (c .before .before .before .before .before .before .before .x2 .given .1) at (c .before .before .before .before .before .before .before .before .before .before .leads-to .ensures) in let e = c .before .before .before .before .before .activated .ensures in let h = c .before .before .before .after .ensures in let n = c .before .before .before .before .byte .ensures .0 in (omega (arith, s .pre .0, lighter-then r (c .before .before .before .before .before .before .before .x2 .given .0 .0) e h n (g .deep) (g .follows)), (ready-then r (c .before .before .before .before .before .before .before .x2 .given .0 .0) e h n (g .deep) (omega (arith, length-take (c .before .before .before .before .before .before .before .x2 .given .0 .1 .1 .0) (c .before .before .before .before .before .before .before .before .before .before .leads-to .last .1 .1 .1 .1 .1 .1 .1 .1 .0), g .few)), fits-then f h (g .order) (g .inside) (omega arith)))
+act-activate-requires t c κs = let s = c .before .before .before .before .before .before .before .before .before .before .before .before .before .before .before in let r = s .pre .1 .0 in let f = s .pre .1 .1 in let g = rw (c .before .before .before .before .before .before .before .x2 .given .1) at (c .before .before .before .before .before .before .before .before .before .before .leads-to .ensures) in let e = c .before .before .before .before .before .activated .ensures in let h = c .before .before .before .after .ensures in let n = c .before .before .before .before .byte .ensures .0 in (omega (arith, s .pre .0, lighter-then r (c .before .before .before .before .before .before .before .x2 .given .0 .0) e h n (g .deep) (g .follows) (length (part (s .args .s .now) (c .before .before .before .before .before .before .before .x2 .given .0 .0) (c .before .before .before .before .before .before .before .x2 .given .0 .1 .0))) (length (s .args .s .now)) (omega (arith, length-part (s .args .s .now) (c .before .before .before .before .before .before .before .x2 .given .0 .0) (c .before .before .before .before .before .before .before .x2 .given .0 .1 .0) (g .inside), f .inside, f .near))), (ready-then r (c .before .before .before .before .before .before .before .x2 .given .0 .0) e h n (g .deep) (omega (arith, length-take (c .before .before .before .before .before .before .before .x2 .given .0 .1 .1 .0) (c .before .before .before .before .before .before .before .before .before .before .leads-to .last .1 .1 .1 .1 .1 .1 .1 .1 .0), g .few)), fits-then f h (g .order) (g .inside) (omega arith)))
 
 act-unfold-requires : (t : ℕ) → act-lts.Need-unfold-requires (act-claims t) (act-at t) act.Post
 unfolding Leads
@@ -194,7 +196,7 @@ unfolding Shaped
 activate-returns-3 t c = let s = c .before .before .before .before .before .before .before .before .before .before in let r = s .pre .1 .0 in let f = s .pre .1 .1 in let g = rw (c .before .before .before .before .k .given .1) at (c .before .before .before .before .before .before .outline .ensures (s .args .event) (s .args .rs .now) (s .args .agreement .now) (s .args .site .below) (s .args .site .place) (s .args .ps .now) (s .args .vs .now) (s .args .site .a)) in is-as (c .before .both .result) (c .before .both .last .1 .1 .1 .1 .1 .1 .1 .1 .1 .1 .0) (g .is) (c .before .both .ensures)
 
 both-activate-requires : (t : ℕ) → both-lts.Need-activate-requires (both-claims t) (both-at t) both.Post
-both-activate-requires t c κs = let s = c .before .before .before .before .before .before in let r = s .pre .1 .0 in let f = s .pre .1 .1 in let d = s .pre .1 .2 in let e = c .before .before .within .ensures in (omega (arith, s .pre .0, lighter-within r (s .args .f) e (d .deep)), (ready-within r (s .args .f) e (d .deep) (omega arith), fits-within f e (d .inside) (omega arith) (omega arith)))
+both-activate-requires t c κs = let s = c .before .before .before .before .before .before in let r = s .pre .1 .0 in let f = s .pre .1 .1 in let d = s .pre .1 .2 in let e = c .before .before .within .ensures in (omega (arith, s .pre .0, lighter-within r (s .args .f) e (d .deep) (length (part (s .args .s .now) (s .args .f) (length (s .args .s .now)))) (length (s .args .s .now)) (omega (arith, length-part (s .args .s .now) (s .args .f) (length (s .args .s .now)) (omega arith), d .order, d .inside))), (ready-within r (s .args .f) e (d .deep) (omega arith), fits-within f e (d .inside) (omega arith) (omega arith)))
 
 both-room-left-requires : (t : ℕ) → both-lts.Need-room-left-requires (both-claims t) (both-at t) both.Post
 both-room-left-requires t c κs = let s = c .before .before .before .before .before .before .before .before in is-counted (c .before .activate .last .1 .1 .1 .1 .1 .1 .1 .1 .0) (reduceAt (s .args .event) (s .args .rs .now) (s .args .agreement .now) (c .before .before .before .before .within .result) (part (s .args .s .now) (s .args .f) (length (s .args .s .now))) (s .args .ps .now) (s .args .vs .now)) (c .before .activate .result) (c .before .activate .ensures)
@@ -203,7 +205,7 @@ both-slice-aggregate-activate : (t : ℕ) → both-lts.Need-slice-aggregate-acti
 both-slice-aggregate-activate t c = sym (length-take-le (c .before .before .before .room-left .result) (c .before .before .before .before .before .activate .last .1 .1 .1 .1 .1 .1 .1 .1 .0) (omega (arith, c .before .before .before .room-left .ensures .1)))
 
 both-activate-requires-2 : (t : ℕ) → both-lts.Need-activate-requires-2 (both-claims t) (both-at t) both.Post
-both-activate-requires-2 t c κs = let s = c .before .before .before .before .before .before .before .before .before .before .before .before in let r = s .pre .1 .0 in let f = s .pre .1 .1 in let d = s .pre .1 .2 in let e = c .before .before .within2 .ensures in (omega (arith, s .pre .0, lighter-within r 4 e (d .deep)), (ready-within r 4 e (d .deep) (omega arith), fits-within f e (d .order) (d .inside) (omega (arith, length-take (c .before .before .before .room-left .result) (c .before .before .before .before .before .activate .last .1 .1 .1 .1 .1 .1 .1 .1 .0), c .before .before .before .before .before .activate .kept .1 .1 .1 .1 .1 .1 .1 .1 .0))))
+both-activate-requires-2 t c κs = let s = c .before .before .before .before .before .before .before .before .before .before .before .before in let r = s .pre .1 .0 in let f = s .pre .1 .1 in let d = s .pre .1 .2 in let e = c .before .before .within2 .ensures in (omega (arith, s .pre .0, lighter-within r 4 e (d .deep) (length (part (s .args .s .now) 4 (s .args .f))) (length (s .args .s .now)) (omega (arith, length-part (s .args .s .now) 4 (s .args .f) (d .inside), d .order, d .inside))), (ready-within r 4 e (d .deep) (omega arith), fits-within f e (d .order) (d .inside) (omega (arith, length-take (c .before .before .before .room-left .result) (c .before .before .before .before .before .activate .last .1 .1 .1 .1 .1 .1 .1 .1 .0), c .before .before .before .before .before .activate .kept .1 .1 .1 .1 .1 .1 .1 .1 .0))))
 
 both-join-requires : (t : ℕ) → both-lts.Need-join-requires (both-claims t) (both-at t) both.Post
 both-join-requires t c κs = let s = c .before .before .before .before .before .before .before .before .before .before .before .before .before .before .before in let r = s .pre .1 .0 in let f = s .pre .1 .1 in let d = s .pre .1 .2 in let o = c .before .before .before .before .before .before .before .before .activate .last .1 .1 .1 .1 .1 .1 .1 .1 .0 in let u = c .before .before .activate2 .last .1 .1 .1 .1 .1 .1 .1 .1 .0 in (d .from, d .to, is-counted u (reduceAt (s .args .event) (s .args .rs .now) (s .args .agreement .now) (c .before .before .before .before .before .within2 .result) (part (s .args .s .now) 4 (s .args .f)) (s .args .ps .now) (s .args .vs .now)) (c .before .before .activate2 .result) (c .before .before .activate2 .ensures), is-counted o (reduceAt (s .args .event) (s .args .rs .now) (s .args .agreement .now) (c .before .before .before .before .before .before .before .before .before .before .before .within .result) (part (s .args .s .now) (s .args .f) (length (s .args .s .now))) (s .args .ps .now) (s .args .vs .now)) (c .before .before .before .before .before .before .before .before .activate .result) (c .before .before .before .before .before .before .before .before .activate .ensures), rw (laid-length o u (c .before .before .before .before .before .before .before .before .activate .result) (c .before .before .before .before .before .before .room-left .result) (c .before .before .before .before .before .before .room-left .ensures .0) (c .before .before .before .before .before .before .room-left .ensures .1) (omega (arith, length-take (c .before .before .before .before .before .before .room-left .result) o, c .before .before .before .before .before .before .room-left .ensures .1, c .before .before .activate2 .kept .1 .1 .1 .1 .1 .1 .1 .1 .0)) (omega (arith, f .room, c .before .before .before .before .before .before .before .before .activate .kept .1 .1 .1 .1 .1 .1 .1 .1 .0))) (omega (arith, f .room, c .before .before .before .before .before .before .before .before .activate .kept .1 .1 .1 .1 .1 .1 .1 .1 .0)))
@@ -215,7 +217,7 @@ inside-within-requires : (t : ℕ) → inside-lts.Need-within-requires (inside-c
 inside-within-requires t c κs = let s = c .before .before .before in let f = s .pre .1 .1 in (s .pre .1 .2, omega (arith, s .pre .1 .3, s .pre .1 .4, f .inside, f .near))
 
 inside-activate-requires : (t : ℕ) → inside-lts.Need-activate-requires (inside-claims t) (inside-at t) inside.Post
-inside-activate-requires t c κs = let s = c .before .before .before .before .before .before in let r = s .pre .1 .0 in let f = s .pre .1 .1 in let d = s .pre .1 .2 in let e = c .before .before .within .ensures in (omega (arith, s .pre .0, lighter-within r (s .args .from) e d), (ready-within r (s .args .from) e d (s .pre .1 .5), fits-within f e (s .pre .1 .3) (s .pre .1 .4) (omega arith)))
+inside-activate-requires t c κs = let s = c .before .before .before .before .before .before in let r = s .pre .1 .0 in let f = s .pre .1 .1 in let d = s .pre .1 .2 in let e = c .before .before .within .ensures in (omega (arith, s .pre .0, lighter-within r (s .args .from) e d (length (part (s .args .s .now) (s .args .from) (s .args .to))) (s .args .to - s .args .from + 1) (omega (arith, length-part (s .args .s .now) (s .args .from) (s .args .to) (s .pre .1 .4)))), (ready-within r (s .args .from) e d (s .pre .1 .5), fits-within f e (s .pre .1 .3) (s .pre .1 .4) (omega arith)))
 
 inside-returns : (t : ℕ) → inside-lts.Need-returns (inside-claims t) (inside-at t) inside.Post
 inside-returns t c = rw (c .before .before .before .before .within .ensures) at (c .before .activate .ensures)
@@ -224,7 +226,7 @@ unfold-slice-aggregate-vs : (t : ℕ) → unfold-lts.Need-slice-aggregate-vs (un
 unfold-slice-aggregate-vs t c = let s = c .before .before .before .before .before .before in sym (length-take-le (c .before .value-count .result) (s .args .cells .now) (omega (arith, c .before .value-count .ensures .2, s .pre .1 .3)))
 
 unfold-activate-requires : (t : ℕ) → unfold-lts.Need-activate-requires (unfold-claims t) (unfold-at t) unfold.Post
-unfold-activate-requires t c κs = let s = c .before .before .before .before .before .before .before .before .before .before in let r = s .pre .1 .0 in let f = s .pre .1 .1 in let l = s .pre .1 .2 in let e = c .before .before .before .before .before .before .unfolded .ensures in let h = c .before .before .before .before .before .before .before .body .ensures in let n = c .before .before .before .before .before .value-count in let m = c .before .before .before .param-count in (omega (arith, s .pre .0, lighter-body r e l), (ready-body r e l (omega (arith, length-take (16 + m .result - 16) (drop 16 (s .args .cells .now)), m .ensures .1)) (omega (arith, length-take (n .result) (s .args .cells .now), n .ensures .2)), fits-body f e (h .2) (h .3) (omega arith)))
+unfold-activate-requires t c κs = let s = c .before .before .before .before .before .before .before .before .before .before in let r = s .pre .1 .0 in let f = s .pre .1 .1 in let l = s .pre .1 .2 in let e = c .before .before .before .before .before .before .unfolded .ensures in let h = c .before .before .before .before .before .before .before .body .ensures in let n = c .before .before .before .before .before .value-count in let m = c .before .before .before .param-count in (omega (arith, s .pre .0, lighter-body r e l (length (part (s .args .agreement .now) (c .before .before .before .before .before .before .before .body .result .from) (c .before .before .before .before .before .before .before .body .result .to))) (omega (arith, length-part (s .args .agreement .now) (c .before .before .before .before .before .before .before .body .result .from) (c .before .before .before .before .before .before .before .body .result .to) (h .3), f .near))), (ready-body r e l (omega (arith, length-take (16 + m .result - 16) (drop 16 (s .args .cells .now)), m .ensures .1)) (omega (arith, length-take (n .result) (s .args .cells .now), n .ensures .2)), fits-body f e (h .2) (h .3) (omega arith)))
 
 unfold-returns : (t : ℕ) → unfold-lts.Need-returns (unfold-claims t) (unfold-at t) unfold.Post
 unfold-returns t c = let s = c .before .before .before .before .before .before .before .before .before .before .before .before in let h = c .before .before .before .before .before .before .before .before .before .body .ensures in rw (c .before .before .before .before .before .before .before .before .unfolded .ensures, few-more 16 (c .before .before .before .before .before .param-count .result), h .0, h .1, c .before .before .before .before .before .param-count .ensures .0, c .before .before .before .before .before .before .before .value-count .ensures .1) at (c .before .activate .ensures)

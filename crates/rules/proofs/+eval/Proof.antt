@@ -1,3 +1,4 @@
+-- An expression's value is that of its parts, each one record deeper; a byte that is no expression has the value 0 on both sides.
 use borrow.Author.Needs.{needs}
 use Prim.Native.Nat.{ℕ, _<_}
 use native.Mathlib.Omega.{arith}

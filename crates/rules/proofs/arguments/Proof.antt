@@ -1,3 +1,4 @@
+-- After i expressions the first i cells are their values, and the next one begins where the last ended.
 use Rattle.rules.proofs.Instances.{Argued, argued-none, argued-more, argued-all}
 use native.Mathlib.Omega.{arith}
 use Rattle.rules.proofs.Waits.{clamped}

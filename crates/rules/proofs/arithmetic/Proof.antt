@@ -1,3 +1,4 @@
+-- One kind, one operator, each held at both ends.
 use borrow.Author.Needs.{needs}
 use Rattle.arith.proofs.Conds.{keys}
 use Rattle.csl.specs.Decode.{arithmeticOf}

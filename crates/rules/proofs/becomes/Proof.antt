@@ -1,3 +1,4 @@
+-- An activated wait waits, a forecast one is late, and one that a reading reaches has the fate that `follow` finds.
 use Rattle.rules.proofs.Waits.{becomes-waiting, becomes-late, becomes-followed}
 use Rattle.csl.specs.Decode.{waitAt, expr}
 use borrow.Author.Needs.{needs}

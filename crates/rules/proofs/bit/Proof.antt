@@ -1,3 +1,4 @@
+-- Sixteen parties, sixteen bits; any other number has none.
 use mathlib.Core.Path.{refl}
 use borrow.Author.Needs.{zero≤}
 use Rattle.csl.specs.Parties.{computes}

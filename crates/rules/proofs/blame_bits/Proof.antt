@@ -1,3 +1,4 @@
+-- The bit of the party that the blame byte stands for; a cell below 0 is no party.
 use Rattle.rules.proofs.Instances.{bits-below, bits-of, not-below}
 use mathlib.Core.Path.{_∙_}
 use borrow.Author.Needs.{sfits-of, needs}

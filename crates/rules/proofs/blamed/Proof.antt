@@ -1,3 +1,4 @@
+-- A byte below 128 is the party itself, any other names a cell of the parameters, 0 where there is none.
 use Rattle.rules.proofs.Instances.{blamed-party, blamed-param}
 use mathlib.Core.Path.{_∙_}
 use Rattle.arith.proofs.Ints.{read! }

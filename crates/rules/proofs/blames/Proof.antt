@@ -1,3 +1,4 @@
+-- After i bytes the first i cells are the parties that they stand for.
 use Rattle.rules.proofs.Instances.{blames-more, blames-all}
 use native.Mathlib.Omega.{arith}
 use mathlib.Core.Path.{_≡_, _∙_}

@@ -1,3 +1,4 @@
+-- A template's body begins behind its head, whose length the value count tells, and ends with the record.
 use Rattle.rules.proofs.Walks.{body-from}
 use native.Mathlib.Omega.{arith}
 use mathlib.Core.Path.{_∙_, ap}

@@ -1,3 +1,4 @@
+-- A cell that is not there reads as 0 on both sides.
 use borrow.Author.Needs.{needs}
 use mathlib.Core.Path.{sym}
 use lib.IntN.{pos}

@@ -1,3 +1,4 @@
+-- A choice waits, is late and goes on with its else, or is taken and goes on with its `then`: its fate decides.
 use Rattle.rules.proofs.Walks.{is-waits, is-late, is-taken, choice-waits, choice-late, choice-taken}
 use native.Mathlib.Omega.{arith}
 use mathlib.Core.Path.{refl, ap, _∙_}
@@ -22,7 +23,7 @@ returns : tie.Need-returns
 returns c = let s = c .before .before .before .before .before .before in λ ag below place. choice-waits (s .args .event) (s .args .reading .now) ag below (s .args .s .now) place (s .args .params .now) (s .args .values .now) (s .args .a) (s .args .depth) (s .pre .1) (s .args .cells .now) (is-waits (modeAt (s .args .event) (s .args .reading .now)) (s .args .values .now) (s .args .a) (waitAt (expr (s .args .depth - 1)) place (s .args .s .now) 4) (c .before .before .before .before .becomes .ensures place) (c .enum-told .given .1))
 
 returns-2 : tie.Need-returns-2
-returns-2 c = let s = c .before .before .before .before .before .before .before .before in λ ag below place. let f = is-late (modeAt (s .args .event) (s .args .reading .now)) (s .args .values .now) (s .args .a) (waitAt (expr (s .args .depth - 1)) place (s .args .s .now) 4) (c .before .before .before .before .before .before .becomes .ensures place) (c .before .before .fate .given .1) in let m = read! {z = c .before .before .fate .given .0 .0} (c .before .known-told .given .0 .1) in choice-late (s .args .event) (s .args .reading .now) ag below (s .args .s .now) place (s .args .params .now) (s .args .values .now) (s .args .a) (s .args .depth) (s .pre .1) (s .args .cells .now) (c .before .before .before .before .before .wait-end .ensures .0) (c .before .before .before .before .record-end .ensures .0) refl (c .before .before .before .before .record-end .ensures .1) (f .0) (f .1) (rw m at (c .moved .ensures))
+returns-2 c = let s = c .before .before .before .before .before .before .before .before in λ ag below place. let f = is-late (modeAt (s .args .event) (s .args .reading .now)) (s .args .values .now) (s .args .a) (waitAt (expr (s .args .depth - 1)) place (s .args .s .now) 4) (c .before .before .before .before .before .before .becomes .ensures place) (c .before .before .fate .given .1) in let m = read! {z = c .before .before .fate .given .0 .0} (c .before .known-told .given .0 .1) in choice-late (s .args .event) (s .args .reading .now) ag below (s .args .s .now) place (s .args .params .now) (s .args .values .now) (s .args .a) (s .args .depth) (s .pre .1) (s .args .cells .now) (c .before .before .before .before .before .wait-end .ensures .0) (c .before .before .before .before .record-end .ensures .0) refl (omega arith, c .before .before .before .before .record-end .ensures .1) (f .0) (f .1) (rw m at (c .moved .ensures))
 
 returns-3 : tie.Need-returns-3
 returns-3 c = let s = c .before .before .before .before .before .before .before .before .before .before in λ ag below place. let f = is-taken (modeAt (s .args .event) (s .args .reading .now)) (s .args .values .now) (s .args .a) (waitAt (expr (s .args .depth - 1)) place (s .args .s .now) 4) (c .before .before .before .before .before .before .before .before .becomes .ensures place) (c .before .before .before .before .fate2 .given .1) in let m = read! {z = c .before .before .before .before .fate2 .given .0 .0} (c .before .before .before .known-told2 .given .0 .1) in let v = c .before .then-values .ensures in choice-taken (s .args .event) (s .args .reading .now) ag below (s .args .s .now) place (s .args .params .now) (s .args .values .now) (s .args .a) (s .args .depth) (s .pre .1) (c .before .then-values .last .1 .1 .1 .1 .0) (omega arith, c .before .before .before .before .before .before .record-end .ensures .1) (v .1) (c .before .before .before .before .before .before .before .wait-end .ensures .0) (c .before .before .before .before .before .before .record-end .ensures .0) (f .0) (f .1) (v .0 ∙ ap (λ z. thenValues (s .args .values .now) (s .args .reading .now) (z -ℤ pos (s .args .event .time))) m)

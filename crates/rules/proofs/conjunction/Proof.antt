@@ -1,3 +1,4 @@
+-- A truth is any cell but 0, and the second one counts only where the first is true.
 use borrow.Author.Needs.{needs}
 use mathlib.Core.Path.{_∙_, ap}
 use Rattle.arith.proofs.Ints.{read}

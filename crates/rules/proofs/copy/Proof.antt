@@ -1,3 +1,4 @@
+-- After i cells the first i are the source's, and behind them nothing has changed.
 use borrow.Author.Needs.{needs}
 use mathlib.Core.Path.{_≡_, _∙_}
 use mathlib.Core.List.{_++_}

@@ -1,3 +1,4 @@
+-- Of two times the smaller one decides, and equal ones bring both sets.
 use Rattle.rules.proofs.Reduces.{earlier-left, earlier-right, earlier-both}
 use Rattle.rules.proofs.earlier_breach.Statement.{statement}
 use Rattle.rules.proofs.earlier_breach.Tie as tie

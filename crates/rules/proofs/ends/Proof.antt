@@ -1,3 +1,4 @@
+-- A record of any other kind decodes to a clause that does nothing, at every depth.
 use borrow.Author.Needs.{needs}
 use mathlib.Core.Bool.{false≢true}
 use native.Mathlib.Omega.{arith}

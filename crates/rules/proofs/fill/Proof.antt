@@ -1,3 +1,4 @@
+-- After the source's cells come zeros: the first loop copies, the second clears.
 use borrow.Author.Needs.{needs}
 use mathlib.Core.Path.{_≡_, refl, sym, ap, _∙_}
 use mathlib.Core.List.{_++_}

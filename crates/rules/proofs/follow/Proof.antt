@@ -1,3 +1,4 @@
+-- Late, not wanted, too early, refused by `where` and taken are tested in the paper's order.
 use Rattle.rules.proofs.Waits.{follow-late, follow-other, follow-early, follow-taken, follow-false}
 use Rattle.csl.specs.Decode.{waitAt, expr}
 use Rattle.rules.specs.Parts.{conditionOf}

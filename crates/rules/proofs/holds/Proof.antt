@@ -1,3 +1,4 @@
+-- `where` sees the values in sight and then the reading's.
 use Rattle.rules.proofs.Waits.{sight-long, sight-front, condition-is}
 use native.Mathlib.Omega.{arith}
 use lib.ListN.{replicate}

@@ -1,3 +1,4 @@
+-- The template lies below the bound and the bytes are used up exactly, so its values and parties are those of the instance.
 use Rattle.rules.proofs.Walks.{instance-past, instance-bad, instance-is}
 use native.Mathlib.Omega.{arith}
 use mathlib.Core.Path.{refl}

@@ -1,3 +1,4 @@
+-- A truth is any cell but 0.
 use borrow.Author.Needs.{needs}
 use Rattle.arith.proofs.Ints.{read}
 use Rattle.cells.specs.Evaluate.{isTrue}

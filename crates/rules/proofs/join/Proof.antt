@@ -1,3 +1,4 @@
+-- Kind 20 is `and`, and kind 21 is `or`.
 use Rattle.rules.proofs.Reduces.{as-join, join-first, join-second}
 use borrow.Author.Needs.{needs}
 use Rattle.rules.proofs.join.Statement.{statement}

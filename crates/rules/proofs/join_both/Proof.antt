@@ -1,3 +1,4 @@
+-- The nine pairs of outcomes, one by one: fulfilled vanishes, a breach decides, two residues are joined.
 use Rattle.csl.specs.Syntax.{and}
 use Rattle.rules.proofs.Reduces.{counted, both-done, both-breach-done, both-breaches, both-breach-running, both-running-done, both-running-breach, both-running, as-join, join-of-both}
 use borrow.Author.Needs.{needs}

@@ -1,3 +1,4 @@
+-- The nine pairs of outcomes, one by one: fulfilled decides, a breach leaves the other side, two residues are joined.
 use Rattle.csl.specs.Syntax.{or}
 use Rattle.rules.proofs.Reduces.{counted, either-done, either-breach-done, either-breaches, either-breach-running, either-running-done, either-running-breach, both-running, as-join, join-of-either}
 use borrow.Author.Needs.{needs}

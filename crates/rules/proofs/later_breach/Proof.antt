@@ -1,3 +1,4 @@
+-- Of two times the later one decides, the left one where they are equal.
 use Rattle.rules.proofs.Reduces.{later-left, later-right}
 use Rattle.rules.proofs.later_breach.Statement.{statement}
 use Rattle.rules.proofs.later_breach.Tie as tie

@@ -1,3 +1,4 @@
+-- The kind decides which rule it is, and a record that acts has one of four.
 use mathlib.Core.Path.{refl, sym}
 use Rattle.rules.proofs.Walks.{leads-body, acting-last}
 use Rattle.rules.proofs.Evaluates.{room}

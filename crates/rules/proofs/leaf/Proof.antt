@@ -1,3 +1,4 @@
+-- A literal's bytes or a value in sight; a record of another length has the value 0 on both sides.
 use borrow.Author.Needs.{needs}
 use mathlib.Core.Path.{_∙_, ap}
 use lib.ListN.{getD}

@@ -1,3 +1,4 @@
+-- The later of a natural time and any other is a natural time.
 use Rattle.rules.proofs.Waits.{moved-asked, moved-is}
 use borrow.Author.Needs.{needs}
 use Rattle.rules.proofs.moved.Statement.{statement}

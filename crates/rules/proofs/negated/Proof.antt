@@ -1,3 +1,4 @@
+-- A truth is any cell but 0, so its negation is 1 for 0 alone.
 use borrow.Author.Needs.{needs}
 use Rattle.arith.proofs.Ints.{read}
 use Rattle.arith.proofs.Conds.{conds}

@@ -1,3 +1,4 @@
+-- An obligation waits, is late and breached at the later of A and last, or is taken and goes on with its `then`: its fate decides.
 use Rattle.rules.proofs.Walks.{is-waits, is-late, is-taken, obligation-waits, obligation-late, obligation-taken}
 use Rattle.rules.proofs.Waits.{later-seen}
 use native.Mathlib.Omega.{arith}

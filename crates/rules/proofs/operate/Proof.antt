@@ -1,3 +1,4 @@
+-- One kind, one operator; the arithmetic ones are left for `arithmetic`.
 use borrow.Author.Needs.{needs}
 use mathlib.Core.Path.{_∙_, ap}
 use Rattle.arith.proofs.Conds.{keys}

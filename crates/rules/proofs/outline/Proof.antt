@@ -1,3 +1,4 @@
+-- Beside a side that does nothing an `and` is its other side, and an `or` is fulfilled; all else is as the kind says.
 use native.Mathlib.Omega.{arith}
 use Rattle.rules.proofs.Evaluates.{room}
 use Rattle.rules.proofs.Walks.{ends-zero, ends-none, ended, shaped-acts, sides-joined, sides-ended, right-goes, left-ends, left-goes, right-ends}

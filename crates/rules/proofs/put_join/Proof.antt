@@ -1,3 +1,4 @@
+-- The two residues stand one below the other at the end, so the join's unit below them makes one residue in prefix order; without room only the count is kept.
 use Rattle.rules.proofs.Reduces.{join-full, join-put}
 use borrow.Author.Needs.{needs}
 use Rattle.rules.proofs.put_join.Statement.{statement}

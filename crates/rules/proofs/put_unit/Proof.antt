@@ -1,3 +1,4 @@
+-- The unit takes the last 24 cells; without room only the count is kept.
 use borrow.Author.Needs.{needs}
 use Rattle.rules.proofs.Reduces.{put-short, put-long}
 use Rattle.rules.proofs.put_unit.Statement.{statement}

@@ -1,3 +1,4 @@
+-- A residue takes 24 cells for each of its units from the end, or all there is.
 use native.Mathlib.Omega.{arith}
 use Rattle.rules.proofs.Reduces.{counted, room-left, room-done, room-breach, room-none}
 use borrow.Author.Needs.{needs}

@@ -1,3 +1,4 @@
+-- An answer is its parts.
 use borrow.Author.Needs.{needs}
 use mathlib.Core.Path.{sym, ap, _∙_}
 use lib.IntN.{ℤ}

@@ -1,3 +1,4 @@
+-- The reading's values go behind those in sight.
 use Rattle.rules.proofs.Waits.{sight-is}
 use native.Mathlib.Omega.{arith}
 use lib.ListN.{length-append}

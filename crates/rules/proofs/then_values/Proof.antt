@@ -1,3 +1,4 @@
+-- The minutes left go behind the values in sight and the reading's, and at most 16 are seen.
 use Rattle.rules.proofs.Waits.{then-is, time-within, minus-is}
 use native.Mathlib.Omega.{arith}
 use Rattle.arith.proofs.Numbers.{sizes}

@@ -1,3 +1,4 @@
+-- A truth is 0 or 1.
 use mathlib.Core.Path.{refl}
 use Rattle.cells.specs.Evaluate.{truthCell}
 use Rattle.rules.proofs.Evaluates.{nought-held, one-held}

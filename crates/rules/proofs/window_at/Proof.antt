@@ -1,3 +1,4 @@
+-- The ends are exact sums: held numbers and a time that is near keep them within the word.
 use Rattle.rules.proofs.Waits.{time-within, time-size, window-is}
 use Rattle.arith.proofs.Numbers.{sizes}
 use borrow.Author.Needs.{needs}

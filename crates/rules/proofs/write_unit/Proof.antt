@@ -1,3 +1,4 @@
+-- Three cells, five for the parameters and sixteen for the values are the unit's 24, in this order.
 use borrow.Author.Needs.{needs}
 use mir.Syntax.{w64}
 use mir.Val.{toZ}

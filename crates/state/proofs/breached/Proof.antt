@@ -1,3 +1,4 @@
+-- A breached table shows its verdict exactly where the time lies from the start to the last reading time, the blamed are of the main clause, and all else is zero.
 use Rattle.state.proofs.Shows.{breached-late, breached-early, breached-wide, breached-nobody, breached-others, breached-used, breached-rest, breached-is}
 use Rattle.units.specs.Cells.{numberBelow}
 use Rattle.arith.proofs.Ints.{read! }
@@ -8,28 +9,44 @@ use Rattle.state.proofs.breached.Statement.{statement}
 use Rattle.state.proofs.breached.Tie as tie
 
 returns : tie.Need-returns
-returns c = λ sights. breached-late (c .before .before .before .before .args .table .now) (c .before .before .before .before .pre .0) (c .before .before .before .before .args .agreement .now) (c .before .before .before .before .pre .2) sights (c .before .number-below .ensures .0 ∙ ap (numberBelow (c .before .before .before .before .args .time + 1)) (read! (c .before .before .number-below-arg .given))) (c .if1 .taken)
+returns c =
+    let s = c .before .before .before .before in
+    λ sights. breached-late (s .args .table .now) (s .pre .0) (s .args .agreement .now) (s .pre .2) sights (c .before .number-below .ensures .0 ∙ ap (numberBelow (s .args .time + 1)) (read! (c .before .before .number-below-arg .given))) (c .if1 .taken)
 
 returns-2 : tie.Need-returns-2
-returns-2 c = λ sights. breached-early (c .before .before .before .before .before .before .args .table .now) (c .before .before .before .before .before .before .pre .0) (c .before .before .before .before .before .before .args .agreement .now) (c .before .before .before .before .before .before .pre .2) sights (c .before .before .before .number-below .ensures .0 ∙ ap (numberBelow (c .before .before .before .before .before .before .args .time + 1)) (read! (c .before .before .before .before .number-below-arg .given))) (c .before .before .if1 .left) (c .before .unsigned32 .ensures .0) (c .if2 .taken)
+returns-2 c =
+    let s = c .before .before .before .before .before .before in
+    λ sights. breached-early (s .args .table .now) (s .pre .0) (s .args .agreement .now) (s .pre .2) sights (c .before .before .before .number-below .ensures .0 ∙ ap (numberBelow (s .args .time + 1)) (read! (c .before .before .before .before .number-below-arg .given))) (c .before .before .if1 .left) (c .before .unsigned32 .ensures .0) (c .if2 .taken)
 
 returns-3 : tie.Need-returns-3
-returns-3 c = λ sights. breached-wide (c .before .before .before .before .before .before .before .before .before .args .table .now) (c .before .before .before .before .before .before .before .before .before .pre .0) (c .before .before .before .before .before .before .before .before .before .args .agreement .now) (c .before .before .before .before .before .before .before .before .before .pre .2) sights (c .before .number-below2 .ensures .0 ∙ ap (numberBelow 65_536) (read! (c .before .before .number-below-arg2 .given))) (c .if3 .taken)
+returns-3 c =
+    let s = c .before .before .before .before .before .before .before .before .before in
+    λ sights. breached-wide (s .args .table .now) (s .pre .0) (s .args .agreement .now) (s .pre .2) sights (c .before .number-below2 .ensures .0 ∙ ap (numberBelow 65_536) (read! (c .before .before .number-below-arg2 .given))) (c .if3 .taken)
 
 returns-4 : tie.Need-returns-4
-returns-4 c = λ sights. breached-nobody (c .before .before .before .before .before .before .before .before .before .before .args .table .now) (c .before .before .before .before .before .before .before .before .before .before .pre .0) (c .before .before .before .before .before .before .before .before .before .before .args .agreement .now) (c .before .before .before .before .before .before .before .before .before .before .pre .2) sights (c .before .before .number-below2 .ensures .0 ∙ ap (numberBelow 65_536) (read! (c .before .before .before .number-below-arg2 .given))) (c .before .before .number-below2 .ensures .1) (c .before .if3 .left) (c .if4 .taken)
+returns-4 c =
+    let s = c .before .before .before .before .before .before .before .before .before .before in
+    λ sights. breached-nobody (s .args .table .now) (s .pre .0) (s .args .agreement .now) (s .pre .2) sights (c .before .before .number-below2 .ensures .0 ∙ ap (numberBelow 65_536) (read! (c .before .before .before .number-below-arg2 .given))) (c .before .before .number-below2 .ensures .1) (c .before .if3 .left) (c .if4 .taken)
 
 returns-5 : tie.Need-returns-5
-returns-5 c = λ sights. breached-others (c .before .before .before .before .before .before .before .before .before .before .before .before .args .table .now) (c .before .before .before .before .before .before .before .before .before .before .before .before .pre .0) (c .before .before .before .before .before .before .before .before .before .before .before .before .args .agreement .now) (c .before .before .before .before .before .before .before .before .before .before .before .before .pre .2) sights (c .before .before .before .before .number-below2 .ensures .0 ∙ ap (numberBelow 65_536) (read! (c .before .before .before .before .before .number-below-arg2 .given))) (c .before .before .before .before .number-below2 .ensures .1) (c .before .before .before .if3 .left) (c .before .before .before .before .before .before .before .before .before .before .before .before .pre .1) (c .before .within .ensures) (c .if5 .taken)
+returns-5 c =
+    let s = c .before .before .before .before .before .before .before .before .before .before .before .before in
+    λ sights. breached-others (s .args .table .now) (s .pre .0) (s .args .agreement .now) (s .pre .2) sights (c .before .before .before .before .number-below2 .ensures .0 ∙ ap (numberBelow 65_536) (read! (c .before .before .before .before .before .number-below-arg2 .given))) (c .before .before .before .before .number-below2 .ensures .1) (c .before .before .before .if3 .left) (s .pre .1) (c .before .within .ensures) (c .if5 .taken)
 
 returns-6 : tie.Need-returns-6
-returns-6 c = λ sights. breached-used (c .before .before .before .before .before .before .before .before .before .before .before .before .before .before .before .args .table .now) (c .before .before .before .before .before .before .before .before .before .before .before .before .before .before .before .pre .0) (c .before .before .before .before .before .before .before .before .before .before .before .before .before .before .before .args .agreement .now) (c .before .before .before .before .before .before .before .before .before .before .before .before .before .before .before .pre .2) sights (c .before .zeros .ensures) (c .if6 .taken)
+returns-6 c =
+    let s = c .before .before .before .before .before .before .before .before .before .before .before .before .before .before .before in
+    λ sights. breached-used (s .args .table .now) (s .pre .0) (s .args .agreement .now) (s .pre .2) sights (c .before .zeros .ensures) (c .if6 .taken)
 
 returns-7 : tie.Need-returns-7
-returns-7 c = λ sights. breached-rest (c .before .before .before .before .before .before .before .before .before .before .before .before .before .before .before .before .before .before .args .table .now) (c .before .before .before .before .before .before .before .before .before .before .before .before .before .before .before .before .before .before .pre .0) (c .before .before .before .before .before .before .before .before .before .before .before .before .before .before .before .before .before .before .args .agreement .now) (c .before .before .before .before .before .before .before .before .before .before .before .before .before .before .before .before .before .before .pre .2) sights (c .before .zeros2 .ensures) (c .if7 .taken)
+returns-7 c =
+    let s = c .before .before .before .before .before .before .before .before .before .before .before .before .before .before .before .before .before .before in
+    λ sights. breached-rest (s .args .table .now) (s .pre .0) (s .args .agreement .now) (s .pre .2) sights (c .before .zeros2 .ensures) (c .if7 .taken)
 
 returns-8 : tie.Need-returns-8
-returns-8 c = λ sights. breached-is (c .before .before .before .before .before .before .before .before .before .before .before .before .before .before .before .before .before .before .before .args .table .now) (c .before .before .before .before .before .before .before .before .before .before .before .before .before .before .before .before .before .before .before .pre .0) (c .before .before .before .before .before .before .before .before .before .before .before .before .before .before .before .before .before .before .before .args .agreement .now) (c .before .before .before .before .before .before .before .before .before .before .before .before .before .before .before .before .before .before .before .pre .2) sights (c .before .before .before .before .before .before .before .before .before .before .before .before .before .before .before .before .number-below .ensures .0 ∙ ap (numberBelow (c .before .before .before .before .before .before .before .before .before .before .before .before .before .before .before .before .before .before .before .args .time + 1)) (read! (c .before .before .before .before .before .before .before .before .before .before .before .before .before .before .before .before .before .number-below-arg .given))) (c .before .before .before .before .before .before .before .before .before .before .before .before .before .before .before .if1 .left) (c .before .before .before .before .before .before .before .before .before .before .before .before .before .before .unsigned32 .ensures .0) (c .before .before .before .before .before .before .before .before .before .before .before .before .before .if2 .left) (c .before .before .before .before .before .before .before .before .before .before .before .number-below2 .ensures .0 ∙ ap (numberBelow 65_536) (read! (c .before .before .before .before .before .before .before .before .before .before .before .before .number-below-arg2 .given))) (c .before .before .before .before .before .before .before .before .before .before .before .number-below2 .ensures .1) (c .before .before .before .before .before .before .before .before .before .before .if3 .left) (c .before .before .before .before .before .before .before .before .before .if4 .left) (c .before .before .before .before .before .before .before .before .before .before .before .before .before .before .before .before .before .before .before .pre .1) (c .before .before .before .before .before .before .before .before .within .ensures) (c .before .before .before .before .before .before .before .if5 .left) (c .before .before .before .before .before .zeros .ensures) (c .before .before .before .before .if6 .left) (c .before .before .zeros2 .ensures) (c .before .if7 .left) (read! (c .t .given))
+returns-8 c =
+    let s = c .before .before .before .before .before .before .before .before .before .before .before .before .before .before .before .before .before .before .before in
+    λ sights. breached-is (s .args .table .now) (s .pre .0) (s .args .agreement .now) (s .pre .2) sights (c .before .before .before .before .before .before .before .before .before .before .before .before .before .before .before .before .number-below .ensures .0 ∙ ap (numberBelow (s .args .time + 1)) (read! (c .before .before .before .before .before .before .before .before .before .before .before .before .before .before .before .before .before .number-below-arg .given))) (c .before .before .before .before .before .before .before .before .before .before .before .before .before .before .before .if1 .left) (c .before .before .before .before .before .before .before .before .before .before .before .before .before .before .unsigned32 .ensures .0) (c .before .before .before .before .before .before .before .before .before .before .before .before .before .if2 .left) (c .before .before .before .before .before .before .before .before .before .before .before .number-below2 .ensures .0 ∙ ap (numberBelow 65_536) (read! (c .before .before .before .before .before .before .before .before .before .before .before .before .number-below-arg2 .given))) (c .before .before .before .before .before .before .before .before .before .before .before .number-below2 .ensures .1) (c .before .before .before .before .before .before .before .before .before .before .if3 .left) (c .before .before .before .before .before .before .before .before .before .if4 .left) (s .pre .1) (c .before .before .before .before .before .before .before .before .within .ensures) (c .before .before .before .before .before .before .before .if5 .left) (c .before .before .before .before .before .zeros .ensures) (c .before .before .before .before .if6 .left) (c .before .before .zeros2 .ensures) (c .before .if7 .left) (read! (c .t .given))
 
 pub breached-spec : {M : Type 1} → statement M
 breached-spec = tie.close (tie.spec

@@ -1,19 +1,28 @@
+-- A fulfilled table shows a run exactly where all of its other cells are zero.
 use Rattle.state.proofs.Shows.{fulfilled-head, fulfilled-used, fulfilled-rest, fulfilled-is}
 use borrow.Author.Needs.{needs}
 use Rattle.state.proofs.fulfilled.Statement.{statement}
 use Rattle.state.proofs.fulfilled.Tie as tie
 
 returns : tie.Need-returns
-returns c = λ a time sights h. fulfilled-head (c .before .before .before .args .table .now) (c .before .before .before .pre) a h sights (c .before .zeros .ensures) (c .if1 .taken)
+returns c =
+    let s = c .before .before .before in
+    λ a time sights h. fulfilled-head (s .args .table .now) (s .pre) a h sights (c .before .zeros .ensures) (c .if1 .taken)
 
 returns-2 : tie.Need-returns-2
-returns-2 c = λ a time sights h. fulfilled-used (c .before .before .before .before .before .before .args .table .now) (c .before .before .before .before .before .before .pre) a h sights (c .before .zeros2 .ensures) (c .if2 .taken)
+returns-2 c =
+    let s = c .before .before .before .before .before .before in
+    λ a time sights h. fulfilled-used (s .args .table .now) (s .pre) a h sights (c .before .zeros2 .ensures) (c .if2 .taken)
 
 returns-3 : tie.Need-returns-3
-returns-3 c = λ a time sights h. fulfilled-is (c .before .before .before .before .before .before .before .before .before .args .table .now) (c .before .before .before .before .before .before .before .before .before .pre) a h sights (c .before .before .before .before .before .before .before .zeros .ensures) (c .before .before .before .before .before .before .if1 .left) (c .before .before .before .before .zeros2 .ensures) (c .before .before .before .if2 .left) (c .before .zeros3 .ensures) (c .if3 .taken)
+returns-3 c =
+    let s = c .before .before .before .before .before .before .before .before .before in
+    λ a time sights h. fulfilled-is (s .args .table .now) (s .pre) a h sights (c .before .before .before .before .before .before .before .zeros .ensures) (c .before .before .before .before .before .before .if1 .left) (c .before .before .before .before .zeros2 .ensures) (c .before .before .before .if2 .left) (c .before .zeros3 .ensures) (c .if3 .taken)
 
 returns-4 : tie.Need-returns-4
-returns-4 c = λ a time sights h. fulfilled-rest (c .before .before .before .before .before .before .before .before .before .args .table .now) (c .before .before .before .before .before .before .before .before .before .pre) a h sights (c .before .zeros3 .ensures) (c .if3 .left)
+returns-4 c =
+    let s = c .before .before .before .before .before .before .before .before .before in
+    λ a time sights h. fulfilled-rest (s .args .table .now) (s .pre) a h sights (c .before .zeros3 .ensures) (c .if3 .left)
 
 pub fulfilled-spec : {M : Type 1} → statement M
 fulfilled-spec = tie.close (tie.spec

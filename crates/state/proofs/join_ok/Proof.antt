@@ -1,4 +1,5 @@
-use Rattle.state.proofs.Stacks.{join-and, join-or}
+-- An `and` may join any parties, an `or` those of one member.
+use Rattle.state.proofs.Trees.{join-and, join-or}
 use borrow.Author.Needs.{needs}
 use Rattle.state.proofs.join_ok.Statement.{statement}
 use Rattle.state.proofs.join_ok.Tie as tie

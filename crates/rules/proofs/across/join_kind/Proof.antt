@@ -1,9 +1,10 @@
+-- Of the two sorts of a join the test tells the one, and what is left is the other.
 use borrow.Author.Needs.{needs}
 use mathlib.Core.Path.{_∙_}
 use native.Mathlib.Omega.{arith}
 use lib.IntN.{pos}
 use lib.ListN.{getD}
-use Rattle.rules.proofs.Stack.{sort-is, kind-both, kind-either}
+use Rattle.rules.proofs.Sorts.{sort-is, kind-both, kind-either}
 use Rattle.rules.proofs.across.join_kind.Statement.{statement}
 use Rattle.rules.proofs.across.join_kind.Tie as tie
 

@@ -1,3 +1,4 @@
+-- A cell that is a natural number is below half of the word's range, so nothing is lost.
 use mathlib.Core.Path.{ap, _∙_}
 use lib.IntN.{natAbs}
 use Rattle.arith.proofs.Ints.{read, index-asked}

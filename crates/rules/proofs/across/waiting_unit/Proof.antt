@@ -1,14 +1,14 @@
+-- The unit's clause stands at its place and its cells hold what is in sight there, so activating it at the unit's own time is the rule at that unit.
 use borrow.Author.Needs.{needs}
-use mathlib.Core.Path.{_≡_, sym, ap, _∙_, subst}
-use Prim.Native.Nat.{_+_, _-_, _*_, _≤_}
+use mathlib.Core.Path.{_≡_, ap, _∙_}
+use Prim.Native.Nat.{_+_, _≤_}
 use native.Mathlib.Omega.{arith}
 use lib.IntN.{pos}
-use lib.ListN.{length, getD, take, drop}
-use Rattle.csl.specs.Bytes.{byte, part, recordEnd}
+use lib.ListN.{length, getD}
+use Rattle.csl.specs.Bytes.{byte}
 use Rattle.cells.specs.Across.{natOf}
 use Rattle.arith.proofs.Ints.{read! }
 use Rattle.arith.proofs.Lists.{length-part}
-use Rattle.rules.specs.Reduces.{Is}
 use Rattle.rules.proofs.Natural.{natural-asked, cell-at, nat-at, unit-at}
 use Rattle.rules.proofs.across.waiting_unit.Statement.{statement}
 use Rattle.rules.proofs.across.waiting_unit.Tie as tie

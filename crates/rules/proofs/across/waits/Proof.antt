@@ -1,7 +1,8 @@
+-- A negative sort reads as 0 in the definition and is below 20 in the test: both say that it waits.
 use borrow.Author.Needs.{needs}
 use lib.IntN.{pos}
 use lib.ListN.{getD}
-use Rattle.rules.proofs.Stack.{sort-below}
+use Rattle.rules.proofs.Sorts.{sort-below}
 use Rattle.rules.proofs.across.waits.Statement.{statement}
 use Rattle.rules.proofs.across.waits.Tie as tie
 

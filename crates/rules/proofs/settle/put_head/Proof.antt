@@ -1,3 +1,4 @@
+-- Eight cells and zeros behind them.
 use borrow.Author.Needs.{needs}
 use native.Mathlib.Omega.{arith}
 use Rattle.arith.proofs.Ints.{read}

@@ -1,3 +1,4 @@
+-- The head and zeros are written, then the residue's units behind the head: that is the run's table; where the units are too many nothing is written.
 use borrow.Author.Needs.{needs}
 use mathlib.Core.Path.{refl, _∙_}
 use Prim.Native.Nat.{ℕ, _-_, _*_, _≤_}
@@ -5,6 +6,7 @@ use native.Mathlib.Omega.{arith}
 use lib.ListN.{length, drop, length-drop}
 use lib.Seq.{take-all}
 use Rattle.arith.proofs.Ints.{read, read! }
+use Rattle.arith.proofs.Lists.{length-part}
 use Rattle.rules.proofs.Settled.{unsettled, settled-done, settled-breach, settled-running}
 use Rattle.rules.proofs.settle.settle.Statement.{statement}
 use Rattle.rules.proofs.settle.settle.Tie as tie
@@ -36,6 +38,15 @@ fits c = (rw (c .before .before .before .before .before .r2 .given .1) at (c .be
 sub-from : tie.Need-sub-from
 sub-from c = omega (arith, fits c)
 
+copy-units-requires : tie.Need-copy-units-requires
+copy-units-requires c κs =
+    let s = c .before .before .before .before .before .before .before .before .before in
+    let n : ℕ = c .before .before .before .before .before .before .before .r2 .given .0 .0 in
+    let out = s .args .out .now in
+    let t = c .before .before .before .put-head3 .last .0 in
+    let room = fits (c .before .before) in
+    (length-part out (length out - 24 * n) (length out) (omega arith) ∙ omega arith, omega (arith, length-part t 8 (length t) (omega arith)))
+
 returns-4 : tie.Need-returns-4
 returns-4 c =
     let s = c .before .before .before .before .before .before .before .before .before .before .before in
@@ -44,11 +55,11 @@ returns-4 c =
     let room = fits (c .before .before .before .before) in
     let from : ℕ = length (s .args .out .now) - 24 * n in
     let part = take-all (length (s .args .out .now) - from) (drop from (s .args .out .now)) (rw (length-drop from (s .args .out .now)) (omega arith)) in
-    settled-running _ (s .args .out .now) (s .args .table .now) (read (s .fits .time) ∙ s .pre .2) n (omega (arith, c .before .before .before .before .before .before .before .if1 .left)) room (c .before .before .before .before .before .put-head3 .last .0) (c .before .copy .last .0) (c .before .before .before .before .before .put-head3 .ensures) (rw part at (c .before .copy .ensures)) (r .1)
+    settled-running _ (s .args .out .now) (s .args .table .now) (read (s .fits .time) ∙ s .pre .2) n (omega (arith, c .before .before .before .before .before .before .before .if1 .left)) room (c .before .before .before .before .before .put-head3 .last .0) (c .before .copy-units .last .0) (c .before .before .before .before .before .put-head3 .ensures) (rw part at (c .before .copy-units .ensures)) (r .1)
 
 pub settle-spec : {M : Type 1} → statement M
 settle-spec = tie.close (tie.spec
     (λ c. search needs) (λ c κs. search needs) (λ c. search needs) put-head-requires-2 (λ c. search needs) returns
     (λ c κs. search needs) (λ c. search needs) sub-from (λ c. search needs) (λ c. search needs) (λ c. search needs)
-    (λ c. search needs) (λ c. search needs) (λ c. search needs) (λ c. search needs) (λ c κs. search needs)
+    (λ c. search needs) (λ c. search needs) (λ c. search needs) (λ c. search needs) copy-units-requires
     (λ c. search needs) returns-2 (λ c. search needs) returns-3 (λ c. search needs) returns-4)
