@@ -12,7 +12,7 @@ use Rattle.csl.specs.Numbers.{plus}
 use Rattle.csl.specs.Syntax.{number, truth, party, arithmetic, conj, less, equal, Expr, numberLit, truthLit, partyLit, variable, negation, binary, badExpr, Op, Join, and, or, Wait, Clause, fulfilled, obligation, choice, if, join, instance, badClause, Template, Agreement}
 use Rattle.csl.specs.Decode.{countsOk, sized}
 use Rattle.csl.specs.Check.{Checked, refused, accepted, checked, checkDecoded, checkTyped, checkOf}
-use Rattle.csl.specs.Values.{Val, num, bool, who, eval}
+use Rattle.csl.specs.Values.{Val, num, bool, who, valuesOf, eval}
 use Rattle.csl.specs.Outcomes.{Sight, Sort, anObligation, aChoice, Residue, unit, both, Outcome, done, breach, running, stuck, joined}
 use Rattle.csl.specs.Run.{Run, Stepped, started, step}
 use Rattle.csl.specs.Rules.{activate}
@@ -45,7 +45,8 @@ refusesAll n k b = record {
   shown = checks (checkOf b) ∷ answers (startOf b (pos 5 ∷ [])) ∷ answers
       (readingOf b (pos 5 ∷ []) []) ∷ forecasts (forecastOf b (pos 5 ∷ [])) ∷ [];
   expected = checks
-      (record { number = k; parties = 0 }) ∷ gives k (pos 5 ∷ []) ∷ gives k (pos 5 ∷ []) ∷ forecasts (refusedForecast k)
+      (record { number = k; parties = 0 }) ∷ gives k (pos 5 ∷ []) ∷ gives k (pos 5 ∷ []) ∷ forecasts
+      (refusedForecast k)
       ∷ [];
 }
 
@@ -346,7 +347,7 @@ records =
     (holds true ∷ holds false ∷ [])
     ∷ refusesAll "2: only a header" 2 (recordOf 1 [])
     ∷ refuses "kind 15 for a clause" 2 (main (recordOf 15 []))
-    ∷ refuses "kind 23 for a clause" 2 (main (recordOf 23 []))
+    ∷ refuses "kind 23 for a clause" 2 (main (recordOf 23 (nothing ++ nothing)))
     ∷ refuses "kind 272 for a clause" 2 (main (recordOf 272 []))
     ∷ refuses "kind 31 for an expression" 2 (main (asking (recordOf 31 (1 ∷ []))))
     ∷ refuses "kind 44 for an expression" 2 (main (asking (recordOf 44 (one ++ one))))
@@ -381,6 +382,8 @@ records =
     ∷ refuses "a body's clauses nested 25 deep" 2 (beside (template 0 (nested (all′ nothing) 22 nothing) ∷ []))
     ∷ accepts "expressions nested 24 deep" 1 (main (asking (nested opposite 21 yes′)))
     ∷ refuses "expressions nested 25 deep" 2 (main (asking (nested opposite 22 yes′)))
+    ∷ refuses "a clause's length" 2 (main (saying 5 16 []))
+    ∷ refuses "an expression's length" 2 (main (asking (op 41 yes′ (saying 6 33 (1 ∷ [])))))
     ∷ refuses "a byte left in a number" 2 (main (afterIs (recordOf 32 (le4 1 ++ (0 ∷ [])))))
     ∷ refuses "a byte left in a truth" 2 (main (asking (recordOf 33 (1 ∷ 0 ∷ []))))
     ∷ refuses "a byte left in a party" 2 (main (asking (op 43 (recordOf 34 (1 ∷ 0 ∷ [])) (partyOf 1))))
@@ -429,6 +432,7 @@ types =
     ∷ refuses "true + true" 3 (main (withinIs (op 37 yes′ yes′)))
     ∷ refuses "1 and true" 3 (main (asking (op 41 one yes′)))
     ∷ refuses "true and 1" 3 (main (asking (op 41 yes′ one)))
+    ∷ refuses "1 and 1" 3 (main (asking (op 41 one one)))
     ∷ refuses "true < 1" 3 (main (asking (op 42 yes′ one)))
     ∷ refuses "1 < true" 3 (main (asking (op 42 one yes′)))
     ∷ refuses "a party < a party" 3 (main (asking (op 42 (partyOf 0) (partyOf 1))))
@@ -492,6 +496,8 @@ types =
     ∷ refuses "an instance's declared party, not declared" 3 (named 2 1 (call 0))
     ∷ refuses "an instance's blame, not declared" 3
     (beside (templateOf [] 1 0 nothing ∷ template 1 (inst 0 [] (1 ∷ [])) ∷ []))
+    ∷ accepts "the last of 16 declared parties" 32_768
+    (agreementOf 16 (aNumber ∷ []) (template 32_768 nothing ∷ []) (call 0))
     ∷ accepts "parties of an if" 3 (main (ifs yes′ (simply 0 (pos 60)) (simply 1 (pos 60))))
     ∷ accepts "parties of a join" 3 (main (all′ (simply 0 (pos 60)) (simply 1 (pos 60))))
     ∷ accepts "parties of a choice" 3 (main (may yes′ (pos 0) (pos 60) (simply 0 (pos 60)) (simply 1 (pos 60))))
@@ -596,6 +602,7 @@ widths =
     (both′ (calls 5) (both′ (calls 3)
     (both′ (calls 1) (both′ (both′ (next′ widest) fulfilled) (both′ badClause (next′ widest))))))
     ∷ over "257" [] tooWide
+    ∷ over "257 by an obligation" [] (wide′ (both′ (next′ fulfilled) fulfilled))
     ∷ over "257 by an if" [] (wide′ (if′ fulfilled fulfilled))
     ∷ over "257 by an if's first side" [] (if′ (wide′ fulfilled) fulfilled)
     ∷ over "257 by an if's second side" [] (if′ fulfilled (wide′ fulfilled))
@@ -691,6 +698,29 @@ sound =
 unfoldable pub ends : ℕ → Outcome → Seen
 ends now o = reads (some (record { lastTime = now; outcome = o }))
 
+-- waiting clauses in each place of a `then`, which sees a value and the remaining time, and in a template of two parameters
+unfoldable pub sights : List ℕ
+sights = agreementOf 3 (aNumber ∷ [])
+    (templateOf (1 ∷ []) 2 0 (may yes′ (pos 0) (pos 60) (simply 128 (pos 60)) (simply 129 (pos 60))) ∷ [])
+    (next (all′ (ifs yes′ (simply 0 (pos 60)) (simply 0 (pos 60)))
+    (may yes′ (pos 0) (pos 60) (simply 0 (pos 60)) (simply 0 (pos 60)))))
+
+unfoldable pub alone : ℕ → ℕ → List ℤ → List ℤ → List ℤ
+alone s p qs vs = short 120 (unitOf s p 110 qs vs ∷ [])
+
+unfoldable pub alone′ : Sort → ℕ → List ℕ → List ℕ → Seen
+alone′ s p qs ns = running′ 120 (unit s p 110 (record { params = qs; values = nums ns }))
+
+unfoldable pub inPlace : List (List ℤ)
+inPlace =
+    alone 17 154 [] (pos 7 ∷ pos 50 ∷ [])
+    ∷ alone 17 185 [] (pos 7 ∷ pos 50 ∷ [])
+    ∷ alone 18 216 [] (pos 7 ∷ pos 50 ∷ [])
+    ∷ alone 17 242 [] (pos 7 ∷ pos 50 ∷ pos 8 ∷ pos 20 ∷ [])
+    ∷ alone 17 273 [] (pos 7 ∷ pos 50 ∷ [])
+    ∷ alone 18 26 (pos 0 ∷ pos 0 ∷ []) (pos 9 ∷ [])
+    ∷ alone 18 26 (pos 0 ∷ pos 2 ∷ []) (pos 9 ∷ []) ∷ []
+
 unfoldable pub tables : List Trial
 tables =
     shows "tables that show a run" (readBy (checked mixed) sound) (
@@ -700,8 +730,17 @@ tables =
     ∷ running′ 110 (both and (both or (lent′ 1 0) (lent′ 1 1)) (lent′ 0 2))
     ∷ ends 100 done ∷ ends 4_294_967_295 done
     ∷ ends 170 (breach 160 (0 ∷ 1 ∷ [])) ∷ ends 170 (by 100 1) ∷ ends 170 (by 170 0) ∷ [])
+    ∷ shows "in each place what is in sight there; the last with a party not of the main clause"
+    (readBy (checked sights) inPlace) (
+    alone′ anObligation 154 [] (7 ∷ 50 ∷ [])
+    ∷ alone′ anObligation 185 [] (7 ∷ 50 ∷ [])
+    ∷ alone′ aChoice 216 [] (7 ∷ 50 ∷ [])
+    ∷ alone′ anObligation 242 [] (7 ∷ 50 ∷ 8 ∷ 20 ∷ [])
+    ∷ alone′ anObligation 273 [] (7 ∷ 50 ∷ [])
+    ∷ alone′ aChoice 26 (0 ∷ 0 ∷ []) (9 ∷ [])
+    ∷ reads none ∷ [])
     ∷ rejects "7: a state that is none"
-    (set 0 (pos 0) good ∷ set 0 (pos 4) good ∷ set 0 (negsuc 0) good ∷ take 7 good ∷ [])
+    (set 0 (pos 0) good ∷ set 0 (pos 4) good ∷ set 0 (negsuc 0) good ∷ take 7 (full 100) ∷ [])
     ∷ rejects "7: a last reading time outside its range"
     (full 99 ∷ set 1 (negsuc 0) (full 100) ∷ full 4_294_967_296 ∷ set 1 (pos 4_294_967_296) good ∷ [])
     ∷ rejects "7: a breach time, parties or a zero while running"
@@ -711,7 +750,8 @@ tables =
     (filled 8 (pos 1 ∷ pos 110 ∷ pos 0 ∷ pos 0 ∷ pos 129 ∷ []) ++
     (flat (replicate 64 (joinOf 20)) ++ flat (replicate 65 (lent 1 1)))) ∷ [])
     ∷ rejects "7: joins without sides, two residues"
-    (short 110 (joinOf 20 ∷ []) ∷ short 110 (joinOf 21 ∷ lent 1 1 ∷ []) ∷ short 110 (lent 1 1 ∷ lent 1 1 ∷ []) ∷ [])
+    (short 110 (joinOf 20 ∷ []) ∷ short 110 (joinOf 21 ∷ lent 1 1 ∷ []) ∷ short 110 (lent 1 1 ∷ joinOf 20 ∷ [])
+    ∷ short 110 (lent 1 1 ∷ lent 1 1 ∷ []) ∷ [])
     ∷ rejects "7: a unit's sort"
     (alter 4 0 (pos 16) ∷ alter 4 0 (pos 19) ∷ alter 4 0 (pos 22) ∷ alter 4 0 (negsuc 16) ∷ alter 4 0 (pos 18)
     ∷ alter 1 0 (pos 17) ∷ [])
@@ -727,7 +767,8 @@ tables =
     (alter 0 1 (pos 68) ∷ alter 2 23 (negsuc 0) ∷ alter 5 0 (pos 1) ∷ alter 5 23 (negsuc 0) ∷ [])
     ∷ rejects "7: parties beside an `or`, a party not of the main clause"
     (short 110 (units′ 20 21 (pos 7) 1 0 100) ∷ short 110 (units′ 21 20 (pos 7) 1 1 100) ∷ short 110 (lent 2 1 ∷ [])
-    ∷ [])
+    ∷ short 110 (joinOf 21 ∷ joinOf 20 ∷ lent 1 1 ∷ lent 0 1 ∷ lent 1 1 ∷ [])
+    ∷ short 110 (joinOf 21 ∷ joinOf 20 ∷ lent 0 1 ∷ lent 1 1 ∷ lent 1 1 ∷ []) ∷ [])
     ∷ rejects "7: a fulfilled table with more"
     (set 2 (pos 105) (full 110) ∷ set 3 (pos 1) (full 110) ∷ set 4 (pos 1) (full 110) ∷ set 39 (pos 1) (full 110)
     ∷ [])
@@ -781,6 +822,10 @@ op′ o a b = evaluates (eval [] (binary o a b))
 unfoldable pub still : Outcome → Run
 still o = record { lastTime = 5; outcome = o }
 
+unfoldable pub tooFew : Option (List Val × List ℤ) → Bool
+tooFew none = true
+tooFew (some vs) = false
+
 unfoldable pub unreached : List Trial
 unreached =
     shows "untyped clauses" (asked badClause ∷ asked (if badExpr fulfilled fulfilled) ∷ asked (calls 7) ∷ asked
@@ -801,6 +846,7 @@ unreached =
     (step (laddered [] fulfilled) (still stuck) (mark 9)) done ∷ [])
     (gives 0 [] ∷ forecasts noForecast ∷ forecasts noForecast ∷ becomes stuck ∷ steps
     (record { number = 0; run = still stuck }) done ∷ [])
+    ∷ shows "fewer values than types" (holds (tooFew (valuesOf 2 (number ∷ []) [])) ∷ []) (holds true ∷ [])
     ∷ shows "only what waits has a sort"
     (map (λ c. holds (isSort anObligation c))
     (fulfilled ∷ if′ fulfilled fulfilled ∷ both′ fulfilled fulfilled ∷ calls 0 ∷ badClause ∷ []))
@@ -812,5 +858,5 @@ further = runs ++ (joins ++ (readings ++
     (records ++ (types ++ (guards ++ (widths ++ (tables ++ (entries ++ unreached))))))))
 
 pub further-pass : map (λ t. t .shown) further ≡ map (λ t. t .expected) further
-unfolding harness accepts refuses refusesAll stepsOf runSeen obeys after waits owed chosen by shows saying nested one asking afterIs withinIs next otherwise chooses main aNumber counting template beside call lending every is isNot calculated most least sums equations taken chain nums runs pairs becoming left right joins values refused′ readings records named inSight types guards ladder wide calls both′ body ladder′ wide′ waiting next′ either′ if′ widest tooWide laddered narrow over widths mixed lent offered units′ short good ended broke full set alter readBy rejects running′ lent′ residue sound ends tables begun two crowd entries bare asked op′ still unreached further
+unfolding harness accepts refuses refusesAll stepsOf runSeen obeys after waits owed chosen by shows saying nested one asking afterIs withinIs next otherwise chooses main aNumber counting template beside call lending every is isNot calculated most least sums equations taken chain nums runs pairs becoming left right joins values refused′ readings records named inSight types guards ladder wide calls both′ body ladder′ wide′ waiting next′ either′ if′ widest tooWide laddered narrow over widths mixed lent offered units′ short good ended broke full set alter readBy rejects running′ lent′ residue sound ends sights alone alone′ inPlace tables begun two crowd entries bare asked op′ still tooFew unreached further
 further-pass = refl
