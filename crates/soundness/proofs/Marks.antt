@@ -98,7 +98,7 @@ shown-none stuck e = let z : _≡_ {A = ℕ} 0 1 = cc in absurd (omega arith)
 
 -- ---- of a checked agreement
 module _ (bytes : List ℕ) (a : Agreement) (mains : List ℕ) (ck : checked bytes ≡ accepted a mains) where
-  pub forecast-is : (cells : List ℤ) (q : Run) → length cells ≡ 3080 → runOf a mains cells ≡ some q → forecastOf bytes cells ≡ shown (forecastRun a q)
+  forecast-is : (cells : List ℤ) (q : Run) → length cells ≡ 3080 → runOf a mains cells ≡ some q → forecastOf bytes cells ≡ shown (forecastRun a q)
   unfolding forecastOf
   forecast-is cells q h e =
       ap (λ c. elim c [ refused n ↦ refusedForecast n | accepted a ps ↦ elim (isTable cells) [ false ↦ refusedForecast 6 | true ↦ elim (runOf a ps cells) [ none ↦ refusedForecast 7 | some x ↦ shown (forecastRun a x) ] ] ]) ck
