@@ -1,5 +1,5 @@
 -- What the entries answer, from the rules on cells: code that is proved against those answers as csl says.
--- Main theorems: `start-activate`, `reading-running`, `forecast-running`; `from-run` tells the state from the table's head.
+-- Main theorems: `start-reduce`, `reading-running`, `forecast-running`; `delivered` is demand 3 for code that answers so.
 use mathlib.Core.Bool.{Bool, cond, false, true}
 use mathlib.Core.List.{List, [], _∷_, _++_, append-nil}
 use mathlib.Core.Option.{Option, none, some}

@@ -1,5 +1,5 @@
 -- Evaluation on cells: truths are 0 and 1, parties their numbers. Total, so that code needs no promise of types.
--- On typed expressions it is csl's evaluation (proofs/Evaluate).
+-- On typed expressions it is csl's evaluation: `bridge` proves it (proofs/Evaluate).
 use mathlib.Core.Bool.{Bool, true, false, cond}
 use mathlib.Core.List.{List, [], _∷_}
 use lib.IntN.{ℤ, pos}

@@ -1,5 +1,5 @@
 -- The rules on cells: activating, following and forecasting a clause, the residue being the cells that the table holds for it.
--- Total, with no stuck outcome; on a typed clause it is csl's rules (proofs/Reduce).
+-- Total, with no stuck outcome; on a typed clause it is csl's rules: `bridge` proves it (proofs/Reduce).
 use mathlib.Core.Bool.{Bool, true, false, cond, not, _&&_}
 use mathlib.Core.List.{List, [], _∷_, _++_}
 use mathlib.Core.Option.{none, some}
