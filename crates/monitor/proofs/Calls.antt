@@ -34,7 +34,8 @@ pub start-call : (lifetimes : Lfts 2) (given : Dens {n = 2} lifetimes start-kind
 start-call lifetimes given r left meets = meets
 
 pub reading-call : (lifetimes : Lfts 3) (given : Dens {n = 3} lifetimes reading-kinds.ps) (r : Taken) (left : AtExit (endedOf 3 reading-kinds.ps reading-kinds.r) lifetimes)
-    → reading.Post lifetimes given r left → takenAnswer r (left .1 .0 .now) ≡ readingOf (given .0 .now) (given .1 .0 .now) (given .1 .1 .0 .now)
+    → reading.Post lifetimes given r left
+    → takenAnswer r (left .1 .0 .now) ≡ readingOf (given .0 .now) (given .1 .0 .now) (given .1 .1 .0 .now)
 reading-call lifetimes given r left meets = meets
 
 pub forecast-call : (lifetimes : Lfts 2) (given : Dens {n = 2} lifetimes forecast-kinds.ps) (r : Foretold) (left : AtExit (endedOf 2 forecast-kinds.ps forecast-kinds.r) lifetimes)
@@ -46,23 +47,26 @@ table-of : (r : Taken) (us : List ℤ) → (takenAnswer r us) .table ≡ us
 table-of Accepted us = refl
 table-of (Refused w) us = refl
 
-calls-split : (s : List ℕ) (us : List ℤ) (before later : List Call) → Calls s us (before ++ later) → Calls s us before × Calls s (lastTable us before) later
+calls-split : (s : List ℕ) (us : List ℤ) (before later : List Call) → Calls s us (before ++ later)
+    → Calls s us before × Calls s (lastTable us before) later
 unfolding Calls lastTable
 calls-split s us [] later c = (tt, c)
 calls-split s us (one ∷ before) later c = let h = calls-split s (one .left) before later (c .1) in ((c .0, h .0), h .1)
 
-bytes-split : (before later : List Call) → AllBytes (readingsIn (before ++ later)) → AllBytes (readingsIn before) × AllBytes (readingsIn later)
+bytes-split : (before later : List Call) → AllBytes (readingsIn (before ++ later))
+    → AllBytes (readingsIn before) × AllBytes (readingsIn later)
 unfolding AllBytes readingsIn
 bytes-split [] later h = (tt, h)
 bytes-split (one ∷ before) later h = let g = bytes-split before later (h .1) in ((h .0, g .0), g .1)
 
 -- ---- of an accepted agreement
 module _ (s : List ℕ) (a : Agreement) (mains : List ℕ) (ck : checked s ≡ accepted a mains) where
-  abbrev pub Inv : Run → Type 0
-  Inv q = InvOf s a mains ck q
+  abbrev pub Sound : Run → Type 0
+  Sound q = InvOf s a mains ck q
 
   -- a call on the table of a run
-  pub called : (q : Run) (us : List ℤ) (c : Call) → us ≡ tableOf q → Inv q → takenAnswer (c .answer) (c .left) ≡ readingOf s us (c .bytes)
+  pub called : (q : Run) (us : List ℤ) (c : Call) → us ≡ tableOf q → Sound q
+      → takenAnswer (c .answer) (c .left) ≡ readingOf s us (c .bytes)
       → (numberIn c ≡ (step a q (c .bytes)) .number) × (c .left ≡ tableOf ((step a q (c .bytes)) .run))
   unfolding numberIn
   called q us c e i meets =
@@ -71,12 +75,14 @@ module _ (s : List ℕ) (a : Agreement) (mains : List ℕ) (ck : checked s ≡ a
       (ap (λ x. x .number) is ∙ fine .0, sym (table-of (c .answer) (c .left)) ∙ ap (λ x. x .table) is ∙ fine .1)
 
   -- calls one after another
-  pub last-table : (q : Run) (us : List ℤ) (calls : List Call) → us ≡ tableOf q → Inv q → AllBytes (readingsIn calls) → Calls s us calls → lastTable us calls ≡ tableOf (runAfter a q (readingsIn calls))
+  pub last-table : (q : Run) (us : List ℤ) (calls : List Call) → us ≡ tableOf q → Sound q → AllBytes (readingsIn calls)
+      → Calls s us calls → lastTable us calls ≡ tableOf (runAfter a q (readingsIn calls))
   unfolding Calls AllBytes readingsIn lastTable runAfter
   last-table q us [] e i h cs = e
   last-table q us (c ∷ calls) e i h cs = last-table ((step a q (c .bytes)) .run) (c .left) calls ((called q us c e i (cs .0)) .1) (step-inv s a mains ck (q .lastTime) (q .outcome) (c .bytes) (h .0) i) (h .1) (cs .1)
 
-  pub all-numbers : (q : Run) (us : List ℤ) (calls : List Call) → us ≡ tableOf q → Inv q → AllBytes (readingsIn calls) → Calls s us calls → numbersIn calls ≡ numbersBy a q (readingsIn calls)
+  pub all-numbers : (q : Run) (us : List ℤ) (calls : List Call) → us ≡ tableOf q → Sound q → AllBytes (readingsIn calls)
+      → Calls s us calls → numbersIn calls ≡ numbersBy a q (readingsIn calls)
   unfolding Calls AllBytes readingsIn numbersIn numbersBy
   all-numbers q us [] e i h cs = refl
   all-numbers q us (c ∷ calls) e i h cs =
@@ -84,21 +90,22 @@ module _ (s : List ℕ) (a : Agreement) (mains : List ℕ) (ck : checked s ≡ a
       ap₂ (λ n ns. n ∷ ns) (x .0) (all-numbers ((step a q (c .bytes)) .run) (c .left) calls (x .1) (step-inv s a mains ck (q .lastTime) (q .outcome) (c .bytes) (h .0) i) (h .1) (cs .1))
 
   -- ---- one of the calls, on a table that was the run q's at first
-  module _ (q : Run) (us : List ℤ) (is : us ≡ tableOf q) (i : Inv q) (calls : List Call) (h : AllBytes (readingsIn calls)) (cs : Calls s us calls) where
+  module _ (q : Run) (us : List ℤ) (is : us ≡ tableOf q) (i : Sound q) (calls : List Call) (h : AllBytes (readingsIn calls)) (cs : Calls s us calls) where
     -- what the call finds, and how the run goes on
     pub record Found (before : List Call) (one : Call) (later : List Call) : Type 0 where
-      pub inv : Inv (runAfter a q (readingsIn before))
+      pub inv : Sound (runAfter a q (readingsIn before))
       pub table : lastTable us before ≡ tableOf (runAfter a q (readingsIn before))
       pub number : numberIn one ≡ (step a (runAfter a q (readingsIn before)) (one .bytes)) .number
       pub left : one .left ≡ tableOf ((step a (runAfter a q (readingsIn before)) (one .bytes)) .run)
-      pub next : Inv ((step a (runAfter a q (readingsIn before)) (one .bytes)) .run)
+      pub next : Sound ((step a (runAfter a q (readingsIn before)) (one .bytes)) .run)
       pub bytes : AllBytes (readingsIn before) × AllBytes (readingsIn later)
       pub meets : Calls s us before × Calls s (one .left) later
 
-    pub inv-at : (before later : List Call) → calls ≡ before ++ later → Inv (runAfter a q (readingsIn before))
+    pub inv-at : (before later : List Call) → calls ≡ before ++ later → Sound (runAfter a q (readingsIn before))
     inv-at before later e = after-inv s a mains ck q (readingsIn before) ((bytes-split before later (subst (λ cs. AllBytes (readingsIn cs)) e h)) .0) i
 
-    pub found : (before : List Call) (one : Call) (later : List Call) → calls ≡ before ++ (one ∷ later) → Found before one later
+    pub found : (before : List Call) (one : Call) (later : List Call) → calls ≡ before ++ (one ∷ later)
+        → Found before one later
     unfolding Calls AllBytes readingsIn
     found before one later e =
         let run = runAfter a q (readingsIn before) in

@@ -26,7 +26,7 @@ use Rattle.monitor.specs.declared.Started.the-variants.{Begun, Refused}
 use Rattle.monitor.specs.Answers.{numberOf, startAnswer}
 use Rattle.monitor.specs.Calls.{Call, Calls, readingsIn}
 use Rattle.monitor.specs.Demand3.{Begins, Demand3, IsStarted, Upheld, runBy}
-use Rattle.monitor.proofs.Calls.{Found, Inv, all-numbers, found, inv-at, last-table}
+use Rattle.monitor.proofs.Calls.{Found, Sound, all-numbers, found, inv-at, last-table}
 
 -- a refusal's number is not 0
 numbered : (w : Refusal) → numberOf w ≡ 0 → ⊥
@@ -69,13 +69,14 @@ module _ (s : List ℕ) (lent : List ℤ) (a : Agreement) (mains : List ℕ) (st
   us-is : us ≡ tableOf run
   us-is = sym (table-left r us) ∙ ap (λ x. x .table) (start ∙ begins-zero)
 
-  run-inv : Inv s a mains ck run
+  run-inv : Sound s a mains ck run
   unfolding run
   run-inv = start-inv s a mains ck hs (st .notEleven)
 
   module _ (calls : List Call) (hr : AllBytes (readingsIn calls)) (cs : Calls s us calls) where
     -- of one of the calls: what it finds, and the case of its reading
-    at-call : (before : List Call) (one : Call) (later : List Call) → calls ≡ before ++ (one ∷ later) → Found s a mains ck run us us-is run-inv calls hr cs before one later × Case a (runBy a before .lastTime) (runBy a before .outcome) (one .bytes)
+    at-call : (before : List Call) (one : Call) (later : List Call) → calls ≡ before ++ (one ∷ later)
+        → Found s a mains ck run us us-is run-inv calls hr cs before one later × Case a (runBy a before .lastTime) (runBy a before .outcome) (one .bytes)
     unfolding runBy run
     at-call before one later e =
         let f = found s a mains ck run us us-is run-inv calls hr cs before one later e in
@@ -109,7 +110,8 @@ unfolding Demand3
 demand3 s lent a mains r us calls hs hr st start cs = upheld s lent a mains st r us start hs calls hr cs
 
 -- a start that answers 0 was given a table's cells
-begun-table : (s : List ℕ) (mains : List ℕ) (lent : List ℤ) → checked s ≡ accepted (agreementOf s) mains → (startOf s lent) .number ≡ 0 → length lent ≡ 3080
+begun-table : (s : List ℕ) (mains : List ℕ) (lent : List ℤ) → checked s ≡ accepted (agreementOf s) mains
+    → (startOf s lent) .number ≡ 0 → length lent ≡ 3080
 begun-table s mains lent ck e = go (eqb (length lent) 3080) refl
   where
     go : (b : Bool) → eqb (length lent) 3080 ≡ b → length lent ≡ 3080

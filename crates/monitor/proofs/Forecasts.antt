@@ -22,14 +22,16 @@ use Rattle.monitor.specs.declared.Taken.the-variants.{Accepted}
 use Rattle.monitor.specs.Answers.{forecastAnswer, takenAnswer}
 use Rattle.monitor.specs.Calls.{Call, Calls, lastTable, numberIn, readingsIn}
 use Rattle.monitor.specs.Forecasts.{AcceptedMarks, ForecastClaim, Foretells}
-use Rattle.monitor.proofs.Calls.{Inv, called, found, last-table}
+use Rattle.monitor.proofs.Calls.{Sound, called, found, last-table}
 
-last-++ : (us : List ℤ) (before later : List Call) → lastTable us (before ++ later) ≡ lastTable (lastTable us before) later
+last-++ : (us : List ℤ) (before later : List Call)
+    → lastTable us (before ++ later) ≡ lastTable (lastTable us before) later
 unfolding lastTable
 last-++ us [] later = refl
 last-++ us (c ∷ before) later = last-++ (c .left) before later
 
-marks-split : (a : Agreement) (before later : List Call) → AcceptedMarks a (before ++ later) → AcceptedMarks a before × AcceptedMarks a later
+marks-split : (a : Agreement) (before later : List Call) → AcceptedMarks a (before ++ later)
+    → AcceptedMarks a before × AcceptedMarks a later
 unfolding AcceptedMarks
 marks-split a [] later m = (tt, m)
 marks-split a (c ∷ before) later m = let h = marks-split a before later (m .2) in ((m .0, m .1, h .0), h .1)
@@ -40,7 +42,8 @@ accepted-zero c e = ap (λ r. (takenAnswer r (c .left)) .number) e
 
 module _ (s : List ℕ) (a : Agreement) (mains : List ℕ) (ck : checked s ≡ accepted a mains) where
   -- the run takes the marks that the calls take
-  run-marks : (q : Run) (us : List ℤ) (marks : List Call) → us ≡ tableOf q → Inv s a mains ck q → AllBytes (readingsIn marks) → Calls s us marks → AcceptedMarks a marks → Marks a q (readingsIn marks)
+  run-marks : (q : Run) (us : List ℤ) (marks : List Call) → us ≡ tableOf q → Sound s a mains ck q
+      → AllBytes (readingsIn marks) → Calls s us marks → AcceptedMarks a marks → Marks a q (readingsIn marks)
   unfolding AllBytes readingsIn Calls AcceptedMarks Marks
   run-marks q us [] e i h cs m = tt
   run-marks q us (c ∷ marks) e i h cs m =
@@ -48,7 +51,7 @@ module _ (s : List ℕ) (a : Agreement) (mains : List ℕ) (ck : checked s ≡ a
       (m .0, sym (x .0) ∙ accepted-zero c (m .1), run-marks ((step a q (c .bytes)) .run) (c .left) marks (x .1) (step-inv s a mains ck (q .lastTime) (q .outcome) (c .bytes) (h .0) i) (h .1) (cs .1) (m .2))
 
   -- of the run q, whose table the marks begin with
-  module _ (q : Run) (us : List ℤ) (is : us ≡ tableOf q) (i : Inv s a mains ck q) (marks : List Call) (h : AllBytes (readingsIn marks)) (cs : Calls s us marks) (m : AcceptedMarks a marks)
+  module _ (q : Run) (us : List ℤ) (is : us ≡ tableOf q) (i : Sound s a mains ck q) (marks : List Call) (h : AllBytes (readingsIn marks)) (cs : Calls s us marks) (m : AcceptedMarks a marks)
       (f : Forecast) (fe : f ≡ shown (forecastRun a q)) (f′ : Forecast) (fe′ : f′ ≡ forecastOf s (lastTable us marks)) where
     end : Run
     end = runAfter a q (readingsIn marks)
@@ -76,14 +79,16 @@ module _ (s : List ℕ) (a : Agreement) (mains : List ℕ) (ck : checked s ≡ a
     stayed g st = ((λ b. st .0 (table-state (end .lastTime) (end .outcome) (subst Breached end-table b))), end-forecast ∙ st .1)
 
     -- a breached table gives its verdict
-    verdict-of : (o : Outcome) → q .outcome ≡ o → IsBreach o → (t : ℕ) × (b : ℕ) × (us ≡ breachTable (q .lastTime) t b) × (f ≡ breachAt t b)
+    verdict-of : (o : Outcome) → q .outcome ≡ o → IsBreach o
+        → (t : ℕ) × (b : ℕ) × (us ≡ breachTable (q .lastTime) t b) × (f ≡ breachAt t b)
     unfolding IsBreach tableOf breachTable forecastRun shown
     verdict-of done e b = absurd b
     verdict-of (breach t ps) e b = (t, bitsOf ps, is ∙ ap (λ o. tableOf (runAt (q .lastTime) o)) e, fe ∙ ap (λ o. shown (forecastRun a (runAt (q .lastTime) o))) e)
     verdict-of (running r) e b = absurd b
     verdict-of stuck e b = absurd b
 
-    verdict : Breached us → (now : ℕ) × (t : ℕ) × (b : ℕ) × (us ≡ breachTable now t b) × (f ≡ breachAt t b) × (lastTable us marks ≡ us)
+    verdict : Breached us
+        → (now : ℕ) × (t : ℕ) × (b : ℕ) × (us ≡ breachTable now t b) × (f ≡ breachAt t b) × (lastTable us marks ≡ us)
     unfolding end
     verdict b =
         let ib = table-state (q .lastTime) (q .outcome) (subst Breached is b) in
@@ -91,7 +96,8 @@ module _ (s : List ℕ) (a : Agreement) (mains : List ℕ) (ck : checked s ≡ a
         (q .lastTime, v .0, v .1, v .2, v .3, end-table ∙ ap tableOf (frozen s a mains ck q (readingsIn marks) i ib) ∙ sym is)
 
     -- the first later mark
-    first-later : (t b : ℕ) → f ≡ breachAt t b → (before : List Call) (one : Call) (later : List Call) → marks ≡ before ++ (one ∷ later) → (Breached (lastTable us before) → ⊥) → t < timeIn (one .bytes)
+    first-later : (t b : ℕ) → f ≡ breachAt t b → (before : List Call) (one : Call) (later : List Call)
+        → marks ≡ before ++ (one ∷ later) → (Breached (lastTable us before) → ⊥) → t < timeIn (one .bytes)
         → (lastTable us marks ≡ breachTable (timeIn (one .bytes)) t b) × (f′ ≡ f)
     unfolding Marks AcceptedMarks lastTable tableOf breachTable forecastRun shown IsBreach Stays
     first-later t b fe₂ before one later e nb lt =
@@ -120,7 +126,8 @@ module _ (s : List ℕ) (a : Agreement) (mains : List ℕ) (ck : checked s ≡ a
       given = first-later;
     }
       where
-        once : (t b : ℕ) → f ≡ breachAt t b → Stays a (breachAt t b) (runAfter a q (readingsIn marks)) ⊎ AtOnce t b (runAfter a q (readingsIn marks))
+        once : (t b : ℕ) → f ≡ breachAt t b
+            → Stays a (breachAt t b) (runAfter a q (readingsIn marks)) ⊎ AtOnce t b (runAfter a q (readingsIn marks))
             → ((Breached (lastTable us marks) → ⊥) × (f′ ≡ f)) ⊎ ((c : ℕ) × (lastTable us marks ≡ breachTable t t c) × (0 < c) × T (subset (members c) (members b)))
         once t b e (inl st) = let x = stayed (breachAt t b) st in inl (x .0, x .1 ∙ sym e)
         once t b e (inr k) = inr (bitsOf (k .parties), end-table ∙ ap tableOf (k .is) ∙ unfold tableOf breachTable in refl, k .named, k .among)

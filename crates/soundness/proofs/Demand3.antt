@@ -40,7 +40,8 @@ module _ (a : Agreement) (now : ℕ) (o : Outcome) (r : List ℕ) where
   same-reading d d′ e f = some-inj (sym e ∙ f)
 
   -- a reading is one reading
-  fits-only : (P : ℕ → Type 0) (d : Reading) → fitting a r ≡ some d → Fits P → (now ≤ d .time) × P (needed (reached a o d))
+  fits-only : (P : ℕ → Type 0) (d : Reading) → fitting a r ≡ some d → Fits P
+      → (now ≤ d .time) × P (needed (reached a o d))
   fits-only P d f h = subst (λ x. (now ≤ x .time) × P (needed (reached a o x))) (same-reading (h .0) d (h .1) f) (h .2, h .3)
 
   no-reading : {C : Type 0} (d : Reading) → fitting a r ≡ none → fitting a r ≡ some d → C
@@ -127,7 +128,8 @@ joined-unbreached or (running l) (running r) h g = λ b. b
 joined-unbreached or (running l) stuck h g = λ b. b
 joined-unbreached or stuck r h g = λ b. b
 
-unbreached-bind : {A : Type 0} (m : Option A) (f : A → Option Outcome) → ((x : A) → Unbreached (orStuck (f x))) → Unbreached (orStuck (m >>= f))
+unbreached-bind : {A : Type 0} (m : Option A) (f : A → Option Outcome) → ((x : A) → Unbreached (orStuck (f x)))
+    → Unbreached (orStuck (m >>= f))
 unfolding _>>=_ orStuck Unbreached IsBreach
 unbreached-bind none f h = λ b. b
 unbreached-bind (some x) f h = h x
@@ -140,25 +142,28 @@ module _ (un : ℕ → List Val → List ℕ → ℕ → Outcome) (uq : (k : ℕ
   walk-unbreached (choice w t f) e a = λ b. b
   walk-unbreached (if x t f) e a = unbreached-bind (evalBool (e .values) x) _ (side (walk-unbreached t e a) (walk-unbreached f e a))
     where
-      side : Unbreached (walk activating un t e a) → Unbreached (walk activating un f e a) → (b : Bool) → Unbreached (orStuck (elim b [ true ↦ some (walk activating un t e a) | false ↦ some (walk activating un f e a) ]))
+      side : Unbreached (walk activating un t e a) → Unbreached (walk activating un f e a) → (b : Bool)
+          → Unbreached (orStuck (elim b [ true ↦ some (walk activating un t e a) | false ↦ some (walk activating un f e a) ]))
       side h g true = h
       side h g false = g
   walk-unbreached (join j t f) e a = joined-unbreached j (walk activating un t e a) (walk activating un f e a) (walk-unbreached t e a) (walk-unbreached f e a)
   walk-unbreached (instance k es bs) e a = unbreached-bind (evals (e .values) es) _ λ vs. unbreached-bind (blamedAll (e .params) bs) _ λ ps. uq k vs ps a
   walk-unbreached badClause e a = λ b. b
 
-walkIn-unbreached : (ts : List Template) (n : ℕ) (c : Clause) (e : Sight) (a : ℕ) → Unbreached (walkIn activating ts n c e a)
+walkIn-unbreached : (ts : List Template) (n : ℕ) (c : Clause) (e : Sight) (a : ℕ)
+    → Unbreached (walkIn activating ts n c e a)
 unfolding walkIn Unbreached IsBreach orStuck
 walkIn-unbreached ts zero = walk-unbreached _ (λ k vs ps a b. b)
 walkIn-unbreached ts (suc n) = walk-unbreached _ (λ k vs ps a. unbreached-bind (at ts k) _ (λ t. walkIn-unbreached ts n (t .body) (record { params = ps; values = vs }) a))
 
 -- ---- a checked agreement
 module _ (bytes : List ℕ) (a : Agreement) (mains : List ℕ) (ck : checked bytes ≡ accepted a mains) where
-  abbrev Inv : Run → Type 0
-  Inv q = InvOf bytes a mains ck q
+  abbrev Sound : Run → Type 0
+  Sound q = InvOf bytes a mains ck q
 
   -- a breach that a reading makes: by some parties, all the main clause's, at a time from the start to that reading
-  pub step-shows : (q : Run) (r : List ℕ) → Inv q → (IsBreach (q .outcome) → ⊥) → (t : ℕ) (ps : List ℕ) → (step a q r) .run .outcome ≡ breach t ps
+  pub step-shows : (q : Run) (r : List ℕ) → Sound q → (IsBreach (q .outcome) → ⊥) → (t : ℕ) (ps : List ℕ)
+      → (step a q r) .run .outcome ≡ breach t ps
       → (d : Reading) × (fitting a r ≡ some d) × (ps ≢ []) × T (subset ps mains) × (a .start ≤ t) × (t ≤ d .time)
   unfolding IsBreach
   step-shows q r i nb t ps b = go (cases a (q .lastTime) (q .outcome) r (not-stuck a mains (q .lastTime) (q .outcome) (i .good)))
@@ -166,7 +171,8 @@ module _ (bytes : List ℕ) (a : Agreement) (mains : List ℕ) (ck : checked byt
       unmoved : (n : ℕ) → step a q r ≡ stepped n q → ⊥
       unmoved n e = nb (subst IsBreach (sym (sym (ap (λ s. s .run .outcome) e) ∙ b)) tt)
 
-      go : Case a (q .lastTime) (q .outcome) r → (d : Reading) × (fitting a r ≡ some d) × (ps ≢ []) × T (subset ps mains) × (a .start ≤ t) × (t ≤ d .time)
+      go : Case a (q .lastTime) (q .outcome) r
+          → (d : Reading) × (fitting a r ≡ some d) × (ps ≢ []) × T (subset ps mains) × (a .start ≤ t) × (t ≤ d .time)
       go (misfit n w f e) = absurd (unmoved n e)
       go (early d f lt e) = absurd (unmoved 10 e)
       go (many d f le nd e) = absurd (unmoved 11 e)
@@ -192,11 +198,11 @@ module _ (bytes : List ℕ) (a : Agreement) (mains : List ℕ) (ck : checked byt
   choose : Bool → Stepped
   choose b = elim b [ true ↦ stepped 11 (runAt (a .start) first) | false ↦ stepped 0 (runAt (a .start) first) ]
 
-  pub start-inv : Bytes bytes → (started a) .number ≡ 0 → Inv ((started a) .run)
+  pub start-inv : Bytes bytes → (started a) .number ≡ 0 → Sound ((started a) .run)
   unfolding started kept first choose
   start-inv hb h = go (tooMany first) refl h
     where
-      go : (b : Bool) → tooMany first ≡ b → (choose b) .number ≡ 0 → Inv ((choose b) .run)
+      go : (b : Bool) → tooMany first ≡ b → (choose b) .number ≡ 0 → Sound ((choose b) .run)
       go true e q = absurd (omega arith)
       go false e q = record { from = omega arith; fits = start-lt bytes a hb ((isPassed bytes a mains ck) .decodes); good = first-good; small = nltb→le 128 (needed first) (subst (λ b. T (not b)) (sym e ∙ tooMany-is first) tt) }
 
@@ -209,7 +215,7 @@ module _ (bytes : List ℕ) (a : Agreement) (mains : List ℕ) (ck : checked byt
       go false = walkIn-unbreached (a .templates) _ (a .main) _ (a .start)
 
   -- ---- every list of readings, whatever their bytes
-  pub after-inv : (q : Run) (rs : List (List ℕ)) → AllBytes rs → Inv q → Inv (runAfter a q rs)
+  pub after-inv : (q : Run) (rs : List (List ℕ)) → AllBytes rs → Sound q → Sound (runAfter a q rs)
   unfolding runAfter AllBytes
   after-inv q [] h i = i
   after-inv q (r ∷ rs) h i = after-inv ((step a q r) .run) rs (h .1) (step-inv bytes a mains ck (q .lastTime) (q .outcome) r (h .0) i)

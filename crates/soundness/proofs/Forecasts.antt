@@ -157,11 +157,6 @@ stuck-right or (breach t ps) = refl
 stuck-right or (running r) = refl
 stuck-right or stuck = refl
 
-stuck-left : (j : Join) (r : Outcome) → joined j stuck r ≡ stuck
-unfolding joined joinBoth joinEither
-stuck-left and r = refl
-stuck-left or r = refl
-
 -- ---- a forecast gives no breach before its clause is activated, and leaves nothing running
 abbrev pub Coming : ℕ → Outcome → Type 0
 Coming k o = NotBefore k o × Done o

@@ -34,12 +34,16 @@ SameForecast (breach t ps) g = (qs : List ℕ) × (g ≡ breach t qs) × Sub ps 
 SameForecast (running r) g = ⊥
 SameForecast stuck g = ⊥
 
--- ---- a forecast, and the outcome of a mark at T
-module _ (ag : Agreement) (T′ : ℕ) where
+-- ---- a forecast, and the outcome of a mark at `now`
+module _ (ag : Agreement) (now : ℕ) where
   pub data Kept : Outcome → Outcome → Type 0 where
+    -- fulfilled, as foretold
     fulfils : Kept done done
-    waits : (f : Outcome) (res : Residue) → NotBefore T′ f → SameForecast f (forecast ag res) → Kept f (running res)
-    breaks : (t : ℕ) (ps qs : List ℕ) → t ≤ T′ → Sub qs ps → (t < T′ → qs ≡ ps) → Kept (breach t ps) (breach t qs)
+    -- waits on; the forecast is of no time before the mark, and says the same afterwards
+    waits : (f : Outcome) (res : Residue) → NotBefore now f → SameForecast f (forecast ag res) → Kept f (running res)
+    -- breached as foretold; at the very minute perhaps by fewer parties
+    breaks : (t : ℕ) (ps qs : List ℕ) → t ≤ now → Sub qs ps → (t < now → qs ≡ ps) → Kept (breach t ps) (breach t qs)
+    -- of stuck outcomes nothing is said here: typing excludes them
     stuckBefore : (o : Outcome) → Kept stuck o
     stuckAfter : (f : Outcome) → Kept f stuck
 
@@ -97,14 +101,16 @@ module _ (ag : Agreement) (T′ : ℕ) where
       go true h = refl
       go false h = absurd h
 
-  if-same : {o : Outcome} (ps qs : List ℕ) (t : ℕ) → (T (sameSet ps qs) → Kept (breach t ps) o) → Kept (atOneTime t ps qs) o
+  if-same : {o : Outcome} (ps qs : List ℕ) (t : ℕ) → (T (sameSet ps qs) → Kept (breach t ps) o)
+      → Kept (atOneTime t ps qs) o
   if-same {o = o} ps qs t k = go (sameSet ps qs) k
     where
       go : (b : Bool) → (T b → Kept (breach t ps) o) → Kept (elim b [ true ↦ breach t ps | false ↦ stuck ]) o
       go true k = k tt
       go false k = stuckBefore o
 
-  either-waits : (f g : Outcome) (l r : Residue) → NotBefore T′ f → NotBefore T′ g → SameForecast f (forecast ag l) → SameForecast g (forecast ag r) → Kept (joinEither f g) (running (both or l r))
+  either-waits : (f g : Outcome) (l r : Residue) → NotBefore now f → NotBefore now g → SameForecast f (forecast ag l)
+      → SameForecast g (forecast ag r) → Kept (joinEither f g) (running (both or l r))
   unfolding SameForecast joinEither later forecast across joined NotBefore
   either-waits done done l r n m h k = waits done (both or l r) tt (rw (h, k) refl)
   either-waits done (breach u qs) l r n m h k = waits done (both or l r) tt (rw (h, k .1) refl)
@@ -123,7 +129,8 @@ module _ (ag : Agreement) (T′ : ℕ) where
   either-waits stuck g l r n m h k = absurd h
 
   -- ---- one side waits on, the other breaches
-  both-first : (f : Outcome) (l : Residue) (t : ℕ) (ps qs : List ℕ) → NotBefore T′ f → SameForecast f (forecast ag l) → t ≤ T′ → Sub qs ps → (t < T′ → qs ≡ ps) → Kept (joinBoth f (breach t ps)) (breach t qs)
+  both-first : (f : Outcome) (l : Residue) (t : ℕ) (ps qs : List ℕ) → NotBefore now f → SameForecast f (forecast ag l)
+      → t ≤ now → Sub qs ps → (t < now → qs ≡ ps) → Kept (joinBoth f (breach t ps)) (breach t qs)
   unfolding NotBefore SameForecast joinBoth earlier Sub
   both-first done l t ps qs n h le sub eq = breaks t ps qs le sub eq
   both-first (breach u us) l t ps qs n h le sub eq = times u t (breach u us) (breach t ps) (breach u (us ++ ps)) (λ f. Kept f (breach t qs))
@@ -133,7 +140,8 @@ module _ (ag : Agreement) (T′ : ℕ) where
   both-first (running f) l t ps qs n h le sub eq = absurd h
   both-first stuck l t ps qs n h le sub eq = absurd h
 
-  both-second : (g : Outcome) (r : Residue) (t : ℕ) (ps qs : List ℕ) → NotBefore T′ g → SameForecast g (forecast ag r) → t ≤ T′ → Sub qs ps → (t < T′ → qs ≡ ps) → Kept (joinBoth (breach t ps) g) (breach t qs)
+  both-second : (g : Outcome) (r : Residue) (t : ℕ) (ps qs : List ℕ) → NotBefore now g → SameForecast g (forecast ag r)
+      → t ≤ now → Sub qs ps → (t < now → qs ≡ ps) → Kept (joinBoth (breach t ps) g) (breach t qs)
   unfolding NotBefore SameForecast joinBoth earlier Sub
   both-second done r t ps qs n h le sub eq = breaks t ps qs le sub eq
   both-second (breach u us) r t ps qs n h le sub eq = times t u (breach t ps) (breach u us) (breach t (ps ++ us)) (λ f. Kept f (breach t qs))
@@ -143,7 +151,8 @@ module _ (ag : Agreement) (T′ : ℕ) where
   both-second (running g) r t ps qs n h le sub eq = absurd h
   both-second stuck r t ps qs n h le sub eq = absurd h
 
-  either-first : (f : Outcome) (l : Residue) (t : ℕ) (ps : List ℕ) → NotBefore T′ f → SameForecast f (forecast ag l) → t ≤ T′ → Kept (joinEither f (breach t ps)) (running l)
+  either-first : (f : Outcome) (l : Residue) (t : ℕ) (ps : List ℕ) → NotBefore now f → SameForecast f (forecast ag l)
+      → t ≤ now → Kept (joinEither f (breach t ps)) (running l)
   unfolding NotBefore SameForecast joinEither later
   either-first done l t ps n h le = waits done l tt h
   either-first (breach u us) l t ps n h le = times u t (breach t ps) (breach u us) _ (λ f. Kept f (running l))
@@ -153,7 +162,8 @@ module _ (ag : Agreement) (T′ : ℕ) where
   either-first (running f) l t ps n h le = absurd h
   either-first stuck l t ps n h le = absurd h
 
-  either-second : (g : Outcome) (r : Residue) (t : ℕ) (ps : List ℕ) → NotBefore T′ g → SameForecast g (forecast ag r) → t ≤ T′ → Kept (joinEither (breach t ps) g) (running r)
+  either-second : (g : Outcome) (r : Residue) (t : ℕ) (ps : List ℕ) → NotBefore now g → SameForecast g (forecast ag r)
+      → t ≤ now → Kept (joinEither (breach t ps) g) (running r)
   unfolding NotBefore SameForecast joinEither later
   either-second done r t ps n h le = waits done r tt h
   either-second (breach u us) r t ps n h le = times t u (breach u us) (breach t ps) _ (λ f. Kept f (running r))
@@ -164,14 +174,16 @@ module _ (ag : Agreement) (T′ : ℕ) where
   either-second stuck r t ps n h le = absurd h
 
   -- ---- both breach
-  both-break : (t u : ℕ) (ps qs rs ss : List ℕ) → t ≤ T′ → Sub qs ps → (t < T′ → qs ≡ ps) → u ≤ T′ → Sub ss rs → (u < T′ → ss ≡ rs) → Kept (earlier t ps u rs) (earlier t qs u ss)
+  both-break : (t u : ℕ) (ps qs rs ss : List ℕ) → t ≤ now → Sub qs ps → (t < now → qs ≡ ps) → u ≤ now → Sub ss rs
+      → (u < now → ss ≡ rs) → Kept (earlier t ps u rs) (earlier t qs u ss)
   unfolding earlier
   both-break t u ps qs rs ss le sub eq le′ sub′ eq′ = times-both t u (breach t ps) (breach u rs) (breach t (ps ++ rs)) (breach t qs) (breach u ss) (breach t (qs ++ ss)) Kept
       (λ _. breaks t ps qs le sub eq)
       (λ _. breaks u rs ss le′ sub′ eq′)
       (λ e. breaks t (ps ++ rs) (qs ++ ss) le (sub-both qs ss ps rs sub sub′) (λ lt. ap₂ _++_ (eq lt) (eq′ (omega arith))))
 
-  either-break : (t u : ℕ) (ps qs rs ss : List ℕ) → t ≤ T′ → Sub qs ps → (t < T′ → qs ≡ ps) → u ≤ T′ → Sub ss rs → (u < T′ → ss ≡ rs) → Kept (later t ps u rs) (later t qs u ss)
+  either-break : (t u : ℕ) (ps qs rs ss : List ℕ) → t ≤ now → Sub qs ps → (t < now → qs ≡ ps) → u ≤ now → Sub ss rs
+      → (u < now → ss ≡ rs) → Kept (later t ps u rs) (later t qs u ss)
   unfolding later
   either-break t u ps qs rs ss le sub eq le′ sub′ eq′ = times-both t u (breach u rs) (breach t ps) (atOneTime t ps rs) (breach u ss) (breach t qs) (atOneTime t qs ss) Kept
       (λ _. breaks u rs ss le′ sub′ eq′)
@@ -187,7 +199,7 @@ module _ (ag : Agreement) (T′ : ℕ) where
   unfolding joined joinBoth joinEither forecast across
   joined-kept and f g l r fulfils k = k
   joined-kept and f g l r (waits f′ l′ n h) fulfils = subst (λ x. Kept x (running l′)) (sym (none-beside f′)) (waits f′ l′ n h)
-  joined-kept and f g l r (waits f′ l′ n h) (waits g′ r′ m k) = waits (joinBoth f′ g′) (both and l′ r′) (both-from T′ f′ g′ n m) (same-both f′ g′ (forecast ag l′) (forecast ag r′) h k)
+  joined-kept and f g l r (waits f′ l′ n h) (waits g′ r′ m k) = waits (joinBoth f′ g′) (both and l′ r′) (both-from now f′ g′ n m) (same-both f′ g′ (forecast ag l′) (forecast ag r′) h k)
   joined-kept and f g l r (waits f′ l′ n h) (breaks t ps qs le sub eq) = both-first f′ l′ t ps qs n h le sub eq
   joined-kept and f g l r (waits f′ l′ n h) (stuckBefore o) = subst (λ x. Kept x (joinBoth (running l′) o)) (sym (stuck-right and f′)) (stuckBefore _)
   joined-kept and f g l r (waits f′ l′ n h) (stuckAfter g′) = stuckAfter _
@@ -217,12 +229,14 @@ module _ (ag : Agreement) (T′ : ℕ) where
   joined-kept or f g l r (stuckAfter f′) k = stuckAfter _
 
   -- what both wait for, or both are stuck
-  kept-bind : {A : Type 0} (m : Option A) (f g : A → Option Outcome) → ((x : A) → m ≡ some x → Kept (orStuck (f x)) (orStuck (g x))) → Kept (orStuck (m >>= f)) (orStuck (m >>= g))
+  kept-bind : {A : Type 0} (m : Option A) (f g : A → Option Outcome)
+      → ((x : A) → m ≡ some x → Kept (orStuck (f x)) (orStuck (g x))) → Kept (orStuck (m >>= f)) (orStuck (m >>= g))
   unfolding _>>=_ orStuck
   kept-bind none f g h = stuckBefore stuck
   kept-bind (some x) f g h = h x refl
 
-  kept-side : (b : Bool) (f f′ o o′ : Outcome) → Kept f o → Kept f′ o′ → Kept (orStuck (elim b [ true ↦ some f | false ↦ some f′ ])) (orStuck (elim b [ true ↦ some o | false ↦ some o′ ]))
+  kept-side : (b : Bool) (f f′ o o′ : Outcome) → Kept f o → Kept f′ o′
+      → Kept (orStuck (elim b [ true ↦ some f | false ↦ some f′ ])) (orStuck (elim b [ true ↦ some o | false ↦ some o′ ]))
   unfolding orStuck
   kept-side true f f′ o o′ h g = h
   kept-side false f f′ o o′ h g = g
@@ -231,14 +245,16 @@ module _ (ag : Agreement) (T′ : ℕ) where
 abbrev SameOrStuck : Outcome → Outcome → Type 0
 SameOrStuck x y = (x ≡ stuck) ⊎ (x ≡ y)
 
-joined-deeper : (j : Join) (f g l r : Outcome) → SameOrStuck f l → SameOrStuck g r → SameOrStuck (joined j f g) (joined j l r)
+joined-deeper : (j : Join) (f g l r : Outcome) → SameOrStuck f l → SameOrStuck g r
+    → SameOrStuck (joined j f g) (joined j l r)
 unfolding joined joinBoth joinEither
 joined-deeper and f g l r (inl p) k = inl (ap (λ x. joinBoth x g) p)
 joined-deeper or f g l r (inl p) k = inl (ap (λ x. joinEither x g) p)
 joined-deeper j f g l r (inr p) (inl q) = inl (ap (joined j f) q ∙ stuck-right j f)
 joined-deeper j f g l r (inr p) (inr q) = inr (ap₂ (joined j) p q)
 
-deeper-bind : {A : Type 0} (m : Option A) (f g : A → Option Outcome) → ((x : A) → SameOrStuck (orStuck (f x)) (orStuck (g x))) → SameOrStuck (orStuck (m >>= f)) (orStuck (m >>= g))
+deeper-bind : {A : Type 0} (m : Option A) (f g : A → Option Outcome)
+    → ((x : A) → SameOrStuck (orStuck (f x)) (orStuck (g x))) → SameOrStuck (orStuck (m >>= f)) (orStuck (m >>= g))
 unfolding _>>=_ orStuck
 deeper-bind none f g h = inl refl
 deeper-bind (some x) f g h = h x
@@ -251,15 +267,18 @@ module _ (un vn : ℕ → List Val → List ℕ → ℕ → Outcome) (uv : (k : 
   walk-deeper (choice w t f) e a = deeper-bind (window e a w) _ _ λ v. walk-deeper f e (laterOf a (v .last))
   walk-deeper (if x t f) e a = deeper-bind (evalBool (e .values) x) _ _ (side (walk-deeper t e a) (walk-deeper f e a))
     where
-      side : SameOrStuck (walk forecasting un t e a) (walk forecasting vn t e a) → SameOrStuck (walk forecasting un f e a) (walk forecasting vn f e a)
-          → (b : Bool) → SameOrStuck (orStuck (elim b [ true ↦ some (walk forecasting un t e a) | false ↦ some (walk forecasting un f e a) ])) (orStuck (elim b [ true ↦ some (walk forecasting vn t e a) | false ↦ some (walk forecasting vn f e a) ]))
+      side : SameOrStuck (walk forecasting un t e a) (walk forecasting vn t e a)
+          → SameOrStuck (walk forecasting un f e a) (walk forecasting vn f e a)
+          → (b : Bool)
+          → SameOrStuck (orStuck (elim b [ true ↦ some (walk forecasting un t e a) | false ↦ some (walk forecasting un f e a) ])) (orStuck (elim b [ true ↦ some (walk forecasting vn t e a) | false ↦ some (walk forecasting vn f e a) ]))
       side h g true = h
       side h g false = g
   walk-deeper (join j t f) e a = joined-deeper j _ _ _ _ (walk-deeper t e a) (walk-deeper f e a)
   walk-deeper (instance k es bs) e a = deeper-bind (evals (e .values) es) _ _ λ vs. deeper-bind (blamedAll (e .params) bs) _ _ λ ps. uv k vs ps a
   walk-deeper badClause e a = inr refl
 
-walkIn-deeper : (ts : List Template) (m n : ℕ) → m ≤ n → (c : Clause) (e : Sight) (a : ℕ) → SameOrStuck (walkIn forecasting ts m c e a) (walkIn forecasting ts n c e a)
+walkIn-deeper : (ts : List Template) (m n : ℕ) → m ≤ n → (c : Clause) (e : Sight) (a : ℕ)
+    → SameOrStuck (walkIn forecasting ts m c e a) (walkIn forecasting ts n c e a)
 unfolding walkIn orStuck
 walkIn-deeper ts zero zero le = walk-deeper _ _ (λ k vs ps a. inl refl)
 walkIn-deeper ts zero (suc n) le = walk-deeper _ _ (λ k vs ps a. inl refl)
@@ -272,7 +291,8 @@ module _ (ag : Agreement) (r : Reading) (mark : r .type ≡ 0) where
   KeptAt f o = Kept ag (r .time) f o
 
   -- what waits on at T is foretold as before
-  waiting-kept : (f : Outcome) (res : Residue) → Coming (r .time) f → SameOrStuck f (forecast ag res) → KeptAt f (running res)
+  waiting-kept : (f : Outcome) (res : Residue) → Coming (r .time) f → SameOrStuck f (forecast ag res)
+      → KeptAt f (running res)
   unfolding Done SameForecast
   waiting-kept f res c (inl p) = subst (λ x. KeptAt x (running res)) (sym p) (stuckBefore _)
   waiting-kept done res c (inr p) = waits done res (c .0) (sym p)
@@ -281,18 +301,22 @@ module _ (ag : Agreement) (r : Reading) (mark : r .type ≡ 0) where
   waiting-kept stuck res c (inr p) = stuckBefore _
 
   -- what is late is decided; what is not waits on
-  kept-late : (a : ℕ) (v : Window) (f x : Option Outcome) (y : Outcome) (res : Residue) → y ≡ running res → Coming (laterOf a (v .last)) (orStuck f) → SameOrStuck (orStuck f) (forecast ag res)
-      → (T (late v r) → KeptAt (orStuck f) (orStuck x)) → KeptAt (orStuck f) (orStuck (elim (late v r) [ true ↦ x | false ↦ some y ]))
+  kept-late : (a : ℕ) (v : Window) (f x : Option Outcome) (y : Outcome) (res : Residue) → y ≡ running res
+      → Coming (laterOf a (v .last)) (orStuck f) → SameOrStuck (orStuck f) (forecast ag res)
+      → (T (late v r) → KeptAt (orStuck f) (orStuck x))
+      → KeptAt (orStuck f) (orStuck (elim (late v r) [ true ↦ x | false ↦ some y ]))
   unfolding late orStuck
   kept-late a v f x y res e c same h = go (ltZ (v .last) (pos (r .time))) refl
     where
-      go : (b : Bool) → ltZ (v .last) (pos (r .time)) ≡ b → KeptAt (orStuck f) (orStuck (elim b [ true ↦ x | false ↦ some y ]))
+      go : (b : Bool) → ltZ (v .last) (pos (r .time)) ≡ b
+          → KeptAt (orStuck f) (orStuck (elim b [ true ↦ x | false ↦ some y ]))
       go true q = h (subst T (sym q) tt)
       go false q = subst (λ o. KeptAt (orStuck f) o) (sym e)
           (waiting-kept (orStuck f) res (not-before-mono (r .time) (laterOf a (v .last)) (orStuck f) (later-beyond a (r .time) (v .last) (subst (λ b. T (not b)) (sym q) tt)) (c .0), c .1) same)
 
   -- the forecast of a unit is that of the clause at its place
-  unit-forecast : (k : Sort) (p a : ℕ) (e : Sight) (x : Found) → clauseAt ag p ≡ some x → during forecasting (ag .templates) (x .clause) e a ≡ forecast ag (unit k p a e)
+  unit-forecast : (k : Sort) (p a : ℕ) (e : Sight) (x : Found) → clauseAt ag p ≡ some x
+      → during forecasting (ag .templates) (x .clause) e a ≡ forecast ag (unit k p a e)
   unfolding forecast across orStuck
   unit-forecast k p a e x is = sym (ap orStuck (some-bind (clauseAt ag p) _ x is))
 
@@ -301,10 +325,13 @@ module _ (ag : Agreement) (r : Reading) (mark : r .type ≡ 0) where
       (ut : (k : ℕ) (vs : List Val) (ps : List ℕ) (a : ℕ) → a ≤ r .time → KeptAt (un k vs ps a) (mn k vs ps a))
       (deep : (c : Clause) (e : Sight) (a : ℕ) → SameOrStuck (walk forecasting un c e a) (during forecasting (ag .templates) c e a)) where
     -- the forecast that a clause has, once its window is known, is its unit's
-    on-unit : (c : Clause) (k : Sort) (p a : ℕ) (e : Sight) (x : Found) (f : Outcome) → clauseAt ag p ≡ some x → x .clause ≡ c → walk forecasting un c e a ≡ f → SameOrStuck f (forecast ag (unit k p a e))
+    on-unit : (c : Clause) (k : Sort) (p a : ℕ) (e : Sight) (x : Found) (f : Outcome) → clauseAt ag p ≡ some x
+        → x .clause ≡ c → walk forecasting un c e a ≡ f → SameOrStuck f (forecast ag (unit k p a e))
     on-unit c k p a e x f is same ef = subst (λ g. SameOrStuck g (forecast ag (unit k p a e))) ef (subst (SameOrStuck (walk forecasting un c e a)) (ap (λ c. during forecasting (ag .templates) c e a) (sym same) ∙ unit-forecast k p a e x is) (deep c e a))
 
-    walk-kept : (c : Clause) (n : ℕ) (env : List Ty) (e : Sight) (a : ℕ) (bs : List ℕ) → a ≤ r .time → typeClause (namesOf ag n) env c ≡ some bs → Placed ag n env c → KeptAt (walk forecasting un c e a) (walk (following (ag .templates) r) mn c e a)
+    walk-kept : (c : Clause) (n : ℕ) (env : List Ty) (e : Sight) (a : ℕ) (bs : List ℕ) → a ≤ r .time
+        → typeClause (namesOf ag n) env c ≡ some bs → Placed ag n env c
+        → KeptAt (walk forecasting un c e a) (walk (following (ag .templates) r) mn c e a)
     unfolding walk forecasting following typeClause namesOf orStuck Placed NotBefore Done
     walk-kept fulfilled n env e a bs le ty pl = fulfils
     walk-kept (obligation b w t) n env e a bs le ty pl =
@@ -340,7 +367,9 @@ module _ (ag : Agreement) (r : Reading) (mark : r .type ≡ 0) where
     walk-kept badClause n env e a bs le ty pl = stuckBefore stuck
 
 module _ (ag : Agreement) (mains : List ℕ) (fair : Fair ag mains) (r : Reading) (mark : r .type ≡ 0) where
-  walkIn-kept : (m : ℕ) → m ≤ length (ag .templates) → (c : Clause) (n : ℕ) (env : List Ty) (e : Sight) (a : ℕ) (bs : List ℕ) → a ≤ r .time → typeClause (namesOf ag n) env c ≡ some bs → Placed ag n env c
+  walkIn-kept : (m : ℕ) → m ≤ length (ag .templates)
+      → (c : Clause) (n : ℕ) (env : List Ty) (e : Sight) (a : ℕ) (bs : List ℕ) → a ≤ r .time
+      → typeClause (namesOf ag n) env c ≡ some bs → Placed ag n env c
       → Kept ag (r .time) (walkIn forecasting (ag .templates) m c e a) (walkIn (following (ag .templates) r) (ag .templates) m c e a)
   unfolding walkIn NotBefore Done orStuck during
   walkIn-kept zero few = walk-kept ag r mark _ _ (λ k vs ps a. (tt, tt)) (λ k vs ps a le. stuckBefore stuck) (walkIn-deeper (ag .templates) zero (length (ag .templates)) few)
@@ -351,7 +380,8 @@ module _ (ag : Agreement) (mains : List ℕ) (fair : Fair ag mains) (r : Reading
       (walkIn-deeper (ag .templates) (suc m) (length (ag .templates)) few)
 
   -- of a residue whose units all wait since T at the latest
-  pub forecast-kept : (now : ℕ) → now ≤ r .time → (res : Residue) (ps : List ℕ) → Ok ag (λ t. (ag .start ≤ t) × (t ≤ now)) res ps → Kept ag (r .time) (forecast ag res) (follow ag r res)
+  pub forecast-kept : (now : ℕ) → now ≤ r .time → (res : Residue) (ps : List ℕ)
+      → Ok ag (λ t. (ag .start ≤ t) × (t ≤ now)) res ps → Kept ag (r .time) (forecast ag res) (follow ag r res)
   unfolding forecast follow across Ok orStuck during
   forecast-kept now le (unit s p a e) ps ok =
       kept-bind ag (r .time) (clauseAt ag p) _ _ λ c pc.

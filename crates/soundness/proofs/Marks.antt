@@ -1,5 +1,5 @@
 -- What an accepted mark makes of a run and its forecast (`mark-next`), and every list of them: paper 01, "Following a reading".
--- Main theorems: `until`, `never`, `not-yet`, `at-once`, `frozen`.
+-- Main theorems: `never`, `not-yet`, `at-once`, `until`, `given`, `frozen`.
 use mathlib.Core.Bool.{_&&_, false, true}
 use mathlib.Core.List.{List, [], _∷_}
 use mathlib.Core.Logic.{inl, inr, _⊎_}
@@ -55,9 +55,11 @@ mark-time a m d e =
 -- ---- a forecast f, and the run after an accepted mark: it stays, or the run is breached as foretold
 pub data Next (a : Agreement) (f : Forecast) (time : ℕ) (q : Run) : Type 0 where
   -- not later than the forecast time: no breach, and the forecast stays as it was
-  stays : ((t b : ℕ) → f ≡ breachAt t b → time ≤ t) → (IsBreach (q .outcome) → ⊥) → shown (forecastRun a q) ≡ f → Next a f time q
+  stays : ((t b : ℕ) → f ≡ breachAt t b → time ≤ t) → (IsBreach (q .outcome) → ⊥) → shown (forecastRun a q) ≡ f
+      → Next a f time q
   -- not earlier: a breach at the forecast time, by some of the forecast's parties; of a later mark by all of them
-  broken : (t b : ℕ) (qs : List ℕ) → f ≡ breachAt t b → t ≤ time → q ≡ runAt time (breach t qs) → 0 < bitsOf qs → T (subset (members (bitsOf qs)) (members b)) → (t < time → bitsOf qs ≡ b) → Next a f time q
+  broken : (t b : ℕ) (qs : List ℕ) → f ≡ breachAt t b → t ≤ time → q ≡ runAt time (breach t qs) → 0 < bitsOf qs
+      → T (subset (members (bitsOf qs)) (members b)) → (t < time → bitsOf qs ≡ b) → Next a f time q
 
 -- the time and the parties of a forecast
 breach-inj : {t u b c : ℕ} → breachAt t b ≡ breachAt u c → (t ≡ u) × (b ≡ c)
@@ -92,10 +94,11 @@ breach-state q = go (q .lastTime) (q .outcome)
 
 -- ---- of a checked agreement
 module _ (bytes : List ℕ) (a : Agreement) (mains : List ℕ) (ck : checked bytes ≡ accepted a mains) where
-  abbrev Fine : Run → Type 0
-  Fine q = InvOf bytes a mains ck q
+  abbrev Sound : Run → Type 0
+  Sound q = InvOf bytes a mains ck q
 
-  waits-next : (f : Outcome) (res : Residue) (time : ℕ) → NotBefore time f → SameForecast f (forecast a res) → Next a (shown f) time (runAt time (running res))
+  waits-next : (f : Outcome) (res : Residue) (time : ℕ) → NotBefore time f → SameForecast f (forecast a res)
+      → Next a (shown f) time (runAt time (running res))
   unfolding NotBefore SameForecast shown forecastRun IsBreach bitsOf
   waits-next done res time n h = stays (λ t b e. absurd (none-breach e)) (λ b. b) (ap shown h)
   waits-next (breach t ps) res time n h = stays (λ u b e. omega (arith, (breach-inj e) .0)) (λ b. b) (ap shown (h .1) ∙ ap (breachAt t) (same-bits 16 0 (h .0) ps (h .3) (h .2)))
@@ -103,7 +106,8 @@ module _ (bytes : List ℕ) (a : Agreement) (mains : List ℕ) (ck : checked byt
   waits-next stuck res time n h = absurd h
 
   -- what is kept of a forecast that is not stuck, by an outcome that is not
-  kept-next : (f o : Outcome) (time : ℕ) → Kept a time f o → ForecastOk a mains f → Good a (Since a time) mains o → Next a (shown f) time (runAt time o)
+  kept-next : (f o : Outcome) (time : ℕ) → Kept a time f o → ForecastOk a mains f → Good a (Since a time) mains o
+      → Next a (shown f) time (runAt time o)
   unfolding ForecastOk Good shown forecastRun IsBreach bitsOf members Sub
   kept-next f o time fulfils k g = stays (λ t b e. absurd (none-breach e)) (λ b. b) refl
   kept-next f o time (waits f′ res n h) k g = waits-next f′ res time n h
@@ -115,7 +119,9 @@ module _ (bytes : List ℕ) (a : Agreement) (mains : List ℕ) (ck : checked byt
   kept-next f o time (stuckBefore o′) k g = absurd k
   kept-next f o time (stuckAfter f′) k g = absurd g
 
-  reached-next : (now : ℕ) (o : Outcome) (d : Reading) → Inv a mains now o → (IsBreach o → ⊥) → d .type ≡ 0 → now ≤ d .time → ReadingOk a d → Next a (shown (forecastRun a (runAt now o))) (d .time) (runAt (d .time) (reached a o d))
+  reached-next : (now : ℕ) (o : Outcome) (d : Reading) → Inv a mains now o → (IsBreach o → ⊥) → d .type ≡ 0
+      → now ≤ d .time → ReadingOk a d
+      → Next a (shown (forecastRun a (runAt now o))) (d .time) (runAt (d .time) (reached a o d))
   unfolding reached forecastRun shown IsBreach Good
   reached-next now done d i nb mark le ok = stays (λ t b e. absurd (none-breach e)) (λ b. b) refl
   reached-next now (breach t ps) d i nb mark le ok = absurd (nb tt)
@@ -124,11 +130,12 @@ module _ (bytes : List ℕ) (a : Agreement) (mains : List ℕ) (ck : checked byt
       (forecast-ok a mains (isFair bytes a mains ck) now res (i .good .0) (i .good .1) (i .good .2)) (reached-good bytes a mains ck now (running res) d le ok nb i)
   reached-next now stuck d i nb mark le ok = absurd (i .good)
 
-  case-of : (q : Run) (m : List ℕ) → Fine q → Case a (q .lastTime) (q .outcome) m
+  case-of : (q : Run) (m : List ℕ) → Sound q → Case a (q .lastTime) (q .outcome) m
   case-of q m i = cases a (q .lastTime) (q .outcome) m (not-stuck a mains (q .lastTime) (q .outcome) (i .good))
 
   -- ---- one accepted mark
-  mark-next : (f : Forecast) (q : Run) (m : List ℕ) → Fine q → Stays a f q → IsMark a m → (step a q m) .number ≡ 0 → Next a f (timeIn m) ((step a q m) .run)
+  mark-next : (f : Forecast) (q : Run) (m : List ℕ) → Sound q → Stays a f q → IsMark a m → (step a q m) .number ≡ 0
+      → Next a f (timeIn m) ((step a q m) .run)
   unfolding IsMark Stays
   mark-next f q m i s mk z = go (case-of q m i)
     where
@@ -145,23 +152,26 @@ module _ (bytes : List ℕ) (a : Agreement) (mains : List ℕ) (ck : checked byt
 
   -- ---- every list of accepted marks
   -- after a breach none alters the run
-  pub frozen : (q : Run) (ms : List (List ℕ)) → Fine q → IsBreach (q .outcome) → runAfter a q ms ≡ q
+  pub frozen : (q : Run) (ms : List (List ℕ)) → Sound q → IsBreach (q .outcome) → runAfter a q ms ≡ q
   unfolding runAfter
   frozen q [] i b = refl
   frozen q (m ∷ ms) i b = ap (λ r. runAfter a r ms) (step-final a (q .lastTime) (q .outcome) m (case-of q m i) b) ∙ frozen q ms i b
 
-  next-fine : (q : Run) (m : List ℕ) → Bytes m → Fine q → Fine ((step a q m) .run)
+  next-fine : (q : Run) (m : List ℕ) → Bytes m → Sound q → Sound ((step a q m) .run)
   next-fine q m h i = step-inv bytes a mains ck (q .lastTime) (q .outcome) m h i
 
   -- the run after accepted marks: not breached, with the forecast as it was, or what a breach as foretold gives; C is what is known of the marks' times
   ends : (f : Forecast) (C : ℕ → Type 0) (R : Run → Type 0)
       → ((time t b : ℕ) (qs : List ℕ) → C time → f ≡ breachAt t b → t ≤ time → 0 < bitsOf qs → T (subset (members (bitsOf qs)) (members b)) → (t < time → bitsOf qs ≡ b) → R (runAt time (breach t qs)))
-      → (q : Run) (ms : List (List ℕ)) → AllBytes ms → Fine q → Stays a f q → Marks a q ms → AllTimes C ms → Stays a f (runAfter a q ms) ⊎ R (runAfter a q ms)
+      → (q : Run) (ms : List (List ℕ)) → AllBytes ms → Sound q → Stays a f q → Marks a q ms → AllTimes C ms
+      → Stays a f (runAfter a q ms) ⊎ R (runAfter a q ms)
   unfolding AllBytes runAfter Marks AllTimes Stays
   ends f C R k q [] h i s mk c = inl s
   ends f C R k q (m ∷ ms) h i s mk c = go (mark-next f q m i s (mk .0) (mk .1)) (λ s′. ends f C R k ((step a q m) .run) ms (h .1) (next-fine q m (h .0) i) s′ (mk .2) (c .1))
     where
-      go : Next a f (timeIn m) ((step a q m) .run) → (Stays a f ((step a q m) .run) → Stays a f (runAfter a ((step a q m) .run) ms) ⊎ R (runAfter a ((step a q m) .run) ms)) → Stays a f (runAfter a ((step a q m) .run) ms) ⊎ R (runAfter a ((step a q m) .run) ms)
+      go : Next a f (timeIn m) ((step a q m) .run)
+          → (Stays a f ((step a q m) .run) → Stays a f (runAfter a ((step a q m) .run) ms) ⊎ R (runAfter a ((step a q m) .run) ms))
+          → Stays a f (runAfter a ((step a q m) .run) ms) ⊎ R (runAfter a ((step a q m) .run) ms)
       go (stays n nb e) ih = ih (nb, e)
       go (broken t b qs e le is pos sub all) ih = inr (subst R (sym (frozen ((step a q m) .run) ms (next-fine q m (h .0) i) (subst (λ r. IsBreach (r .outcome)) (sym is) (unfold IsBreach in tt)) ∙ is)) (k (timeIn m) t b qs (c .0) e le pos sub all))
 
@@ -174,20 +184,24 @@ module _ (bytes : List ℕ) (a : Agreement) (mains : List ℕ) (ck : checked byt
   only (inl x) = x
   only (inr x) = absurd x
 
-  module _ (q : Run) (ms : List (List ℕ)) (h : AllBytes ms) (i : Fine q) (mk : Marks a q ms) where
+  module _ (q : Run) (ms : List (List ℕ)) (h : AllBytes ms) (i : Sound q) (mk : Marks a q ms) where
     -- "with forecast none, no mark breaches"
     pub never : Stays a noBreach q → Stays a noBreach (runAfter a q ms)
     never s = only (ends noBreach (λ _. Unit {0}) (λ _. ⊥) (λ time t b qs c e le pos sub all. none-breach e) q ms h i s mk (all-any ms))
 
     -- while they are earlier than the forecast time, none breaches
-    pub not-yet : (t b : ℕ) → Stays a (breachAt t b) q → AllTimes (λ time. time < t) ms → Stays a (breachAt t b) (runAfter a q ms)
+    pub not-yet : (t b : ℕ) → Stays a (breachAt t b) q → AllTimes (λ time. time < t) ms
+        → Stays a (breachAt t b) (runAfter a q ms)
     not-yet t b s c = only (ends (breachAt t b) (λ time. time < t) (λ _. ⊥) (λ time u b′ qs lt e le pos sub all. omega (arith, (breach-inj e) .0)) q ms h i s mk c)
 
     -- none later than the forecast time: no breach, or one at that time by some of the forecast's parties
-    pub at-once : (t b : ℕ) → Stays a (breachAt t b) q → AllTimes (λ time. time ≤ t) ms → Stays a (breachAt t b) (runAfter a q ms) ⊎ AtOnce t b (runAfter a q ms)
+    pub at-once : (t b : ℕ) → Stays a (breachAt t b) q → AllTimes (λ time. time ≤ t) ms
+        → Stays a (breachAt t b) (runAfter a q ms) ⊎ AtOnce t b (runAfter a q ms)
     at-once t b s c = ends (breachAt t b) (λ time. time ≤ t) (AtOnce t b) at q ms h i s mk c
       where
-        at : (time u b′ : ℕ) (qs : List ℕ) → time ≤ t → breachAt t b ≡ breachAt u b′ → u ≤ time → 0 < bitsOf qs → T (subset (members (bitsOf qs)) (members b′)) → (u < time → bitsOf qs ≡ b′) → AtOnce t b (runAt time (breach u qs))
+        at : (time u b′ : ℕ) (qs : List ℕ) → time ≤ t → breachAt t b ≡ breachAt u b′ → u ≤ time → 0 < bitsOf qs
+            → T (subset (members (bitsOf qs)) (members b′)) → (u < time → bitsOf qs ≡ b′)
+            → AtOnce t b (runAt time (breach u qs))
         at time u b′ qs c e le pos sub all =
             let same = breach-inj e in
             let now : time ≡ t = omega (arith, same .0) in
@@ -203,14 +217,18 @@ module _ (bytes : List ℕ) (a : Agreement) (mains : List ℕ) (ck : checked byt
         go (inr x) = absurd (nb x)
 
   -- "An accepted mark later than a forecast time gives just that breach"
-  pub given : (t b : ℕ) (q : Run) (m : List ℕ) → Fine q → Stays a (breachAt t b) q → IsMark a m → (step a q m) .number ≡ 0 → t < timeIn m → (qs : List ℕ) × ((step a q m) .run ≡ runAt (timeIn m) (breach t qs)) × (bitsOf qs ≡ b)
+  pub given : (t b : ℕ) (q : Run) (m : List ℕ) → Sound q → Stays a (breachAt t b) q → IsMark a m
+      → (step a q m) .number ≡ 0 → t < timeIn m
+      → (qs : List ℕ) × ((step a q m) .run ≡ runAt (timeIn m) (breach t qs)) × (bitsOf qs ≡ b)
   given t b q m i s mk z lt = go (mark-next (breachAt t b) q m i s mk z)
     where
-      go : Next a (breachAt t b) (timeIn m) ((step a q m) .run) → (qs : List ℕ) × ((step a q m) .run ≡ runAt (timeIn m) (breach t qs)) × (bitsOf qs ≡ b)
+      go : Next a (breachAt t b) (timeIn m) ((step a q m) .run)
+          → (qs : List ℕ) × ((step a q m) .run ≡ runAt (timeIn m) (breach t qs)) × (bitsOf qs ≡ b)
       go (stays n nb e) = let c = n t b refl in absurd (omega arith)
       go (broken u c qs e le is pos sub all) = let same = breach-inj e in (qs, is ∙ ap (λ v. runAt (timeIn m) (breach v qs)) (sym (same .0)), all (omega (arith, same .0)) ∙ sym (same .1))
 
-  pub forecast-is : (cells : List ℤ) (q : Run) → length cells ≡ 3080 → runOf a mains cells ≡ some q → forecastOf bytes cells ≡ shown (forecastRun a q)
+  pub forecast-is : (cells : List ℤ) (q : Run) → length cells ≡ 3080 → runOf a mains cells ≡ some q
+      → forecastOf bytes cells ≡ shown (forecastRun a q)
   unfolding forecastOf
   forecast-is cells q h e =
       ap (λ c. elim c [ refused n ↦ refusedForecast n | accepted a ps ↦ elim (isTable cells) [ false ↦ refusedForecast 6 | true ↦ elim (runOf a ps cells) [ none ↦ refusedForecast 7 | some x ↦ shown (forecastRun a x) ] ] ]) ck
@@ -235,11 +253,12 @@ module _ (bytes : List ℕ) (a : Agreement) (mains : List ℕ) (ck : checked byt
   fits stuck k = k
 
   -- what the forecast entry answers on a run's table
-  pub forecast-shows : (q : Run) → Fine q → forecastOf bytes (tableOf q) ≡ shown (forecastRun a q)
+  pub forecast-shows : (q : Run) → Sound q → forecastOf bytes (tableOf q) ≡ shown (forecastRun a q)
   forecast-shows q i =
       let x = reads a mains (few-mains bytes a mains ck) (q .lastTime) (q .outcome) i in
       forecast-is (tableOf q) (runAt (q .lastTime) (x .0)) (table-len a mains (q .lastTime) (q .outcome) i) (x .1) ∙ alike (x .0) (q .outcome) (x .2)
     where
-      alike : (x o : Outcome) → Alike x o → shown (forecastRun a (runAt (q .lastTime) x)) ≡ shown (forecastRun a (runAt (q .lastTime) o))
+      alike : (x o : Outcome) → Alike x o
+          → shown (forecastRun a (runAt (q .lastTime) x)) ≡ shown (forecastRun a (runAt (q .lastTime) o))
       alike x o (same o′) = refl
       alike x o (breached t ps) = unfold forecastRun shown bitsOf members in ap (breachAt t) (bits-back 16 0 ps)
