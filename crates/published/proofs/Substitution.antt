@@ -32,6 +32,10 @@ literal-evaluates env (bool false) = e-false
 literal-evaluates env (bool true) = e-true
 literal-evaluates env (who p) = e-party
 
+put-found : (θ : List Val) (i : ℕ) (v : Val) → at θ i ≡ some v → putExpr θ (variable i) ≡ literal v
+unfolding putExpr
+put-found θ i v e = rw (e, putExpr) refl
+
 -- e ⇓ v with θ in sight, so e[θ] ⇓ v
 pub evaluates-put : (θ : List Val) {e : Expr} {v : Val} → Evaluates θ e v → Evaluates [] (putExpr θ e) v
 unfolding putExpr
@@ -39,7 +43,7 @@ evaluates-put θ e-number = e-number
 evaluates-put θ e-false = e-false
 evaluates-put θ e-true = e-true
 evaluates-put θ e-party = e-party
-evaluates-put θ (e-sight {i = i} {v = v} p) = subst (λ o. Evaluates [] (elim o [ some v ↦ literal v | none ↦ variable (i - length θ) ]) v) (sym p) (literal-evaluates [] v)
+evaluates-put θ (e-sight {i = i} {v = v} p) = subst (λ e. Evaluates [] e v) (sym (put-found θ i v p)) (literal-evaluates [] v)
 evaluates-put θ (e-not b d) = e-not b (evaluates-put θ d)
 evaluates-put θ (e-arithmetic o m n p q) = e-arithmetic o m n (evaluates-put θ p) (evaluates-put θ q)
 evaluates-put θ (e-and b c p q) = e-and b c (evaluates-put θ p) (evaluates-put θ q)
