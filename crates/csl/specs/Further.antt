@@ -1,5 +1,6 @@
--- Trials beyond P1 to P15, by computation, as one claim over a list: just enough that no line of a definition can be changed unseen.
--- bench/mutants changes them line by line; bench/MUTANTS.md says which trial refuses each change. All further trials are executed: crates/trials.
+-- Trials beyond P1 to P15, by computation, as one claim over a list: just enough that no line of a definition can be
+-- changed unseen. bench/mutants changes them; bench/MUTANTS.md says which trial refuses each change.
+-- All further trials are executed: crates/trials.
 use mathlib.Core.Bool.{Bool, true, false}
 use mathlib.Core.List.{List, [], _∷_, _++_, map}
 use mathlib.Core.Option.{Option, none, some}
@@ -291,7 +292,8 @@ joins =
     ∷ after 0 161 (by 160 1) (by 160 1) ∷ [])
     ∷ []
 
--- ---- readings: 8, 9 and 10, at a fulfilled agreement of three parties whose readings have a number, a truth and a party
+-- ---- readings: 8, 9 and 10
+-- a fulfilled agreement of three parties whose readings have a number, a truth and a party
 unfoldable pub values : ℕ → ℤ → ℤ → ℤ → List ℕ
 values t a b c = readingWith t 1 (a ∷ b ∷ c ∷ [])
 
@@ -622,7 +624,7 @@ mixed = agreementOf 3 (readingTypeOf (1 ∷ 2 ∷ 3 ∷ []) ∷ [])
     (all′ (owes 0 (var 1) (pos 0) (pos 60) (otherwise (simply 0 (pos 20))))
     (any′ (inst 0 (lit (pos 50) ∷ []) (1 ∷ 1 ∷ [])) (owes 1 (opposite (var 1)) (pos 0) (pos 60) nothing)))
 
--- after the reading (110; 7, true, party 2): units of an `and`, the choice, an `or`, the template's and the main clause's obligation
+-- after the reading (110; 7, true, party 2): an `and`, the choice, an `or`, the template's and the main clause's obligation
 unfoldable pub lent : ℕ → ℕ → List ℤ
 lent p q = unitOf 17 28 100 (pos p ∷ pos q ∷ []) (pos 50 ∷ [])
 
@@ -688,7 +690,7 @@ sound =
 unfoldable pub ends : ℕ → Outcome → Seen
 ends now o = reads (some (record { lastTime = now; outcome = o }))
 
--- waiting clauses in each place of a `then`, which sees a value and the remaining time, and in a template of two parameters
+-- waiting clauses in each place of a `then`, which sees a value and the remaining time, and in a template
 unfoldable pub sights : List ℕ
 sights = agreementOf 3 (aNumber ∷ [])
     (templateOf (1 ∷ []) 2 0 (may yes′ (pos 0) (pos 60) (simply 128 (pos 60)) (simply 129 (pos 60))) ∷ [])
