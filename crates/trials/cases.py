@@ -80,7 +80,8 @@ def second(inner, outer, body): return agreement(NIL, [template(NIL, declared=in
 # main: party 0 owes a reading with truth (at 72), then a choice (at 99) sees number, truth, party and remaining time;
 # and template 0 for party 1, or party 1 owes a reading without truth (at 179)
 MIXED = agreement(
-    both(owes(0, where=var(1), then=otherwise(simply(0, 20))), either(inst(0, [lit(50)], [1, 1]), owes(1, where=neg(var(1))))),
+    both(owes(0, where=var(1), then=otherwise(simply(0, 20))),
+         either(inst(0, [lit(50)], [1, 1]), owes(1, where=neg(var(1))))),
     [template(owes(128, where=op(42, var(0), var(1))), [1], 2)], [reading(1, 2, 3)], 3)
 
 
@@ -89,7 +90,8 @@ def values(a, b, c): return [a, b, c]
 
 
 BEGUN = running(100, [joining(20), waiting(17, 72, 100, [], []), joining(21), lent(1), waiting(17, 179, 100, [], [])])
-GOOD = running(110, [joining(20), waiting(18, 99, 110, [], [7, 1, 2, 50]), joining(21), lent(1), waiting(17, 179, 100, [], [])])
+GOOD = running(110, [
+    joining(20), waiting(18, 99, 110, [], [7, 1, 2, 50]), joining(21), lent(1), waiting(17, 179, 100, [], [])])
 
 
 def broken(table): rejects(7, MIXED, table)
@@ -124,23 +126,31 @@ case("the last party of sixteen", agreement(owes(15), parties=16), 0, 1 << 15)
 case("equal parties", agreement(owes(where=op(43, party(0), party(1)))), 0, 1)
 case("equal truths", agreement(owes(where=op(43, YES, truth(0)))), 0, 1)
 case("not and and", agreement(owes(where=op(41, neg(YES), YES))), 0, 1)
-case("all four operations", agreement(owes(within=op(37, op(38, lit(9), lit(1)), op(39, lit(2), op(40, lit(7), lit(2)))))), 0, 1)
+case("all four operations",
+     agreement(owes(within=op(37, op(38, lit(9), lit(1)), op(39, lit(2), op(40, lit(7), lit(2)))))), 0, 1)
 case("an instance by its declared parties", agreement(inst(0), [template(NIL, declared=3)]), 0, 3)
 case("an instance by its blames", agreement(inst(0, blames=[1]), [template(owes(128), params=1)]), 0, 2)
-case("an instance with values", agreement(inst(0, [lit(5), YES, party(1)]), [template(owes(within=var(0), where=op(41, var(1), op(43, var(2), party(1)))), types=(1, 2, 3), declared=1)]), 0, 1)
+case("an instance with values",
+     agreement(inst(0, [lit(5), YES, party(1)]),
+               [template(owes(within=var(0), where=op(41, var(1), op(43, var(2), party(1)))), (1, 2, 3), declared=1)]),
+     0, 1)
 case("a template that nothing names", agreement(NIL, [template(owes(1), declared=2)]), 0, 0)
 case("a template within its own then", agreement(inst(0), [template(owes(then=inst(0)), declared=1)]), 0, 1)
 case("a lower template unguarded", agreement(inst(1), [template(NIL), template(inst(0))]), 0, 0)
 case("the main clause names the last template", agreement(inst(1), [template(NIL), template(NIL)]), 0, 0)
 case("nesting of 24", agreement(nest(NIL, 22)), 0, 0)
 case("a body at nesting of 24", agreement(NIL, [template(nest(NIL, 21))]), 0, 0)
-case("16 in sight", agreement(inst(0, [lit(1)] * 8), [template(owes(wanted=2, then=owes(wanted=1, then=owes(wanted=3))), types=(1,) * 8, declared=1)], readings=[reading(1), reading(1, 1), reading()]), 0, 1)
+case("16 in sight",
+     agreement(inst(0, [lit(1)] * 8),
+               [template(owes(wanted=2, then=owes(wanted=1, then=owes(wanted=3))), types=(1,) * 8, declared=1)],
+               readings=[reading(1), reading(1, 1), reading()]), 0, 1)
 case("width of 255", agreement(balanced(7)), 0, 0)
 case("width of 256", agreement(may(other=balanced(7))), 0, 0)
 case("sixteen reading types", agreement(owes(wanted=16), readings=[reading()] * 16), 0, 1)
 case("thirty-two templates", agreement(NIL, [template(NIL)] * 32), 0, 0)
 case("four values in a reading", agreement(owes(where=op(43, var(3), party(0))), readings=[reading(1, 2, 3, 3)]), 0, 1)
-case("eight values and four parameters", agreement(inst(0, [lit(1)] * 8, [0, 1, 0, 1]), [template(NIL, types=(1,) * 8, params=4)]), 0, 3)
+case("eight values and four parameters",
+     agreement(inst(0, [lit(1)] * 8, [0, 1, 0, 1]), [template(NIL, types=(1,) * 8, params=4)]), 0, 3)
 
 # 1: length
 case("empty", b"", 1)
@@ -204,9 +214,12 @@ case("a blame missing", agreement(inst(0), [template(NIL, params=1)]), 2)
 case("a blame too many", agreement(inst(0, blames=[0]), [template(NIL)]), 2)
 
 # 3: typing
-for name, e in (("1 + true", op(37, lit(1), YES)), ("true - 1", op(38, YES, lit(1))), ("1 * party", op(39, lit(1), party(0))), ("true / 1", op(40, YES, lit(1)))):
+for name, e in (("1 + true", op(37, lit(1), YES)), ("true - 1", op(38, YES, lit(1))),
+                ("1 * party", op(39, lit(1), party(0))), ("true / 1", op(40, YES, lit(1)))):
     case(name, agreement(owes(within=e)), 3)
-for name, e in (("not 1", neg(lit(1))), ("1 and true", op(41, lit(1), YES)), ("true and 1", op(41, YES, lit(1))), ("true < true", op(42, YES, YES)), ("1 = true", op(43, lit(1), YES)), ("party = 0", op(43, party(0), lit(0)))):
+for name, e in (("not 1", neg(lit(1))), ("1 and true", op(41, lit(1), YES)), ("true and 1", op(41, YES, lit(1))),
+                ("true < true", op(42, YES, YES)), ("1 = true", op(43, lit(1), YES)),
+                ("party = 0", op(43, party(0), lit(0)))):
     case(name, agreement(owes(where=e)), 3)
 case("where a number", agreement(owes(where=lit(1))), 3)
 case("after a truth", agreement(owes(after=YES)), 3)
@@ -220,7 +233,8 @@ case("a number above the end", agreement(owes(within=lit(1000000001))), 3)
 case("a number below the end", agreement(owes(within=lit(-1000000001))), 3)
 case("truth 2", agreement(owes(where=truth(2))), 3)
 case("a party at the count", agreement(owes(where=op(43, party(2), party(0)))), 3)
-case("a parameter as a party literal", agreement(inst(0, blames=[0]), [template(owes(128, where=op(43, party(128), party(0))), params=1)]), 3)
+case("a parameter as a party literal",
+     agreement(inst(0, blames=[0]), [template(owes(128, where=op(43, party(128), party(0))), params=1)]), 3)
 case("a blame at the count", agreement(owes(2)), 3)
 case("a blame of 127", agreement(owes(127)), 3)
 case("a parameter in the main clause", agreement(owes(128)), 3)
@@ -230,7 +244,10 @@ case("wanted type 0", agreement(owes(wanted=0)), 3)
 case("wanted type over the count", agreement(owes(wanted=2)), 3)
 case("a declared party at the count", agreement(NIL, [template(NIL, declared=4)]), 3)
 case("a constant party not declared", agreement(NIL, [template(owes(1), declared=1)]), 3)
-case("17 in sight", agreement(inst(0, [lit(1)] * 8), [template(owes(wanted=2, then=owes(wanted=2, then=owes(wanted=2))), types=(1,) * 8, declared=1)], readings=[reading(1), reading(1, 1)]), 3)
+case("17 in sight",
+     agreement(inst(0, [lit(1)] * 8),
+               [template(owes(wanted=2, then=owes(wanted=2, then=owes(wanted=2))), types=(1,) * 8, declared=1)],
+               readings=[reading(1), reading(1, 1)]), 3)
 case("or with two parties", agreement(either(owes(0), owes(1))), 3)
 case("or with a party and a parameter", agreement(NIL, [template(either(owes(0), owes(128)), params=1, declared=1)]), 3)
 case("or with two parameters", agreement(NIL, [template(either(owes(128), owes(129)), params=2)]), 3)
@@ -411,7 +428,9 @@ refuses(2, agreement(both(asking(ONE), rec(23))))
 cause("3: the table's example")
 refuses(3, agreement(asking(is_zero(op(37, ONE, YES)))))
 cause("3: each operator in its place")
-accepts(1, agreement(asking(op(41, neg(op(42, op(37, ONE, op(38, ONE, ONE)), op(39, ONE, op(40, ONE, ONE)))), op(41, op(43, ONE, ONE), op(41, op(43, YES, YES), op(43, party(0), party(1))))))))
+accepts(1, agreement(asking(op(
+    41, neg(op(42, op(37, ONE, op(38, ONE, ONE)), op(39, ONE, op(40, ONE, ONE)))),
+    op(41, op(43, ONE, ONE), op(41, op(43, YES, YES), op(43, party(0), party(1))))))))
 cause("3: each operator with a wrong operand: not")
 refuses(3, agreement(asking(neg(ONE))))
 refuses(3, agreement(asking(neg(party(0)))))
@@ -520,7 +539,8 @@ refuses(3, beside(template(NIL, declared=32_768)))
 cause("3: an instance's parties are the declared ones, used or not, and its blames, used or not")
 accepts(3, calling(template(NIL, declared=3)))
 accepts(2, agreement(inst(0, [], [1]), [template(NIL, [], 1, 0)]))
-cause("3: a body's constant party that is not declared: a blame, in a then, in an else, an instance's blame, an instance's declared one")
+cause("3: a body's constant party that is not declared: a blame, in a then, in an else, an instance's blame, "
+      "an instance's declared one")
 accepts(0, beside(template(simply(0, 60), declared=1)))
 refuses(3, beside(template(simply(1, 60), declared=1)))
 refuses(3, beside(template(then_is(simply(1, 60)), declared=1)))

@@ -13,7 +13,7 @@ import sys
 
 HERE = os.path.dirname(os.path.abspath(__file__))
 sys.path.insert(0, HERE)
-from cases import CALLS, ZEROS  # noqa: E402
+from cases import CALLS  # noqa: E402
 from records import u2  # noqa: E402
 
 ENTRIES = {"check": 5, "start": 6, "reading": 7, "forecast": 8}
@@ -60,13 +60,12 @@ def vectors(path):
         if entry == "check":
             yield entry, data, [], b"", number, d.get("parties") or 0
             continue
-        table = ZEROS if entry == "start" and d["cells"] == 3080 else laid(d["cells"], {} if entry == "start" else d["table"])
-        after = table if number else laid(d["cells"], d["table" if entry == "start" else "after"] or {}) if entry != "forecast" else None
+        lent = laid(d["cells"], {} if entry == "start" else d["table"])
         if entry == "forecast":
-            answer = None if d.get("time") is None else (d["time"], d["parties"])
-            yield entry, data, table, b"", number, answer
-        else:
-            yield entry, data, table, bytes.fromhex(d.get("reading", "")), number, after
+            yield entry, data, lent, b"", number, None if d.get("time") is None else (d["time"], d["parties"])
+            continue
+        after = lent if number else laid(d["cells"], d["table" if entry == "start" else "after"])
+        yield entry, data, lent, bytes.fromhex(d.get("reading", "")), number, after
 
 
 def main():

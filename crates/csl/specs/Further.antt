@@ -1,5 +1,6 @@
--- Trials beyond P1 to P15, by computation, as one claim over a list: just enough that no line of a definition can be changed unseen.
--- bench/mutants changes them line by line; bench/MUTANTS.md says which trial refuses each change. All further trials are executed: crates/trials.
+-- Trials beyond P1 to P15, by computation, as one claim over a list: just enough that no line of a definition can be
+-- changed unseen. bench/mutants changes them; bench/MUTANTS.md says which trial refuses each change.
+-- All further trials are executed: crates/trials.
 use mathlib.Core.Bool.{Bool, true, false}
 use mathlib.Core.List.{List, [], _∷_, _++_, map}
 use mathlib.Core.Option.{Option, none, some}
@@ -9,7 +10,7 @@ use Prim.Native.String.{String}
 use lib.IntN.{ℤ, pos, negsuc}
 use lib.ListN.{length, replicate, take}
 use Rattle.csl.specs.Numbers.{plus}
-use Rattle.csl.specs.Syntax.{number, truth, party, arithmetic, conj, less, equal, Expr, numberLit, truthLit, partyLit, variable, negation, binary, badExpr, Op, Join, and, or, Wait, Clause, fulfilled, obligation, choice, if, join, instance, badClause, Template, Agreement}
+use Rattle.csl.specs.Syntax.{number, truth, party, arithmetic, conj, less, equal, Expr, numberLit, truthLit, partyLit, binary, badExpr, Op, Join, and, or, Wait, Clause, fulfilled, obligation, choice, if, join, instance, badClause, Template, Agreement}
 use Rattle.csl.specs.Decode.{countsOk, sized}
 use Rattle.csl.specs.Check.{Checked, refused, accepted, checked, checkDecoded, checkTyped, checkOf}
 use Rattle.csl.specs.Values.{Val, num, bool, who, valuesOf, eval}
@@ -17,38 +18,32 @@ use Rattle.csl.specs.Outcomes.{Sight, Sort, anObligation, aChoice, Resid
 use Rattle.csl.specs.Run.{Run, Stepped, started, step}
 use Rattle.csl.specs.Rules.{activate}
 use Rattle.csl.specs.Table.{isSort, tableOf, runOf}
-use Rattle.csl.specs.Entries.{Forecast, refusedForecast, noBreach, breachAt, noForecast, shown, startOf, readingOf, forecastOf, forecastRun}
-use Rattle.csl.specs.Build.{le2, le4, recordOf, lit, truthOf, yes′, partyOf, var, opposite, op, nothing, owesTyped, owes, simply, may, mayTyped, ifs, all′, any′, inst, readingTypeOf, templateOf, agreementOf, agreement, readingWith, reading, mark, sample, zeros, filled, unitOf, joinOf, flat, runningTable, fulfilledTable, breachedTable}
-use Rattle.csl.specs.Trials.{Trial, Seen, checks, answers, forecasts, steps, reads, becomes, decides, evaluates, holds, gives, follows, live, fulfils, breaches, harness}
+use Rattle.csl.specs.Entries.{refusedForecast, noForecast, shown, startOf, readingOf, forecastOf, forecastRun}
+use Rattle.csl.specs.Build.{le2, le4, recordOf, lit, truthOf, yes′, partyOf, var, opposite, op, nothing, owesTyped, owes, simply, may, mayTyped, ifs, all′, any′, inst, readingTypeOf, templateOf, agreementOf, agreement, readingWith, reading, mark, sample, zeros, filled, unitOf, joinOf, flat, runningTable, fulfilledTable}
+use Rattle.csl.specs.Trials.{Trial, Seen, checks, answers, forecasts, steps, reads, becomes, decides, evaluates, holds, gives, follows, live, breaches, harness}
 
 -- ---- forms of a trial
+unfoldable pub shows : String → List Seen → List Seen → Trial
+shows n s e = record { name = n; shown = s; expected = e }
+
+-- check's number and parties
+unfoldable pub says : ℕ → ℕ → Seen
+says k ps = checks (record { number = k; parties = ps })
+
 unfoldable pub accepts : String → ℕ → List ℕ → Trial
-accepts n ps b = record {
-  name = n;
-  shown = checks (checkOf b) ∷ [];
-  expected = checks
-      (record { number = 0; parties = ps }) ∷ [];
-}
+accepts n ps b = shows n (checks (checkOf b) ∷ []) (says 0 ps ∷ [])
 
 unfoldable pub refuses : String → ℕ → List ℕ → Trial
-refuses n k b = record {
-  name = n;
-  shown = checks (checkOf b) ∷ [];
-  expected = checks
-      (record { number = k; parties = 0 }) ∷ [];
-}
+refuses n k b = shows n (checks (checkOf b) ∷ []) (says k 0 ∷ [])
 
 -- by each entry, whatever the table and the reading
+unfoldable pub five : List ℤ
+five = pos 5 ∷ []
+
 unfoldable pub refusesAll : String → ℕ → List ℕ → Trial
-refusesAll n k b = record {
-  name = n;
-  shown = checks (checkOf b) ∷ answers (startOf b (pos 5 ∷ [])) ∷ answers
-      (readingOf b (pos 5 ∷ []) []) ∷ forecasts (forecastOf b (pos 5 ∷ [])) ∷ [];
-  expected = checks
-      (record { number = k; parties = 0 }) ∷ gives k (pos 5 ∷ []) ∷ gives k (pos 5 ∷ []) ∷ forecasts
-      (refusedForecast k)
-      ∷ [];
-}
+refusesAll n k b = shows n
+    (checks (checkOf b) ∷ answers (startOf b five) ∷ answers (readingOf b five []) ∷ forecasts (forecastOf b five) ∷ [])
+    (says k 0 ∷ gives k five ∷ gives k five ∷ forecasts (refusedForecast k) ∷ [])
 
 -- an agreement started and given readings, by the rules alone
 unfoldable pub stepsOf : Agreement → Stepped → List (List ℕ) → List Seen
@@ -77,10 +72,6 @@ chosen p a = waits aChoice p a [] []
 
 unfoldable pub by : ℕ → ℕ → Outcome
 by t p = breach t (p ∷ [])
-
--- definitions alone, where no agreement leads
-unfoldable pub shows : String → List Seen → List Seen → Trial
-shows n s e = record { name = n; shown = s; expected = e }
 
 -- ---- records
 -- a record whose length is not what it says
@@ -301,7 +292,8 @@ joins =
     ∷ after 0 161 (by 160 1) (by 160 1) ∷ [])
     ∷ []
 
--- ---- readings: 8, 9 and 10, at a fulfilled agreement of three parties whose readings have a number, a truth and a party
+-- ---- readings: 8, 9 and 10
+-- a fulfilled agreement of three parties whose readings have a number, a truth and a party
 unfoldable pub values : ℕ → ℤ → ℤ → ℤ → List ℕ
 values t a b c = readingWith t 1 (a ∷ b ∷ c ∷ [])
 
@@ -632,7 +624,7 @@ mixed = agreementOf 3 (readingTypeOf (1 ∷ 2 ∷ 3 ∷ []) ∷ [])
     (all′ (owes 0 (var 1) (pos 0) (pos 60) (otherwise (simply 0 (pos 20))))
     (any′ (inst 0 (lit (pos 50) ∷ []) (1 ∷ 1 ∷ [])) (owes 1 (opposite (var 1)) (pos 0) (pos 60) nothing)))
 
--- after the reading (110; 7, true, party 2): units of an `and`, the choice, an `or`, the template's and the main clause's obligation
+-- after the reading (110; 7, true, party 2): an `and`, the choice, an `or`, the template's and the main clause's obligation
 unfoldable pub lent : ℕ → ℕ → List ℤ
 lent p q = unitOf 17 28 100 (pos p ∷ pos q ∷ []) (pos 50 ∷ [])
 
@@ -698,7 +690,7 @@ sound =
 unfoldable pub ends : ℕ → Outcome → Seen
 ends now o = reads (some (record { lastTime = now; outcome = o }))
 
--- waiting clauses in each place of a `then`, which sees a value and the remaining time, and in a template of two parameters
+-- waiting clauses in each place of a `then`, which sees a value and the remaining time, and in a template
 unfoldable pub sights : List ℕ
 sights = agreementOf 3 (aNumber ∷ [])
     (templateOf (1 ∷ []) 2 0 (may yes′ (pos 0) (pos 60) (simply 128 (pos 60)) (simply 129 (pos 60))) ∷ [])
@@ -858,5 +850,5 @@ further = runs ++ (joins ++ (readings ++
     (records ++ (types ++ (guards ++ (widths ++ (tables ++ (entries ++ unreached))))))))
 
 pub further-pass : map (λ t. t .shown) further ≡ map (λ t. t .expected) further
-unfolding harness accepts refuses refusesAll stepsOf runSeen obeys after waits owed chosen by shows saying nested one asking afterIs withinIs next otherwise chooses main aNumber counting template beside call lending every is isNot calculated most least sums equations taken chain nums runs pairs becoming left right joins values refused′ readings records named inSight types guards ladder wide calls both′ body ladder′ wide′ waiting next′ either′ if′ widest tooWide laddered narrow over widths mixed lent offered units′ short good ended broke full set alter readBy rejects running′ lent′ residue sound ends sights alone alone′ inPlace tables begun two crowd entries bare asked op′ still tooFew unreached further
+unfolding harness says accepts refuses five refusesAll stepsOf runSeen obeys after waits owed chosen by shows saying nested one asking afterIs withinIs next otherwise chooses main aNumber counting template beside call lending every is isNot calculated most least sums equations taken chain nums runs pairs becoming left right joins values refused′ readings records named inSight types guards ladder wide calls both′ body ladder′ wide′ waiting next′ either′ if′ widest tooWide laddered narrow over widths mixed lent offered units′ short good ended broke full set alter readBy rejects running′ lent′ residue sound ends sights alone alone′ inPlace tables begun two crowd entries bare asked op′ still tooFew unreached further
 further-pass = refl

@@ -1,5 +1,6 @@
 -- Paper 01, "Pond trials": P1 to P15 by computation, as one claim over a list.
--- What the entries and the run show is, in every number and cell, what stands beside it: equal by computing, so no comparison is to be believed.
+-- What the entries and the run show is, in every number and cell, what stands beside it.
+-- The two are equal by computing, so no comparison is to be believed.
 use mathlib.Core.Bool.{Bool}
 use mathlib.Core.List.{List, [], _∷_, _++_, map}
 use mathlib.Core.Option.{Option}
@@ -61,10 +62,12 @@ pub record Trial : Type 0 where
 unfoldable pub gives : ℕ → List ℤ → Seen
 gives n cells = answers (record { number = n; table = cells })
 
--- ---- an agreement started and given readings: by the entries, on the table that the one before left, with the forecast of each table
+-- ---- an agreement started and given readings
+-- by the entries, on the table that the one before left, with the forecast of each table
 unfoldable pub byEntries : List ℕ → Answer → List (List ℕ) → List Seen
 byEntries bytes a [] = answers a ∷ forecasts (forecastOf bytes (a .table)) ∷ []
-byEntries bytes a (r ∷ rs) = answers a ∷ forecasts (forecastOf bytes (a .table)) ∷ byEntries bytes (readingOf bytes (a .table) r) rs
+byEntries bytes a (r ∷ rs) = answers a ∷ forecasts (forecastOf bytes (a .table)) ∷ byEntries bytes
+    (readingOf bytes (a .table) r) rs
 
 -- the same without the forecasts
 unfoldable pub byReadings : List ℕ → Answer → List (List ℕ) → List Seen
@@ -95,10 +98,20 @@ ofRules [] = []
 ofRules (m ∷ ms) = gives (m .number) (m .table) ∷ ofRules ms
 
 unfoldable pub follows : String → List ℕ → List (List ℕ) → List Moment → Trial
-follows n bytes rs ms = record { name = n; shown = byEntries bytes (startOf bytes zeros) rs ++ rulesOf (checked bytes) rs; expected = ofEntries ms ++ ofRules ms }
+follows n bytes rs ms = record {
+  name = n;
+  shown = byEntries bytes (startOf bytes zeros) rs ++ rulesOf
+      (checked bytes) rs;
+  expected = ofEntries ms ++ ofRules ms;
+}
 
 unfoldable pub grows : String → List ℕ → List (List ℕ) → List Moment → Trial
-grows n bytes rs ms = record { name = n; shown = byReadings bytes (startOf bytes zeros) rs ++ rulesOf (checked bytes) rs; expected = ofRules ms ++ ofRules ms }
+grows n bytes rs ms = record {
+  name = n;
+  shown = byReadings bytes (startOf bytes zeros) rs ++ rulesOf
+      (checked bytes) rs;
+  expected = ofRules ms ++ ofRules ms;
+}
 
 -- running: the last reading time, the units, and the forecast breach
 unfoldable pub live : ℕ → List (List ℤ) → ℕ → ℕ → Moment
@@ -122,37 +135,49 @@ unfoldable pub chosen : ℕ → ℕ → List ℤ
 chosen p a = unitOf 18 p a [] []
 
 -- ---- P1 to P15
+-- one obligation of party 0 at place 17 that waits, with the forecast of the sample
+unfoldable pub unmet : ℕ → Moment
+unmet now = live now (owed 17 100 ∷ []) 160 1
+
 unfoldable pub p1to4 : Trial
-p1to4 = follows "P1 to P4 and the transcript's refused reading" sample (reading 110 (pos 240) ∷ reading 105 (pos 250) ∷ mark 160 ∷ reading 160 (pos 250) ∷ [])
-    (live 100 (owed 17 100 ∷ []) 160 1 ∷ live 110 (owed 17 100 ∷ []) 160 1 ∷ refusing 10 (live 110 (owed 17 100 ∷ []) 160 1) ∷ live 160 (owed 17 100 ∷ []) 160 1 ∷ fulfils 160 ∷ [])
+p1to4 = follows "P1 to P4 and the transcript's refused reading" sample
+    (reading 110 (pos 240) ∷ reading 105 (pos 250) ∷ mark 160 ∷ reading 160 (pos 250) ∷ [])
+    (unmet 100 ∷ unmet 110 ∷ refusing 10 (unmet 110) ∷ unmet 160 ∷ fulfils 160 ∷ [])
 
 unfoldable pub p5and6 : Trial
-p5and6 = follows "P5 and P6" sample (mark 161 ∷ reading 161 (pos 250) ∷ []) (live 100 (owed 17 100 ∷ []) 160 1 ∷ breaches 161 160 1 ∷ breaches 161 160 1 ∷ [])
+p5and6 = follows "P5 and P6" sample (mark 161 ∷ reading 161 (pos 250) ∷ [])
+    (unmet 100 ∷ breaches 161 160 1 ∷ breaches 161 160 1 ∷ [])
 
 unfoldable pub p7 : Trial
-p7 = follows "P7" (agreement [] (simply 0 (negsuc 4))) (mark 100 ∷ []) (live 100 (owed 17 100 ∷ []) 100 1 ∷ breaches 100 100 1 ∷ [])
+p7 = follows "P7" (agreement [] (simply 0 (negsuc 4))) (mark 100 ∷ [])
+    (live 100 (owed 17 100 ∷ []) 100 1 ∷ breaches 100 100 1 ∷ [])
 
 -- two obligations joined, from place 17 on
 unfoldable pub pair : ℕ → List (List ℤ)
 pair s = joinOf s ∷ owed 21 100 ∷ owed 52 100 ∷ []
 
 unfoldable pub p8 : Trial
-p8 = follows "P8" (agreement [] (all′ (simply 0 (pos 60)) (simply 1 (pos 60)))) (mark 161 ∷ []) (live 100 (pair 20) 160 3 ∷ breaches 161 160 3 ∷ [])
+p8 = follows "P8" (agreement [] (all′ (simply 0 (pos 60)) (simply 1 (pos 60)))) (mark 161 ∷ [])
+    (live 100 (pair 20) 160 3 ∷ breaches 161 160 3 ∷ [])
 
 unfoldable pub p9 : Trial
-p9 = follows "P9" (agreement [] (all′ (simply 0 (pos 60)) (simply 1 (pos 50)))) (mark 161 ∷ []) (live 100 (pair 20) 150 2 ∷ breaches 161 150 2 ∷ [])
+p9 = follows "P9" (agreement [] (all′ (simply 0 (pos 60)) (simply 1 (pos 50)))) (mark 161 ∷ [])
+    (live 100 (pair 20) 150 2 ∷ breaches 161 150 2 ∷ [])
 
 unfoldable pub p10 : Trial
-p10 = follows "P10" (agreement [] (all′ (simply 0 (pos 60)) (simply 1 (pos 50)))) (reading 120 (pos 1) ∷ []) (live 100 (pair 20) 150 2 ∷ fulfils 120 ∷ [])
+p10 = follows "P10" (agreement [] (all′ (simply 0 (pos 60)) (simply 1 (pos 50)))) (reading 120 (pos 1) ∷ [])
+    (live 100 (pair 20) 150 2 ∷ fulfils 120 ∷ [])
 
 unfoldable pub p11 : Trial
-p11 = follows "P11" (agreement [] (any′ (simply 0 (pos 50)) (simply 0 (pos 60)))) (mark 155 ∷ mark 161 ∷ []) (live 100 (pair 21) 160 1 ∷ live 155 (owed 52 100 ∷ []) 160 1 ∷ breaches 161 160 1 ∷ [])
+p11 = follows "P11" (agreement [] (any′ (simply 0 (pos 50)) (simply 0 (pos 60)))) (mark 155 ∷ mark 161 ∷ [])
+    (live 100 (pair 21) 160 1 ∷ live 155 (owed 52 100 ∷ []) 160 1 ∷ breaches 161 160 1 ∷ [])
 
 unfoldable pub choosing : List ℕ
 choosing = agreement [] (may yes′ (pos 0) (pos 50) nothing (simply 1 (pos 20)))
 
 unfoldable pub p12a : Trial
-p12a = follows "P12, a reading" choosing (reading 165 (pos 1) ∷ []) (live 100 (chosen 17 100 ∷ []) 170 2 ∷ fulfils 165 ∷ [])
+p12a = follows "P12, a reading" choosing (reading 165 (pos 1) ∷ [])
+    (live 100 (chosen 17 100 ∷ []) 170 2 ∷ fulfils 165 ∷ [])
 
 unfoldable pub p12b : Trial
 p12b = follows "P12, a mark" choosing (mark 171 ∷ []) (live 100 (chosen 17 100 ∷ []) 170 2 ∷ breaches 171 170 2 ∷ [])
@@ -162,10 +187,12 @@ unfoldable pub asks : List ℕ → ℤ → List ℕ
 asks e z = agreement [] (owes 0 (op 43 e (lit z)) (pos 0) (pos 60) nothing)
 
 unfoldable pub p13 : Trial
-p13 = follows "P13" (asks (op 40 (lit (negsuc 6)) (lit (pos 2))) (negsuc 2)) (reading 110 (pos 1) ∷ []) (live 100 (owed 17 100 ∷ []) 160 1 ∷ fulfils 110 ∷ [])
+p13 = follows "P13" (asks (op 40 (lit (negsuc 6)) (lit (pos 2))) (negsuc 2)) (reading 110 (pos 1) ∷ [])
+    (unmet 100 ∷ fulfils 110 ∷ [])
 
 unfoldable pub p14 : Trial
-p14 = follows "P14" (asks (op 37 (lit (pos 1_000_000_000)) (lit (pos 1))) (pos 1_000_000_000)) (reading 110 (pos 1) ∷ []) (live 100 (owed 17 100 ∷ []) 160 1 ∷ fulfils 110 ∷ [])
+p14 = follows "P14" (asks (op 37 (lit (pos 1_000_000_000)) (lit (pos 1))) (pos 1_000_000_000))
+    (reading 110 (pos 1) ∷ []) (unmet 100 ∷ fulfils 110 ∷ [])
 
 unfoldable pub self : List ℕ
 self = inst 0 [] []
@@ -179,7 +206,8 @@ doubled a zero = owed 25 a ∷ []
 doubled a (suc n) = joinOf 20 ∷ (doubled a n ++ doubled a n)
 
 unfoldable pub p15 : Trial
-p15 = grows "P15" doubling (reading 101 (pos 0) ∷ reading 102 (pos 0) ∷ reading 103 (pos 0) ∷ reading 104 (pos 0) ∷ reading 105 (pos 0) ∷ reading 106 (pos 0) ∷ reading 107 (pos 0) ∷ [])
+p15 = grows "P15" doubling (reading 101 (pos 0) ∷ reading 102 (pos 0) ∷ reading 103 (pos 0) ∷ reading 104 (pos 0)
+    ∷ reading 105 (pos 0) ∷ reading 106 (pos 0) ∷ reading 107 (pos 0) ∷ [])
     (live 100 (doubled 100 0) 160 1
     ∷ live 101 (doubled 101 1) 161 1
     ∷ live 102 (doubled 102 2) 162 1
@@ -198,5 +226,5 @@ unfolding computes gives byEntries byReadings byRules rulesOf ofEntries ofRules 
 harness = tt
 
 pub trials-pass : map (λ t. t .shown) trials ≡ map (λ t. t .expected) trials
-unfolding harness p1to4 p5and6 p7 pair p8 p9 p10 p11 choosing p12a p12b asks p13 p14 self doubling doubled p15 trials
+unfolding harness unmet p1to4 p5and6 p7 pair p8 p9 p10 p11 choosing p12a p12b asks p13 p14 self doubling doubled p15 trials
 trials-pass = refl
