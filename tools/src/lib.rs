@@ -5,25 +5,36 @@
 //! is read back ([`decode`]) and printed as text ([`print`](mod@print)). Lines become reading records
 //! ([`readings`]), and a table is told in words ([`table`], [`explain`](mod@explain)).
 //!
+//! A run is given to the proved library, reading by reading ([`run`]), told as a story ([`story`]);
+//! why a verdict came so is worked out from what waits ([`pending`]).
+//!
 //! Nothing here is proved. What the assembler writes is checked by the library's entry `check`,
-//! which alone decides whether an agreement is accepted.
+//! which alone decides whether an agreement is accepted, and every verdict of a run is the library's.
 
 pub mod assemble;
 pub mod dates;
 pub mod decode;
 pub mod disassemble;
 mod encode;
+pub mod examples;
 pub mod explain;
 pub mod fault;
+pub mod files;
+pub mod json;
 mod known;
 pub mod limits;
 pub mod model;
 mod numbers;
 pub mod parse;
+pub mod pending;
 pub mod print;
 pub mod readings;
 pub mod resolve;
+pub mod run;
 mod sites;
+pub mod source;
+pub mod status;
+pub mod story;
 pub mod syntax;
 pub mod table;
 pub mod text;

@@ -1,12 +1,13 @@
 //! The command `agreement`.
 
 use std::fmt::Display;
-use std::io::{self, Read, Write};
+use std::io::{self, Write};
 use std::process::ExitCode;
 use tools::decode::decode;
 use tools::explain::Context;
+use tools::files::read;
 use tools::readings::readings;
-use tools::{assemble, disassemble, explain, Assembled};
+use tools::{assemble, disassemble, examples, explain, run, Assembled};
 
 const USAGE: &str = "\
 usage: agreement assemble FILE                  text to an agreement record
@@ -14,12 +15,18 @@ usage: agreement assemble FILE                  text to an agreement record
        agreement readings [--for TEXT] FILE     lines `TIME TYPE VALUE..` to reading records
        agreement explain [--for TEXT | --agreement RECORD] TABLE
                                                 a table of 24,640 bytes in words
+       agreement run [--json] TEXT READINGS     what each reading did, what is ahead, how it ends
+       agreement run [--json] --follow TEXT     the same of lines from standard input, as they come
+       agreement run --records STREAM           the lines that brinewatch writes for a stream of records
+       agreement test FOLDER..                  every *.readings of a folder against the *.out beside it
 
 FILE may be - for standard input. Results go to standard output; what is wrong with an input goes to
-standard error as FILE:LINE:COLUMN, with exit status 1.
+standard error as FILE:LINE:COLUMN, with exit status 1. `run` ends with 0 if the agreement is fulfilled
+or running, 1 if it is breached, 2 if it or an input is refused, 3 if the arguments are wrong.
 
 This tool is not proved. What `assemble` writes is checked by the monitor's entry `check`, which alone
-decides whether an agreement is accepted.
+decides whether an agreement is accepted, and every verdict of `run` is the proved monitor's. Which duty
+stands behind a verdict is this tool's explanation of it.
 ";
 
 fn main() -> ExitCode {
@@ -27,6 +34,11 @@ fn main() -> ExitCode {
     let arguments = std::env::args_os().skip(1).map(|argument| argument.into_string());
     let arguments: Vec<String> = arguments.collect::<Result<_, _>>().unwrap_or_default();
     let arguments: Vec<&str> = arguments.iter().map(String::as_str).collect();
+    match &arguments[..] {
+        ["run", rest @ ..] => return run::command(rest),
+        ["test", rest @ ..] => return examples::command(rest),
+        _ => {}
+    }
     let output = match arguments[..] {
         ["assemble", file] => assembled(file).map(|assembled| assembled.bytes),
         ["disassemble", file] => disassembled(file).map(String::into_bytes),
@@ -81,15 +93,6 @@ fn explained_by(table: &str, record: &str) -> Result<Vec<u8>, String> {
 
 fn told(file: &str, fault: impl Display) -> String {
     format!("{file}:{fault}")
-}
-
-fn read(file: &str) -> Result<Vec<u8>, String> {
-    let mut bytes = Vec::new();
-    let result = match file {
-        "-" => io::stdin().lock().read_to_end(&mut bytes).map(|_| bytes),
-        _ => std::fs::read(file),
-    };
-    result.map_err(|error| format!("{file}: {error}"))
 }
 
 fn write(bytes: &[u8]) -> Result<(), String> {
