@@ -5,8 +5,8 @@
 //! is read back ([`decode`]) and printed as text ([`print`](mod@print)). Lines become reading records
 //! ([`readings`]), and a table is told in words ([`table`], [`explain`](mod@explain)).
 //!
-//! A run is given to the proved library, reading by reading ([`run`]), told as a story ([`story`]);
-//! why a verdict came so is worked out from what waits ([`pending`]).
+//! A run is given to the proved library, reading by reading ([`run`]), told as a story ([`story`]) and
+//! drawn as a picture ([`timeline`]); why a verdict came so is worked out from what waits ([`pending`]).
 //!
 //! Nothing here is proved. What the assembler writes is checked by the library's entry `check`,
 //! which alone decides whether an agreement is accepted, and every verdict of a run is the library's.
@@ -38,6 +38,7 @@ pub mod story;
 pub mod syntax;
 pub mod table;
 pub mod text;
+pub mod timeline;
 
 pub use assemble::{assemble, Assembled};
 pub use disassemble::disassemble;

@@ -7,7 +7,7 @@ use tools::decode::decode;
 use tools::explain::Context;
 use tools::files::read;
 use tools::readings::readings;
-use tools::{assemble, disassemble, examples, explain, run, Assembled};
+use tools::{assemble, disassemble, examples, explain, run, timeline, Assembled};
 
 const USAGE: &str = "\
 usage: agreement assemble FILE                  text to an agreement record
@@ -19,6 +19,8 @@ usage: agreement assemble FILE                  text to an agreement record
        agreement run [--json] --follow TEXT     the same of lines from standard input, as they come
        agreement run --records STREAM           the lines that brinewatch writes for a stream of records
        agreement test FOLDER..                  every *.readings of a folder against the *.out beside it
+       agreement timeline [--html] TEXT READINGS
+                                                a run as a picture (SVG), or as a page with its story
 
 FILE may be - for standard input. Results go to standard output; what is wrong with an input goes to
 standard error as FILE:LINE:COLUMN, with exit status 1. `run` ends with 0 if the agreement is fulfilled
@@ -37,6 +39,7 @@ fn main() -> ExitCode {
     match &arguments[..] {
         ["run", rest @ ..] => return run::command(rest),
         ["test", rest @ ..] => return examples::command(rest),
+        ["timeline", rest @ ..] => return timeline::command(rest),
         _ => {}
     }
     let output = match arguments[..] {

@@ -3,7 +3,7 @@
 use crate::dates;
 use crate::model::{Expression, Type};
 use crate::pending::Pending;
-use crate::print::{Printer, Spelling};
+use crate::print::{Printer, Sight, Spelling};
 use crate::readings::Reading;
 use crate::source::Source;
 use givuntha::Parties;
@@ -51,6 +51,11 @@ impl<'s> Words<'s> {
         let condition = pending.known.expression(&pending.wait.condition);
         let sight = pending.sight.inside(pending.wait);
         (condition != Expression::TRUE).then(|| self.printer.expression(&condition, &sight))
+    }
+
+    /// A number, truth or party.
+    pub fn literal(&self, literal: &Expression) -> String {
+        self.printer.expression(literal, &Sight::default())
     }
 
     /// The clause without its window: `Harvested(p, t) where p = 1 && 0 < t`.

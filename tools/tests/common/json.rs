@@ -1,4 +1,5 @@
 //! A small reader of JSON, as strict as the standard on what it knows: no fractions, no exponents.
+#![allow(dead_code)]
 
 #[derive(Clone, Debug, PartialEq, Eq)]
 pub enum Value {
