@@ -86,6 +86,23 @@ fn what_decides_is_marked() {
     assert_eq!(says("lifted_twice", "says-forecast"), (String::new(), 0, 0));
 }
 
+/// A window that would make the rest too small is cut, and a refused reading does not widen the picture.
+#[test]
+fn what_lies_too_far_is_cut() {
+    let text = "parties A readings N() in <A> N() due within 10 and if N() due within 100000 starting 0";
+    let file = std::env::temp_dir().join(format!("agreement-far-{}.csl", std::process::id()));
+    std::fs::write(&file, text).expect("a file");
+    let svg = written(&["timeline", &file.to_string_lossy(), "-"], b"5 mark\n! 4000000000 7\n", 0);
+    std::fs::remove_file(&file).expect("the file");
+    let picture = parse(&svg).expect("a picture");
+    let of =
+        |class: &str| picture.all().into_iter().filter(|e| e.get("class") == Some(class)).collect::<Vec<_>>().len();
+    assert_eq!((of("beyond"), of("tick tick-refused")), (1, 2));
+    let dates: Vec<&str> =
+        picture.all().into_iter().filter(|e| e.get("class") == Some("date")).map(|e| e.text.as_str()).collect();
+    assert!(dates.contains(&"0") && dates.contains(&"10"), "{dates:?}");
+}
+
 #[test]
 fn odd_names_and_endless_windows() {
     let agreement_text = "\

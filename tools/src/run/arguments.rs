@@ -3,9 +3,9 @@
 use super::follow::follow;
 use super::records::records;
 use super::teller::{Form, Teller};
+use crate::files;
 use crate::status::{exit, usage, Status};
 use crate::story::Story;
-use crate::{files, status};
 use std::io::{self, Write};
 use std::process::ExitCode;
 
@@ -50,5 +50,5 @@ fn raw(stream: &str) -> Result<Status, String> {
         "-" => records(&mut io::stdin().lock(), told),
         _ => records(&mut &files::read(stream)?[..], told),
     };
-    verdict.map(|verdict| status::Status::of(&verdict)).map_err(|error| format!("{stream}: {error}"))
+    verdict.map(|verdict| Status::of(&verdict)).map_err(|error| format!("{stream}: {error}"))
 }

@@ -80,13 +80,13 @@ fn tick(words: &Words, event: &Event) -> Tick {
     }
 }
 
-/// One for each party that has a window, then one for the choices.
+/// One for each party, then one for the choices if there are any.
 fn lanes(words: &Words, bars: Vec<Bar>) -> Vec<Lane> {
     let parties = 0..words.source.assembled.agreement.parties.len();
-    let owners = parties.map(|party| (Some(party), words.party(party))).chain([(None, "may come".to_string())]);
-    let of = |owner| bars.iter().filter(move |bar| bar.party == owner).cloned().collect::<Vec<_>>();
-    let lanes = owners.map(|(owner, name)| Lane { name, bars: of(owner) });
-    lanes.filter(|lane| lane.name != "may come" || !lane.bars.is_empty()).collect()
+    let of = |owner| bars.iter().filter(|bar| bar.party == owner).cloned().collect::<Vec<_>>();
+    let owed = parties.map(|party| Lane { name: words.party(party), bars: of(Some(party)) });
+    let choices = Lane { name: "may come".to_string(), bars: of(None) };
+    owed.chain(Some(choices).filter(|choices| !choices.bars.is_empty())).collect()
 }
 
 fn mark(words: &Words, events: &[Event], ending: &Ending) -> Option<Mark> {
@@ -142,9 +142,10 @@ fn duties(words: &Words, event: &Event) -> String {
     }
 }
 
-/// The last minute shown: all readings, the mark, and the windows that are not too long.
+/// The last minute shown: all readings that were taken, the mark, and the windows that are not too long.
 fn end(start: i64, events: &[Event], mark: Option<&Mark>, bars: &[Bar]) -> i64 {
-    let readings = events.iter().map(|event| i64::from(event.time));
+    let taken = events.iter().filter(|event| !matches!(event.step.verdict, Verdict::Refused(_)));
+    let readings = taken.map(|event| i64::from(event.time));
     let end = readings.chain(mark.map(|mark| mark.time)).max().unwrap_or(start).max(start + 1);
     let far = start.saturating_add((end - start).saturating_mul(FAR));
     bars.iter().map(|bar| bar.last).filter(|last| *last <= far).fold(end, i64::max)

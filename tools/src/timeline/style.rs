@@ -28,6 +28,7 @@ text { font: 11px ui-monospace, 'DejaVu Sans Mono', Menlo, Consolas, monospace; 
 .waiting { fill: none; stroke: var(--wait); stroke-width: 1.2; }
 .lapsed { fill: var(--gone); }
 .never { fill: var(--ground); stroke: var(--gone); stroke-width: 2; }
+.beyond { fill: none; stroke: var(--faint); stroke-width: 1.5; }
 .dropped { fill: none; stroke: var(--gone); stroke-dasharray: 2 3; }
 .mark-breach { stroke: var(--broken); stroke-width: 2; }
 .mark-forecast { stroke: var(--broken); stroke-width: 1.5; stroke-dasharray: 5 4; }

@@ -63,7 +63,18 @@ fn height(placed: &[Place]) -> i64 {
 fn window(bar: &Bar, place: &Place, scale: &Scale, top: i64) -> String {
     let y = top + place.row * ROW;
     let (name, wide) = (text("duty", place.name_at, y + ABOVE - 4, &place.name), place.bar.to - place.bar.from);
-    name + &shape(bar.fate, place.bar.from, y + ABOVE, wide, &bar.title) + &moment(bar, place, scale, y + ABOVE)
+    let (shape, moment) =
+        (shape(bar.fate, place.bar.from, y + ABOVE, wide, &bar.title), moment(bar, place, scale, y + ABOVE));
+    name + &shape + &moment + &beyond(bar, scale, y + ABOVE)
+}
+
+/// An arrow where the window goes on beyond the picture.
+fn beyond(bar: &Bar, scale: &Scale, y: i64) -> String {
+    if bar.last <= scale.end {
+        return String::new();
+    }
+    let (x, tip, middle, bottom) = (RIGHT + 2, RIGHT + 8, y + BAR / 2, y + BAR);
+    element("path", &[("class", &"beyond"), ("d", &format!("M{x} {y}L{tip} {middle}L{x} {bottom}"))], "")
 }
 
 /// The bar of a fate; a window in which nothing came is thin.
