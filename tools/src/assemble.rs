@@ -4,7 +4,7 @@ use crate::encode::encode;
 use crate::fault::{utf8, Fault};
 use crate::model::Agreement;
 use crate::parse::parse;
-use crate::resolve::resolve;
+use crate::resolve::{resolve, Resolved};
 
 /// An agreement from its text.
 pub struct Assembled {
@@ -16,9 +16,22 @@ pub struct Assembled {
     pub bytes: Vec<u8>,
 }
 
+/// Reads the text and keeps to the limits of the record; types, guards, widths and parties are not looked at.
+/// Of several faults the first is told.
 pub fn assemble(text: &[u8]) -> Result<Assembled, Fault> {
     let tree = parse(utf8(text)?)?;
-    let mut agreement = resolve(&tree)?;
-    let bytes = encode(&mut agreement);
-    Ok(Assembled { agreement, dated: tree.dated, bytes })
+    let Resolved { agreement, faults, .. } = resolve(&tree);
+    match (agreement, faults.into_iter().next()) {
+        (Some(agreement), None) => Ok(Assembled::of(agreement, tree.dated)),
+        (_, Some(fault)) => Err(fault),
+        // Only a fault keeps an agreement from being one.
+        (None, None) => Fault::err(tree.main.from, "a text that stands for no record"),
+    }
+}
+
+impl Assembled {
+    pub(crate) fn of(mut agreement: Agreement, dated: bool) -> Assembled {
+        let bytes = encode(&mut agreement);
+        Assembled { agreement, dated, bytes }
+    }
 }

@@ -1,19 +1,40 @@
 //! Dates as minutes since 1970-01-01T00:00, without zones.
 
+mod slips;
+
+pub use slips::slip;
+
 const DAY: i64 = 24 * 60;
+
+/// How a time is written, for messages.
+pub const WANTED: &str = "minutes, or a date such as 2011-01-01 or 2011-01-01T09:30";
+
+const DATE: &str = "0000-00-00";
+const MINUTE: &str = "0000-00-00T00:00";
+
+/// What follows a beginning that a pattern describes; in the pattern `0` is any digit.
+fn after<'t>(text: &'t str, pattern: &str) -> Option<&'t str> {
+    let mut bytes = text.bytes();
+    let fits = pattern.bytes().all(|wanted| match bytes.next() {
+        Some(found) if wanted == b'0' => found.is_ascii_digit(),
+        found => found == Some(wanted),
+    });
+    if fits {
+        text.get(pattern.len()..)
+    } else {
+        None
+    }
+}
 
 /// The bytes of a text's beginning that have the shape of a date, or of a date and a time of day.
 pub fn shape(text: &str) -> Option<usize> {
-    let matches = |pattern: &str| {
-        let mut bytes = text.bytes();
-        let fits = pattern.bytes().all(|wanted| match bytes.next() {
-            Some(found) if wanted == b'0' => found.is_ascii_digit(),
-            found => found == Some(wanted),
-        });
-        let ended = !bytes.next().is_some_and(|next| next.is_ascii_alphanumeric());
-        (fits && ended).then_some(pattern.len())
-    };
-    matches("0000-00-00T00:00").or_else(|| matches("0000-00-00"))
+    let ended = |rest: &str| !rest.starts_with(|next: char| next.is_ascii_alphanumeric());
+    [MINUTE, DATE].into_iter().find(|pattern| after(text, pattern).is_some_and(ended)).map(str::len)
+}
+
+/// What is wrong with a text that only looks like a date.
+pub fn no_date(date: &str) -> String {
+    format!("`{date}` is no date from 1970-01-01 on")
 }
 
 /// The minutes of a date such as 2011-01-01 or 2011-01-01T09:30; none if there is no such day or

@@ -105,7 +105,7 @@ impl Writer {
     fn blame(&mut self, blame: Blame) {
         self.bytes.push(match blame {
             Blame::Party(party) => byte(party),
-            Blame::Parameter(parameter) => FIRST_PARAMETER + byte(parameter),
+            Blame::Parameter(parameter) => FIRST_PARAMETER.saturating_add(byte(parameter)),
         });
     }
 

@@ -1,9 +1,10 @@
 //! What is wrong with an input, and where.
 
+use crate::shown::printable;
 use std::fmt;
 
 /// A place in a text: line and column from 1, columns counted in characters.
-#[derive(Clone, Copy, Debug, PartialEq, Eq)]
+#[derive(Clone, Copy, Debug, PartialEq, Eq, PartialOrd, Ord)]
 pub struct Place {
     pub line: usize,
     pub column: usize,
@@ -27,20 +28,54 @@ impl fmt::Display for Place {
     }
 }
 
+/// A part of a text: where it begins, and its bytes.
+#[derive(Clone, Copy, Debug, PartialEq, Eq)]
+pub struct Span {
+    pub at: Place,
+    pub start: usize,
+    pub end: usize,
+}
+
+impl Span {
+    /// From the beginning of this part to the end of a later one.
+    pub fn to(self, later: Span) -> Span {
+        Span { end: later.end, ..self }
+    }
+
+    pub fn of(self, text: &str) -> &str {
+        text.get(self.start..self.end).unwrap_or_default()
+    }
+}
+
 /// What is wrong with a text.
 #[derive(Clone, Debug, PartialEq, Eq)]
 pub struct Fault {
     pub at: Place,
+    /// In words, without control characters.
     pub what: String,
+    /// How many characters are meant.
+    pub length: usize,
+    /// The refusal of paper 01 that a record with this fault gets. None where the text stands for no record at all.
+    pub refusal: Option<u32>,
 }
 
 impl Fault {
-    pub fn new(at: Place, what: impl Into<String>) -> Fault {
-        Fault { at, what: what.into() }
+    pub fn new(at: Place, what: impl AsRef<str>) -> Fault {
+        Fault { at, what: printable(what.as_ref()), length: 1, refusal: None }
     }
 
-    pub fn err<T>(at: Place, what: impl Into<String>) -> Result<T, Fault> {
+    pub fn err<T>(at: Place, what: impl AsRef<str>) -> Result<T, Fault> {
         Err(Fault::new(at, what))
+    }
+
+    /// The same for so many characters.
+    pub fn of_length(self, length: usize) -> Fault {
+        Fault { length: length.max(1), ..self }
+    }
+
+    /// The same with its refusal.
+    pub fn refused(self, number: u32) -> Fault {
+        Fault { refusal: Some(number), ..self }
     }
 }
 

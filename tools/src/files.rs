@@ -1,7 +1,9 @@
 //! Files as they are named on a command line: `-` is standard input.
 
+use crate::check::check;
 use crate::fault::Fault;
 use crate::readings::{numbered, Reading};
+use crate::shown::printable;
 use crate::source::Source;
 use std::io::{self, Read};
 
@@ -11,12 +13,14 @@ pub fn read(file: &str) -> Result<Vec<u8>, String> {
         "-" => io::stdin().lock().read_to_end(&mut bytes).map(|_| bytes),
         _ => std::fs::read(file),
     };
-    result.map_err(|error| format!("{file}: {error}"))
+    result.map_err(|error| format!("{}: {error}", printable(file)))
 }
 
-/// The text of an agreement.
+/// The text of an agreement that the proved check accepts, or all that is wrong with it.
 pub fn source(file: &str) -> Result<Source, String> {
-    Source::read(file, &read(file)?).map_err(|fault| told(file, &fault))
+    let text = read(file)?;
+    let accepted = check(&text).map_err(|refused| refused.told(file, &text))?;
+    Source::of(&printable(file), accepted.assembled, &text).map_err(|fault| told(file, &fault))
 }
 
 /// The readings of a file, each with its line.
@@ -25,5 +29,5 @@ pub fn readings(file: &str, source: &Source) -> Result<Vec<(usize, Reading)>, St
 }
 
 fn told(file: &str, fault: &Fault) -> String {
-    format!("{file}:{fault}")
+    format!("{}:{fault}", printable(file))
 }

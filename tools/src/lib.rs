@@ -3,15 +3,17 @@
 //! Text is cut into tokens ([`text`]), read as a tree ([`parse`], [`syntax`]), its names are made
 //! numbers ([`resolve`], [`model`]), and records are written ([`assemble`](mod@assemble)). A record
 //! is read back ([`decode`]) and printed as text ([`print`](mod@print)). Lines become reading records
-//! ([`readings`]), and a table is told in words ([`table`], [`explain`](mod@explain)).
+//! ([`readings`]), and a table is told in words ([`table`], [`explain`](mod@explain)). What is wrong
+//! with a text is told in its own names ([`check`]).
 //!
 //! A run is given to the proved library, reading by reading ([`run`]), told as a story ([`story`]) and
 //! drawn as a picture ([`timeline`]); why a verdict came so is worked out from what waits ([`pending`]).
 //!
-//! Nothing here is proved. What the assembler writes is checked by the library's entry `check`,
-//! which alone decides whether an agreement is accepted, and every verdict of a run is the library's.
+//! Nothing here is proved. Whether an agreement is accepted is decided by the proved library's entry
+//! `check` alone, which is given the record, and every verdict of a run is the library's.
 
 pub mod assemble;
+pub mod check;
 pub mod dates;
 pub mod decode;
 pub mod disassemble;
@@ -24,6 +26,7 @@ pub mod json;
 mod known;
 pub mod limits;
 pub mod model;
+mod near;
 mod numbers;
 pub mod parse;
 pub mod pending;
@@ -31,6 +34,7 @@ pub mod print;
 pub mod readings;
 pub mod resolve;
 pub mod run;
+pub mod shown;
 mod sites;
 pub mod source;
 pub mod status;

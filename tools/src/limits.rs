@@ -1,4 +1,6 @@
-//! The limits of paper 01, section "Records".
+//! The limits of paper 01, sections "Records" and "Typing".
+
+use crate::fault::{Fault, Place};
 
 pub const PARTIES: usize = 16;
 pub const READINGS: usize = 16;
@@ -15,6 +17,8 @@ pub const SIGHT: usize = 16;
 pub const DEPTH: usize = 24;
 /// The bytes of an agreement.
 pub const BYTES: usize = 16_384;
+/// The width of the main clause, of a template's body and of a `then`.
+pub const WIDTH: usize = 256;
 /// The length and the kind that every record begins with.
 pub const HEAD: usize = 4;
 /// Numbers run from minus this to this.
@@ -30,4 +34,9 @@ pub fn is_number(value: i64) -> bool {
 /// The byte of an index that a limit above keeps small.
 pub fn byte(index: usize) -> u8 {
     u8::try_from(index).unwrap_or(u8::MAX)
+}
+
+/// The fault of a text whose record would pass the bytes of an agreement: refusal 1.
+pub fn too_long(at: Place) -> Fault {
+    Fault::new(at, "the record would be over 16,384 bytes").refused(1)
 }

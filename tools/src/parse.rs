@@ -3,12 +3,14 @@
 mod clauses;
 mod cursor;
 mod expressions;
+mod hints;
 
 use crate::fault::Fault;
 use crate::model::Type;
 use crate::syntax::{Agreement, Parameter, Reading, Template};
 use crate::text::{tokens, Token};
 use cursor::Cursor;
+use hints::A_TYPE;
 
 /// Reads the text of an agreement.
 pub fn parse(text: &str) -> Result<Agreement, Fault> {
@@ -48,8 +50,8 @@ fn template(cursor: &mut Cursor) -> Result<Template, Fault> {
 fn parameter(cursor: &mut Cursor) -> Result<Parameter, Fault> {
     let name = cursor.name("a value's name")?;
     cursor.expect(":")?;
-    let unexpected = cursor.unexpected("`number`, `truth` or `party`");
-    let word = cursor.name("`number`, `truth` or `party`")?;
+    let unexpected = cursor.unexpected(A_TYPE);
+    let word = cursor.name(A_TYPE)?;
     let value_type = Type::of_word(&word.text).ok_or(unexpected)?;
     Ok(Parameter { name, value_type })
 }

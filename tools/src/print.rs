@@ -3,6 +3,7 @@
 mod clauses;
 mod expressions;
 mod layout;
+mod length;
 mod parentheses;
 
 use crate::model::{Agreement, Head, Value, Wait};

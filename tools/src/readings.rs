@@ -3,11 +3,12 @@
 //! A line is `TIME TYPE VALUE..`. One that begins with `!` is meant to be refused by the monitor:
 //! it is written as it stands as long as a record can hold it.
 
+use crate::dates;
 use crate::fault::{utf8, Fault, Place};
 use crate::limits;
 use crate::model::{Agreement, Type, Value};
+use crate::near::did_you_mean;
 use crate::numbers::number;
-use crate::{dates, text};
 
 /// The records of all lines. With an agreement, names may be used and values are checked.
 pub fn readings(text: &[u8], agreement: Option<&Agreement>) -> Result<Vec<u8>, Fault> {
@@ -101,7 +102,7 @@ impl<'l> Line<'l> {
         if let Some(fifth) = values.get(limits::READING_VALUES) {
             return Fault::err(fifth.at, "a fifth value: a reading record holds at most 4");
         }
-        let time = minutes(time)?;
+        let time = minutes(time, kind)?;
         let (name, kind) = (kind, self.kind(kind)?);
         let values = values.iter().map(|word| self.value(*word)).collect::<Result<Vec<_>, _>>()?;
         if self.checked {
@@ -120,8 +121,8 @@ impl<'l> Line<'l> {
         }
         let Some(agreement) = self.agreement else { return Err(no_names(word)) };
         let known = agreement.readings.iter().position(|reading| reading.name == word.text);
-        let known = known.ok_or_else(|| Fault::new(word.at, format!("unknown reading `{}`", word.text)))?;
-        Ok(limits::byte(known + 1))
+        let names = || agreement.readings.iter().map(|reading| reading.name.as_str()).chain(["mark"]);
+        Ok(limits::byte(1 + known.ok_or_else(|| unknown("reading", word, names()))?))
     }
 
     fn value(&self, word: Word<'l>) -> Result<Written<'l>, Fault> {
@@ -144,8 +145,8 @@ impl<'l> Line<'l> {
     fn party(&self, word: &Word) -> Result<i64, Fault> {
         let Some(agreement) = self.agreement else { return Err(no_names(word)) };
         let known = agreement.parties.iter().position(|party| party == word.text);
-        let known = known.ok_or_else(|| Fault::new(word.at, format!("unknown party `{}`", word.text)))?;
-        Ok(i64::from(limits::byte(known)))
+        let names = || agreement.parties.iter().map(String::as_str);
+        Ok(i64::from(limits::byte(known.ok_or_else(|| unknown("party", word, names()))?)))
     }
 
     /// What the agreement says of the reading: refusal 9 of the paper.
@@ -185,13 +186,16 @@ fn fits(wanted: &Value, written: &Written, parties: usize) -> Result<(), Fault> 
     Fault::err(written.word.at, format!("`{}` is {range}, and `{}` is none", wanted.name, written.word.text))
 }
 
-/// A time in minutes or as a date.
-fn minutes(word: &Word) -> Result<u32, Fault> {
-    if dates::shape(word.text) == Some(word.text.len()) {
-        return dates::minutes(word.text).ok_or_else(|| Fault::new(word.at, text::no_date(word.text)));
+/// A time in minutes or as a date; the word after it may be its time of day, put apart.
+fn minutes(word: &Word, next: &Word) -> Result<u32, Fault> {
+    if let Some((length, what)) = dates::slip(&format!("{} {}", word.text, next.text)) {
+        return Err(Fault::new(word.at, what).of_length(length));
     }
-    if !is_number(word.text) {
-        return Fault::err(word.at, format!("`{}` is no time: minutes or a date are", word.text));
+    if dates::shape(word.text) == Some(word.text.len()) {
+        return dates::minutes(word.text).ok_or_else(|| Fault::new(word.at, dates::no_date(word.text)));
+    }
+    if !is_number(word.text) || word.text.contains(['-', ':', '/', '.']) {
+        return Fault::err(word.at, format!("`{}` is no time: {} are", word.text, dates::WANTED));
     }
     let number = number(word.text).map_err(|what| Fault::new(word.at, what))?;
     u32::try_from(number).map_err(|_| Fault::new(word.at, "a time beyond 4,294,967,295 minutes"))
@@ -199,6 +203,10 @@ fn minutes(word: &Word) -> Result<u32, Fault> {
 
 fn is_number(word: &str) -> bool {
     word.starts_with(|c: char| c.is_ascii_digit())
+}
+
+fn unknown<'k>(what: &str, word: &Word, known: impl IntoIterator<Item = &'k str>) -> Fault {
+    Fault::new(word.at, format!("unknown {what} `{}`{}", word.text, did_you_mean(word.text, known)))
 }
 
 fn no_names(word: &Word) -> Fault {

@@ -1,132 +1,85 @@
-//! Names into numbers, with every limit of the record checked where the text oversteps it.
+//! Names into numbers, with every limit of the record judged where the text passes it.
 //!
-//! Types, guards, widths and the rule for `or` are left to `check`.
+//! Types, guards, widths and the rule for `or` are left to [`check`](crate::check).
 
 mod clauses;
+mod declarations;
 mod expressions;
 mod meter;
 mod scope;
 
-use crate::fault::Fault;
+use crate::fault::{Fault, Place};
 use crate::limits;
-use crate::model::{Agreement, Clause, Head, Reading, Template, Value};
-use crate::syntax::{self, Name, Parameter};
-use meter::Meter;
+use crate::model::{Agreement, Clause, Head, Reading, Template};
+use crate::syntax;
+use meter::{Meter, Room};
 use scope::Scope;
 
-/// The agreement that a tree stands for.
-pub fn resolve(tree: &syntax::Agreement) -> Result<Agreement, Fault> {
-    let mut resolver = Resolver::new(tree)?;
-    let scope = Scope::empty(&tree.parties);
-    let mut templates = Vec::new();
-    for (head, template) in resolver.heads.clone().into_iter().zip(&tree.templates) {
-        let body = resolver.template(&template.body, &head, &scope)?;
-        templates.push(Template { head, body });
-    }
-    let main = resolver.clause(&tree.main, &scope, 2)?;
-    let parties = tree.parties.iter().map(|party| party.text.clone()).collect();
-    Ok(Agreement { start: tree.start, parties, readings: resolver.readings, templates, main })
+/// What a tree stands for.
+pub struct Resolved {
+    /// None where some fault has no refusal, or is refusal 1: there is no record then. With a fault of a refusal
+    /// it is an agreement that the monitor refuses.
+    pub agreement: Option<Agreement>,
+    /// In the order of the text.
+    pub faults: Vec<Fault>,
+    /// Whether the tree is no deeper and no longer than records may be, and has no more templates.
+    pub bounded: bool,
 }
 
-/// What clauses refer to, and what they cost.
+/// Finds what every name stands for.
+pub fn resolve(tree: &syntax::Agreement) -> Resolved {
+    let mut resolver = Resolver::new(tree);
+    let scope = Scope::empty(&tree.parties);
+    let heads = resolver.heads.clone();
+    let bodies: Vec<Option<Clause>> = heads
+        .iter()
+        .zip(&tree.templates)
+        .map(|(head, template)| resolver.clause(&template.body, &scope.of_template(head), 3))
+        .collect();
+    let main = resolver.clause(&tree.main, &scope, 2);
+    let templates: Option<Vec<Template>> =
+        heads.into_iter().zip(bodies).map(|(head, body)| Some(Template { head, body: body? })).collect();
+    let Resolver { readings, meter, mut faults, .. } = resolver;
+    let writable = faults.iter().all(|fault| fault.refusal.is_some());
+    let parties = tree.parties.iter().map(|party| party.text.clone()).collect();
+    let agreement = templates.zip(main).filter(|_| writable).map(|(templates, main)| Agreement {
+        start: tree.start,
+        parties,
+        readings,
+        templates,
+        main,
+    });
+    in_order(&mut faults);
+    let bounded = !meter.deep && !meter.is_full() && tree.templates.len() <= limits::TEMPLATES;
+    Resolved { agreement, faults, bounded }
+}
+
+/// In the order of the text, each once: sugar may write an operand twice.
+pub fn in_order(faults: &mut Vec<Fault>) {
+    faults.sort_by_key(|fault| (fault.at, fault.refusal));
+    faults.dedup();
+}
+
+/// What clauses refer to, what they cost, and what is wrong so far.
 struct Resolver {
     readings: Vec<Reading>,
     heads: Vec<Head>,
     meter: Meter,
+    faults: Vec<Fault>,
 }
 
 impl Resolver {
-    /// The declarations, which clauses may refer to before they come.
-    fn new(tree: &syntax::Agreement) -> Result<Resolver, Fault> {
-        limited(&tree.parties, limits::PARTIES, "parties", |party| party)?;
-        limited(&tree.readings, limits::READINGS, "readings", |reading| &reading.name)?;
-        limited(&tree.templates, limits::TEMPLATES, "templates", |template| &template.name)?;
-        distinct(&tree.parties, "party")?;
-        distinct(tree.readings.iter().map(|reading| &reading.name), "reading")?;
-        distinct(tree.templates.iter().map(|template| &template.name), "template")?;
-        if tree.readings.is_empty() {
-            return Fault::err(tree.main.at, "no reading is declared: at least 1 is needed");
+    /// Notes a fault, if there is one.
+    fn noted<T>(&mut self, result: Result<T, Fault>) -> Option<T> {
+        result.map_err(|fault| self.faults.push(fault)).ok()
+    }
+
+    /// Counts a record, and notes the limit that it passes.
+    fn room(&mut self, at: Place, depth: usize, fields: usize) -> Room {
+        let room = self.meter.record(at, depth, fields);
+        if let Room::Deep(Some(fault)) | Room::Full(Some(fault)) = &room {
+            self.faults.push(fault.clone());
         }
-        let mut meter = Meter::default();
-        meter.record(tree.main.at, 1, 7)?;
-        let readings = tree.readings.iter().map(|tree| reading(tree, &mut meter)).collect::<Result<_, _>>()?;
-        let heads = tree.templates.iter().map(|template| head(template, tree, &mut meter)).collect::<Result<_, _>>()?;
-        Ok(Resolver { readings, heads, meter })
+        room
     }
-
-    fn template(&mut self, body: &syntax::Clause, head: &Head, outside: &Scope) -> Result<Clause, Fault> {
-        self.clause(body, &outside.of_template(head), 3)
-    }
-}
-
-fn reading(tree: &syntax::Reading, meter: &mut Meter) -> Result<Reading, Fault> {
-    if tree.name.text == "mark" {
-        return Fault::err(tree.name.at, "`mark` is the name of the time mark, type 0");
-    }
-    limited(&tree.values, limits::READING_VALUES, "values of a reading", |value| &value.name)?;
-    distinct_values(&tree.values, &[])?;
-    meter.record(tree.name.at, 2, 1 + tree.values.len())?;
-    Ok(Reading { name: tree.name.text.clone(), values: values(&tree.values) })
-}
-
-fn head(tree: &syntax::Template, agreement: &syntax::Agreement, meter: &mut Meter) -> Result<Head, Fault> {
-    limited(&tree.values, limits::TEMPLATE_VALUES, "values of a template", |value| &value.name)?;
-    limited(&tree.parameters, limits::PARAMETERS, "party parameters", |name| name)?;
-    distinct_values(&tree.values, &tree.parameters)?;
-    meter.record(tree.name.at, 2, 1 + tree.values.len() + 3)?;
-    let declared = declared(tree, agreement)?;
-    let parameters = tree.parameters.iter().map(|name| name.text.clone()).collect();
-    Ok(Head { name: tree.name.text.clone(), values: values(&tree.values), parameters, declared })
-}
-
-/// The declared parties by bit.
-fn declared(tree: &syntax::Template, agreement: &syntax::Agreement) -> Result<u16, Fault> {
-    let mut declared = 0;
-    for party in &tree.declared {
-        let known = agreement.parties.iter().position(|known| known.text == party.text);
-        let bit = 1 << known.ok_or_else(|| scope::unknown("party", party))?;
-        if declared & bit != 0 {
-            return Fault::err(party.at, named_twice("party", party));
-        }
-        declared |= bit;
-    }
-    Ok(declared)
-}
-
-fn values(parameters: &[Parameter]) -> Vec<Value> {
-    let value = |tree: &Parameter| Value { name: tree.name.text.clone(), value_type: tree.value_type };
-    parameters.iter().map(value).collect()
-}
-
-/// At most so many.
-fn limited<T>(items: &[T], most: usize, what: &str, name: impl Fn(&T) -> &Name) -> Result<(), Fault> {
-    match items.get(most) {
-        Some(item) => Fault::err(name(item).at, format!("too many {what}: at most {most}")),
-        None => Ok(()),
-    }
-}
-
-/// Names that others refer to: each once, and no `_`.
-fn distinct<'n>(names: impl IntoIterator<Item = &'n Name>, what: &str) -> Result<(), Fault> {
-    let mut known: Vec<&str> = Vec::new();
-    for name in names {
-        if name.text == "_" {
-            return Fault::err(name.at, format!("`_` names no {what}"));
-        }
-        if known.contains(&name.text.as_str()) {
-            return Fault::err(name.at, named_twice(what, name));
-        }
-        known.push(&name.text);
-    }
-    Ok(())
-}
-
-fn named_twice(what: &str, name: &Name) -> String {
-    format!("the {what} `{}` is named twice", name.text)
-}
-
-/// The names bound at one place: each once, but for `_`.
-fn distinct_values(values: &[Parameter], parameters: &[Name]) -> Result<(), Fault> {
-    let names = values.iter().map(|value| &value.name).chain(parameters);
-    distinct(names.filter(|name| name.text != "_"), "value")
 }

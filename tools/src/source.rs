@@ -18,7 +18,11 @@ pub struct Source {
 
 impl Source {
     pub fn read(name: &str, text: &[u8]) -> Result<Source, Fault> {
-        let assembled = assemble(text)?;
+        Source::of(name, assemble(text)?, text)
+    }
+
+    /// An agreement that was assembled from this text.
+    pub fn of(name: &str, assembled: Assembled, text: &[u8]) -> Result<Source, Fault> {
         let written = written(&parse(utf8(text)?)?);
         let encoded = sites(&assembled.agreement).into_iter().map(|site| site.wait.place).collect::<Vec<_>>();
         let places = encoded.into_iter().zip(written).collect();

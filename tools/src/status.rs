@@ -1,6 +1,7 @@
 //! How the commands that run an agreement end.
 
 use crate::run::Verdict;
+use crate::shown::printable;
 use givuntha::Refusal;
 use std::process::ExitCode;
 
@@ -48,5 +49,5 @@ pub fn usage(usage: &str) -> ExitCode {
 
 /// What is said where the library does not start an agreement.
 pub fn refused(file: &str, refusal: Refusal) -> String {
-    format!("{file}: the agreement is refused with {}: {refusal}", refusal.number())
+    format!("{}: the agreement is refused with {}: {refusal}", printable(file), refusal.number())
 }

@@ -1,12 +1,24 @@
 //! The text of an agreement as a tree, names and places kept as written.
 
-use crate::fault::Place;
+use crate::fault::{Fault, Place, Span};
 use crate::model::Type;
 
 #[derive(Clone, Debug, PartialEq, Eq)]
 pub struct Name {
     pub text: String,
     pub at: Place,
+}
+
+impl Name {
+    /// How many characters it has.
+    pub fn length(&self) -> usize {
+        self.text.chars().count()
+    }
+
+    /// What is wrong with it.
+    pub fn fault(&self, what: impl AsRef<str>) -> Fault {
+        Fault::new(self.at, what).of_length(self.length())
+    }
 }
 
 #[derive(Debug)]
@@ -45,6 +57,8 @@ pub struct Template {
 #[derive(Debug)]
 pub struct Clause {
     pub at: Place,
+    /// Where it begins.
+    pub from: Place,
     pub form: Form,
 }
 
@@ -83,12 +97,15 @@ pub struct Instance {
 #[derive(Debug)]
 pub struct Expression {
     pub at: Place,
+    /// All of it, with parentheses around it.
+    pub span: Span,
     pub term: Term,
 }
 
 #[derive(Debug)]
 pub enum Term {
-    Number(i32),
+    /// Held at the end of 64 bits: whether it is a number of the language is not known yet.
+    Number(i64),
     Truth(bool),
     Name(String),
     Not(Box<Expression>),
@@ -109,4 +126,18 @@ pub enum Operator {
     AtLeast,
     /// e1 != e2 is !(e1 = e2).
     Unequal,
+}
+
+impl Operator {
+    /// How it is written.
+    pub fn sign(self) -> &'static str {
+        match self {
+            Operator::Plain(operator) => operator.sign(),
+            Operator::Or => "||",
+            Operator::AtMost => "<=",
+            Operator::More => ">",
+            Operator::AtLeast => ">=",
+            Operator::Unequal => "!=",
+        }
+    }
 }

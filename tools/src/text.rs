@@ -1,6 +1,6 @@
 //! Text into tokens, each with its place.
 
-use crate::fault::{Fault, Place};
+use crate::fault::{Fault, Place, Span};
 use crate::{dates, numbers};
 
 #[derive(Clone, Debug, PartialEq, Eq)]
@@ -26,16 +26,26 @@ impl Token {
             Token::End => "the end of the text".to_string(),
         }
     }
+
+    /// About how many characters it has, for the sign under it.
+    pub fn length(&self) -> usize {
+        match self {
+            Token::Name(name) => name.chars().count(),
+            Token::Sign(sign) => sign.len(),
+            Token::Number(_) | Token::Date(_) | Token::End => 1,
+        }
+    }
 }
 
-/// A token and where it begins.
+/// A token and where it stands.
 #[derive(Clone, Debug)]
 pub struct Placed {
     pub token: Token,
-    pub at: Place,
+    pub span: Span,
 }
 
-const WORDS: [&str; 20] = [
+/// The reserved words.
+pub const WORDS: [&str; 20] = [
     "parties",
     "readings",
     "letrec",
@@ -93,10 +103,10 @@ pub fn tokens(text: &str) -> Result<Vec<Placed>, Fault> {
     let mut tokens = Vec::new();
     loop {
         lexer.skip();
-        let at = lexer.at;
+        let (at, start) = (lexer.at, text.len() - lexer.rest.len());
         let token = lexer.token()?;
         let ended = token == Token::End;
-        tokens.push(Placed { token, at });
+        tokens.push(Placed { token, span: Span { at, start, end: text.len() - lexer.rest.len() } });
         if ended {
             return Ok(tokens);
         }
@@ -160,13 +170,17 @@ impl<'a> Lexer<'a> {
 
     fn number(&mut self) -> Result<Token, Fault> {
         let at = self.at;
+        if let Some((length, what)) = dates::slip(self.rest) {
+            return Err(Fault::new(at, what).of_length(length));
+        }
         if let Some(length) = dates::shape(self.rest) {
             let date = self.take(length);
             let minutes = dates::minutes(date);
-            return minutes.map(Token::Date).ok_or_else(|| Fault::new(at, no_date(date)));
+            return minutes.map(Token::Date).ok_or_else(|| Fault::new(at, dates::no_date(date)).of_length(length));
         }
         let word = self.take_while(continues_name);
-        numbers::number(word).map(Token::Number).map_err(|what| Fault::new(at, what))
+        let fault = |what| Fault::new(at, what).of_length(word.chars().count());
+        numbers::number(word).map(Token::Number).map_err(fault)
     }
 
     fn sign(&mut self, c: char) -> Result<Token, Fault> {
@@ -176,9 +190,4 @@ impl<'a> Lexer<'a> {
         self.take(written.len());
         Ok(Token::Sign(sign))
     }
-}
-
-/// What is wrong with a text that only looks like a date.
-pub fn no_date(date: &str) -> String {
-    format!("`{date}` is no date from 1970-01-01 on")
 }

@@ -3,6 +3,11 @@
 use std::io::Write;
 use std::process::{Command, Output, Stdio};
 
+/// The exit status where an input is wrong or refused.
+const REFUSED: i32 = 2;
+/// The exit status where the arguments are wrong.
+const MISUSED: i32 = 3;
+
 const SAMPLE: &str = concat!(env!("CARGO_MANIFEST_DIR"), "/tests/sample.csl");
 
 /// Runs the command with this on its standard input.
@@ -82,14 +87,61 @@ fn explain() {
 
 #[test]
 fn faults() {
-    assert_eq!(complaint(&["assemble", "-"], b"parties\n  1", 1), "-:2:3: expected a party's name, found a number\n");
+    let told = "\
+-:2:3: expected a party's name, found a number
+  2 |   1
+    |   ^
+-: no record can be written of this text
+";
+    for command in ["check", "assemble"] {
+        assert_eq!(complaint(&[command, "-"], b"parties\n  1", REFUSED), told);
+    }
     assert_eq!(
-        complaint(&["disassemble", "-"], &[5, 0, 1, 0, 0], 1),
+        complaint(&["disassemble", "-"], &[5, 0, 1, 0, 0], REFUSED),
         "-: byte 4: the record ends before its parts do\n"
     );
-    assert_eq!(complaint(&["readings", "-"], b"110 1\n5", 1), "-:2:2: a reading is a time, a type and values\n");
-    assert_eq!(complaint(&["explain", "-"], b"", 1), "-: 0 bytes, where a table has 24,640\n");
-    assert!(complaint(&["assemble", "no such file"], b"", 1).starts_with("no such file: "));
+    assert_eq!(complaint(&["readings", "-"], b"110 1\n5", REFUSED), "-:2:2: a reading is a time, a type and values\n");
+    assert_eq!(complaint(&["explain", "-"], b"", REFUSED), "-: 0 bytes, where a table has 24,640\n");
+    assert!(complaint(&["assemble", "no such file"], b"", REFUSED).starts_with("no such file: "));
+}
+
+const UNTYPED: &[u8] = b"parties A readings N(n: number) in <A> N(n) where n due within 5 starting 0";
+
+/// The check says whom an accepted agreement can blame; nothing is made of a refused one.
+#[test]
+fn checks() {
+    let accepted = text(&written(&["check", SAMPLE], b""));
+    assert!(accepted.ends_with("sample.csl: accepted; 64 bytes; it can blame Keeper\n"), "{accepted}");
+    let nobody = text(&written(&["check", "-"], b"parties A readings E() in fulfilment starting 0"));
+    assert_eq!(nobody, "-: accepted; 20 bytes; it can blame nobody\n");
+    let told = "\
+-:1:51: the condition after `where` must be a truth, and `n` is a number (refusal 3)
+  1 | parties A readings N(n: number) in <A> N(n) where n due within 5 starting 0
+    |                                                   ^
+-: refused with 3: not typed; name, literal, blame or declared party out of range; over 16 in sight
+";
+    for command in [&["check", "-"][..], &["assemble", "-"], &["readings", "--for", "-", SAMPLE]] {
+        assert_eq!(complaint(command, UNTYPED, REFUSED), told, "{command:?}");
+    }
+}
+
+/// What would turn or hide the rest of a message is spelt out, in names of files too.
+#[test]
+fn no_control_characters() {
+    let told = complaint(&["check", "-"], b"parties \x1b[2J\x07", REFUSED);
+    let expected = "\
+-:1:9: `\\u{1b}` stands for nothing here
+  1 | parties  [2J
+    |         ^
+-: no record can be written of this text
+";
+    assert_eq!(told, expected);
+    assert_eq!(
+        complaint(&["readings", "-"], b"5 1 \x1b", REFUSED),
+        "-:1:5: `\\u{1b}` is no number, and names need the agreement's text (--for)\n"
+    );
+    let told = complaint(&["check", "no\u{1b}\nfile"], b"", REFUSED);
+    assert!(told.starts_with("no\\u{1b}\\nfile: ") && told.matches('\n').count() == 1, "{told:?}");
 }
 
 #[test]
@@ -97,8 +149,17 @@ fn usage() {
     let wrong: [&[&str]; 5] =
         [&[], &["assemble"], &["assemble", "a", "b"], &["explain", "--for", "a"], &["print", "a"]];
     for arguments in wrong {
-        assert!(complaint(arguments, b"", 2).starts_with("usage: agreement assemble FILE"), "{arguments:?}");
+        assert!(complaint(arguments, b"", MISUSED).starts_with("usage: agreement check FILE"), "{arguments:?}");
     }
     let help = text(&written(&["--help"], b""));
     assert!(help.contains("not proved") && help.contains("`check`"));
+    assert_eq!(text(&written(&["help"], b"")), help);
+    let version = format!("agreement {}\n", env!("CARGO_PKG_VERSION"));
+    assert_eq!(text(&written(&["--version"], b"")), version);
+    for command in ["check", "assemble", "disassemble", "readings", "explain"] {
+        assert!(help.contains(&format!("agreement {command} ")), "{command}");
+        assert_eq!(text(&written(&[command, "--help"], b"")), help);
+        assert_eq!(text(&written(&[command, "-h"], b"")), help);
+        assert_eq!(text(&written(&[command, "--version"], b"")), version);
+    }
 }

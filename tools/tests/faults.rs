@@ -29,10 +29,12 @@ fn names_that_nobody_has() {
     assert_eq!(main_fault("if M(n) due within 5"), "4:4: unknown reading `M`");
     assert_eq!(main_fault("h()"), "4:1: unknown template `h`");
     assert_eq!(main_fault("<A> N(n) where m < 1 due within 5"), "4:16: unknown value `m`");
-    assert_eq!(main_fault("<A> N(n) due within n"), "4:21: unknown value `n`");
-    assert_eq!(main_fault("<A> N(n) due within 1 after n"), "4:29: unknown value `n`");
-    assert_eq!(main_fault("<A> N(n) where z = 1 due within 5 remaining z"), "4:16: unknown value `z`");
-    assert_eq!(main_fault("if N(n) due within 5 else if n < 1 then fulfilment"), "4:30: unknown value `n`");
+    let seen = "is not in sight here: `where` and `then` see the values of a reading, and `then` the remaining time";
+    assert_eq!(main_fault("<A> N(n) due within n"), format!("4:21: `n` {seen}"));
+    assert_eq!(main_fault("<A> N(n) due within 1 after n"), format!("4:29: `n` {seen}"));
+    assert_eq!(main_fault("<A> N(n) where z = 1 due within 5 remaining z"), format!("4:16: `z` {seen}"));
+    assert_eq!(main_fault("if N(n) due within 5 else if n < 1 then fulfilment"), format!("4:30: `n` {seen}"));
+    assert_eq!(main_fault("<A> N(n) due within 5 and <A> N(_) where n = 1 due within 5"), "4:42: unknown value `n`");
     assert_eq!(main_fault("<A> N(_) where _ = 1 due within 5"), "4:16: unknown value `_`");
     assert_eq!(main_fault("f(1)<C>"), "4:6: unknown party `C`");
     assert_eq!(template_fault("f() declares A, C = fulfilment"), "2:17: unknown party `C`");
@@ -87,27 +89,27 @@ fn too_many() {
     let parties = many(17, |n| format!("P{n}"), ",\n");
     assert_eq!(
         fault(&format!("parties {parties} readings E() in fulfilment starting 0")),
-        "17:1: too many parties: at most 16"
+        "17:1: too many parties: 17, at most 16"
     );
     let readings = many(17, |n| format!("R{n}()"), "\n");
     assert_eq!(
         fault(&format!("parties A readings {readings} in fulfilment starting 0")),
-        "17:1: too many readings: at most 16"
+        "17:1: too many readings: 17, at most 16"
     );
     let values = |count| many(count, |n| format!("x{n}: number"), ",\n");
     assert_eq!(
         fault(&format!("parties A readings R({}) in fulfilment starting 0", values(5))),
-        "5:1: too many values of a reading: at most 4"
+        "5:1: too many values of a reading: 5, at most 4"
     );
     let templates = many(33, |n| format!("t{n}() = fulfilment"), "\n");
-    assert_eq!(template_fault(&templates), "34:1: too many templates: at most 32");
+    assert_eq!(template_fault(&templates), "34:1: too many templates: 33, at most 32");
     assert_eq!(
         template_fault(&format!("t({}) = fulfilment", values(9))),
-        "10:1: too many values of a template: at most 8"
+        "10:1: too many values of a template: 9, at most 8"
     );
     assert_eq!(
         template_fault(&format!("t()<{}> = fulfilment", many(5, |n| format!("q{n}"), ",\n"))),
-        "6:1: too many party parameters: at most 4"
+        "6:1: too many party parameters: 5, at most 4"
     );
 }
 
@@ -123,7 +125,11 @@ fn too_much_in_sight() {
         )
     };
     assert!(assemble(text(4).as_bytes()).is_ok());
-    assert_eq!(fault(&text(5)), "6:5: 17 values would be in sight: at most 16");
+    assert_eq!(
+        fault(&text(5)),
+        "6:5: 18 values would be in sight in the `then` of this `N`, 2 over the 16 there may be: \
+         16 from outside, 1 of the reading and the remaining time"
+    );
 }
 
 #[test]
@@ -203,13 +209,98 @@ fn grammar() {
     assert_eq!(main_fault("(g()"), "5:1: expected `)`, found `starting`");
     assert_eq!(main_fault("if 1 < 2 < 3 then g()"), "4:10: a second comparison: one of the two needs parentheses");
     assert_eq!(main_fault("if then g()"), "4:4: expected an expression, found `then`");
-    assert_eq!(main_fault("if -n < 1 then g()"), "4:4: expected an expression, found `-`");
-    assert_eq!(main_fault("g() else g()"), "4:5: expected `starting`, found `else`");
+    assert_eq!(
+        main_fault("if -n < 1 then g()"),
+        "4:4: expected an expression, found `-`: \
+         a minus sign may stand before a number only; `0 - n` is the negative of `n`"
+    );
+    assert_eq!(
+        main_fault("g() else g()"),
+        "4:5: expected `starting`, found `else`: \
+         only an `if` has an `else`; an obligation that is not met in time is its party's breach"
+    );
     assert_eq!(main_fault("g() ; g()"), "4:5: `;` stands for nothing here");
     assert_eq!(main_fault("g()\nstarting 5 g()"), "5:12: expected the end of the text, found `g`");
     assert_eq!(
         assemble(b"parties\n\xc3\xa4\xff").err().map(|fault| fault.to_string()).as_deref(),
         Some("2:2: bytes that are no UTF-8 text")
+    );
+}
+
+/// What was perhaps meant.
+#[test]
+fn hints() {
+    let found = |main: &str| main_fault(main);
+    assert_eq!(found("<A> N(n) were n = 1 due within 5"), "4:10: expected `due`, found `were`; did you mean `where`?");
+    assert_eq!(
+        found("<A> N(n) where n = 1 and n = 2 due within 5"),
+        "4:22: expected `due`, found `and`: `and` joins clauses, `&&` joins truths"
+    );
+    assert_eq!(
+        found("if 1 = 1 or 1 = 2 then g()"),
+        "4:10: expected `then`, found `or`: `or` joins clauses, `||` joins truths"
+    );
+    assert_eq!(
+        found("if (1 = 1 and 1 = 2) then g()"),
+        "4:11: expected `)`, found `and`: `and` joins clauses, `&&` joins truths"
+    );
+    assert_eq!(found("g() && g()"), "4:5: expected `starting`, found `&&`: `&&` joins truths, `and` joins clauses");
+    assert_eq!(
+        found("<A> N(n) due within 5 else g()"),
+        "4:23: expected `starting`, found `else`: only an `if` has an `else`; \
+         an obligation that is not met in time is its party's breach"
+    );
+    assert_eq!(found("if 1 == 1 then g()"), "4:7: expected an expression, found `=`: one `=` compares");
+    assert_eq!(found("fulfillment"), "4:1: `fulfillment` begins no clause; did you mean `fulfilment`?");
+    assert_eq!(found("g() adn g()"), "4:5: expected `starting`, found `adn`; did you mean `and`?");
+    assert_eq!(found("g() and"), "5:1: expected a clause, found `starting`");
+    assert_eq!(fault("partys A"), "1:1: expected `parties`, found `partys`; did you mean `parties`?");
+    assert_eq!(
+        fault("parties A readings E(x: bool)"),
+        "1:25: expected `number`, `truth` or `party`, found `bool`; did you mean `truth`?"
+    );
+}
+
+/// A name with a slip of the hand.
+#[test]
+fn nearest_names() {
+    let text = |main: &str| {
+        format!(
+            "parties Buyer, Seller readings Payment(amount: number) letrec\n\
+             deliver(price: number)<who> declares Seller, Bayer = <woh> Payment(a) where a >= prize due within 5\n\
+             in {main} starting 0"
+        )
+    };
+    let Err(refused) = tools::check::check(text("delivr(5)<Seler> and <Byuer> Paymet(amont) due within 1").as_bytes())
+    else {
+        panic!("accepted")
+    };
+    let told: Vec<String> = refused.faults.iter().map(ToString::to_string).collect();
+    assert_eq!(
+        told,
+        [
+            "2:46: unknown party `Bayer`; did you mean `Buyer`?",
+            "2:55: unknown party `woh`; did you mean `who`?",
+            "2:82: unknown value `prize`; did you mean `price`?",
+            "3:4: unknown template `delivr`; did you mean `deliver`?",
+            "3:14: unknown party `Seler`; did you mean `Seller`?",
+            "3:26: unknown party `Byuer`; did you mean `Buyer`?",
+            "3:33: unknown reading `Paymet`; did you mean `Payment`?",
+        ]
+    );
+}
+
+#[test]
+fn times_of_other_programs() {
+    let starting = |time: &str| fault(&format!("parties A readings E() in fulfilment\nstarting {time}"));
+    assert_eq!(starting("2011-01-01 09:30"), "2:10: a `T` stands between date and time of day: write 2011-01-01T09:30");
+    assert_eq!(starting("2011-01-01T09:30:15"), "2:10: times are in minutes, without seconds: write 2011-01-01T09:30");
+    let zone = "2:10: times have no zone: write 2011-01-01T09:30, with all times of an agreement on one clock";
+    assert_eq!(starting("2011-01-01T09:30Z"), zone);
+    assert_eq!(starting("2011-01-01T09:30+02:00"), zone);
+    assert_eq!(
+        starting("2011-1-1"),
+        "2:14: expected the end of the text, found `-`: a date has two digits for month and day, as in 2011-01-01"
     );
 }
 

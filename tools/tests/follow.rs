@@ -65,7 +65,10 @@ fn a_slip_does_not_end_the_watch() {
     watch.write("110 Salinty 240\n160 Salinity 250");
     let (rest, complaints, status) = watch.end();
     assert!(rest.ends_with("FULFILLED, shown by 160 Salinity 250 at -:2\n"), "{rest}");
-    assert_eq!((complaints.as_str(), status), ("-:1:5: unknown reading `Salinty`\n", Some(2)));
+    assert_eq!(
+        (complaints.as_str(), status),
+        ("-:1:5: unknown reading `Salinty`; did you mean `Salinity`?\n", Some(2))
+    );
 }
 
 #[test]

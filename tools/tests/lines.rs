@@ -78,7 +78,10 @@ fn what_cannot_be_stored() {
     assert_eq!(plain("1 256"), Err("1:3: a type over 255 does not fit in its byte".into()));
     assert_eq!(plain("5"), Err("1:2: a reading is a time, a type and values".into()));
     assert_eq!(plain("!"), Err("1:2: a reading is a time, a type and values".into()));
-    assert_eq!(plain("-5 1"), Err("1:1: `-5` is no time: minutes or a date are".into()));
+    let wanted = "minutes, or a date such as 2011-01-01 or 2011-01-01T09:30 are";
+    for time in ["-5", "noon", "2011-1-1", "2011/01/01", "09:30"] {
+        assert_eq!(plain(&format!("{time} 1")), Err(format!("1:1: `{time}` is no time: {wanted}")));
+    }
     assert_eq!(plain("2011-02-30 1"), Err("1:1: `2011-02-30` is no date from 1970-01-01 on".into()));
     assert_eq!(plain("5x 1"), Err("1:1: `x` is no unit of time: m, h, D, W, M and Y are".into()));
     assert_eq!(plain("5 1 7q"), Err("1:5: `q` is no unit of time: m, h, D, W, M and Y are".into()));
@@ -90,10 +93,27 @@ fn what_cannot_be_stored() {
 }
 
 #[test]
+fn times_of_other_programs() {
+    assert_eq!(
+        plain("2011-01-01 09:30 1 5"),
+        Err("1:1: a `T` stands between date and time of day: write 2011-01-01T09:30".into())
+    );
+    assert_eq!(
+        plain("2011-01-01T09:30:00 1"),
+        Err("1:1: times are in minutes, without seconds: write 2011-01-01T09:30".into())
+    );
+    let zone = "1:1: times have no zone: write 2011-01-01T09:30, with all times of an agreement on one clock";
+    assert_eq!(plain("2011-01-01T09:30Z 1"), Err(zone.into()));
+    assert_eq!(plain("2011-01-01T09:30-05:00 1"), Err(zone.into()));
+}
+
+#[test]
 fn what_the_agreement_refuses() {
-    assert_eq!(named("5 Pong"), Err("1:3: unknown reading `Pong`".into()));
-    assert_eq!(named("5 Payment Bayer 5"), Err("1:11: unknown party `Bayer`".into()));
-    assert_eq!(named("! 5 Payment Bayer 5"), Err("1:13: unknown party `Bayer`".into()));
+    assert_eq!(named("5 Pong"), Err("1:3: unknown reading `Pong`; did you mean `Ping`?".into()));
+    assert_eq!(named("5 Payment Bayer 5"), Err("1:11: unknown party `Bayer`; did you mean `Buyer`?".into()));
+    assert_eq!(named("! 5 Payment Broker 5"), Err("1:13: unknown party `Broker`".into()));
+    assert_eq!(named("5 payment Buyer 5"), Err("1:3: unknown reading `payment`; did you mean `Payment`?".into()));
+    assert_eq!(named("5 Mark"), Err("1:3: unknown reading `Mark`; did you mean `mark`?".into()));
     assert_eq!(named("5 4"), Err("1:3: type 4 is none of the agreement's readings".into()));
     assert_eq!(named("5 Payment 1"), Err("1:3: `Payment` has 2 values, 1 given here".into()));
     assert_eq!(named("5 mark 1"), Err("1:3: `mark` has 0 values, 1 given here".into()));

@@ -1,6 +1,7 @@
 //! What README.md shows is so.
 
 use tools::assemble;
+use tools::check::check;
 use tools::readings::{numbered, readings};
 use tools::source::Source;
 use tools::story::words::Words;
@@ -35,7 +36,7 @@ fn its_lines_are_readings() {
 #[test]
 fn its_commands_are_those_of_the_usage() {
     let usage = include_str!("../src/bin/agreement.rs");
-    for line in block("agreement assemble").lines() {
+    for line in block("agreement check").lines() {
         let command = line.split("  ").next().unwrap_or(line);
         let command = command.split(" TABLE").next().unwrap_or(command);
         assert!(usage.contains(command), "{command}");
@@ -59,4 +60,18 @@ fn the_first_agreement_of_the_repository() {
     let told: String = events.skip(1).collect();
     let told = format!("```\n{told}\n{}```\n", text::ending(&words, &story.ending(), "target/sale.readings"));
     assert!(readme.contains(&told), "{told}");
+}
+
+/// What both pages show of a mistake is what is said of it.
+#[test]
+fn its_mistakes_are_told_so() {
+    let told = |file: &str, text: &str| match check(text.as_bytes()) {
+        Ok(_) => panic!("accepted: {text}"),
+        Err(refused) => refused.told(file, text.as_bytes()) + "\n",
+    };
+    let sample = include_str!("sample.csl").replace("!(level < 250)", "!level");
+    assert_eq!(block("sample.csl:"), told("sample.csl", &sample));
+    let pond = include_str!("../../examples/pond/agreement.csl").replace("g >= 250", "g");
+    let shown = include_str!("../../README.md").split("```\n").find(|block| block.starts_with("agreement.csl:"));
+    assert_eq!(shown, Some(told("agreement.csl", &pond).as_str()));
 }

@@ -133,20 +133,37 @@ BREACHED at 160 by Keeper
 #[test]
 fn what_is_wrong_is_refused_with_2() {
     let lines = ["run", POND, "-"];
-    assert_eq!(complaint(&lines, b"2026-06-03 Lifted 1\n2026-06-04 Lift 1\n", 2), "-:2:12: unknown reading `Lift`\n");
-    assert_eq!(
-        complaint(&["run", "-", "none"], b"parties", 2),
-        "-:1:8: expected a party's name, found the end of the text\n"
-    );
+    let told = complaint(&lines, b"2026-06-03 Lifted 1\n2026-06-04 Lift 1\n", 2);
+    assert!(told.starts_with("-:2:12: unknown reading `Lift`"), "{told}");
     assert!(complaint(&["run", POND, "no such file"], b"", 2).starts_with("no such file: "));
+    let no_text = "-:1:8: expected a party's name, found the end of the text\n";
+    assert!(complaint(&["run", "-", "none"], b"parties", 2).starts_with(no_text));
+}
+
+/// What `check` says of a text, `run` says too.
+#[test]
+fn a_text_that_is_refused() {
     let untyped = b"parties A readings N() in if 1 then fulfilment starting 0";
-    let refused = "-: the agreement is refused with 3: not typed; ";
-    assert!(complaint(&["run", "-", "/dev/null"], untyped, 2).starts_with(refused));
+    let told = complaint(&["run", "-", "/dev/null"], untyped, 2);
+    assert_eq!(told, complaint(&["check", "-"], untyped, 2));
+    assert!(told.contains("\n-: refused with 3: not typed; "), "{told}");
     let output = agreement(&["run", "--json", "-", "/dev/null"], untyped);
     assert_eq!(output.status.code(), Some(2));
-    assert!(
-        text(&output.stdout).starts_with("{\"end\":\"refused\",\"refusal\":{\"number\":3,\"because\":\"not typed; ")
-    );
+    let object = text(&output.stdout);
+    assert!(object.starts_with("{\"end\":\"refused\",\"refusal\":null,\"because\":\"-:1:30: "), "{object}");
+}
+
+/// Accepted, but 131 units are needed at the start: each template has two of the one before.
+#[test]
+fn a_start_that_is_refused() {
+    let templates: String = (1..6).map(|n| format!("t{n}() declares A = t{}() and t{}()\n", n - 1, n - 1)).collect();
+    let first = "parties A readings N() letrec t0() declares A = <A> N() due within 1 and <A> N() due within 2\n";
+    let large = format!("{first}{templates}in t5() and t0() starting 0");
+    let told = "-: the agreement is refused with 11: the residue by the rules needs over 128 units\n";
+    assert_eq!(complaint(&["run", "-", "/dev/null"], large.as_bytes(), 2), told);
+    let output = agreement(&["run", "--json", "-", "/dev/null"], large.as_bytes());
+    assert_eq!((output.status.code(), text(&output.stderr).as_str()), (Some(2), told));
+    assert!(text(&output.stdout).starts_with("{\"end\":\"refused\",\"refusal\":{\"number\":11,\"because\":"));
 }
 
 #[test]

@@ -2,8 +2,9 @@
 
 use super::cursor::Cursor;
 use crate::fault::{Fault, Place};
+use crate::near::nearest;
 use crate::syntax::{Clause, Expression, Form, Instance, Name, Wait};
-use crate::text::Token;
+use crate::text::{Token, WORDS};
 
 impl Cursor {
     pub fn clause(&mut self) -> Result<Clause, Fault> {
@@ -24,13 +25,14 @@ impl Cursor {
                 return Ok(left);
             }
             let right = side(self)?;
-            left = self.made(at, form(Box::new(left), Box::new(right)))?;
+            let from = left.from;
+            left = Clause { from, ..self.made(at, form(Box::new(left), Box::new(right)))? };
         }
     }
 
     fn made(&mut self, at: Place, form: Form) -> Result<Clause, Fault> {
         self.record(at)?;
-        Ok(Clause { at, form })
+        Ok(Clause { at, from: at, form })
     }
 
     fn atom(&mut self) -> Result<Clause, Fault> {
@@ -46,7 +48,7 @@ impl Cursor {
                 self.skip();
                 let clause = self.clause()?;
                 self.expect(")")?;
-                Ok(clause)
+                Ok(Clause { from: at, ..clause })
             }
             Token::Name(_) => self.instance(at),
             _ => Err(self.unexpected("a clause")),
@@ -78,6 +80,10 @@ impl Cursor {
 
     fn instance(&mut self, at: Place) -> Result<Clause, Fault> {
         let template = self.name("a template's name")?;
+        if let (false, Some(word)) = (*self.token() == Token::Sign("("), nearest(&template.text, WORDS)) {
+            let what = format!("`{}` begins no clause; did you mean `{word}`?", template.text);
+            return Err(Fault::new(at, what).of_length(template.length()));
+        }
         let values = self.enclosed("(", ")", Cursor::expression)?;
         let parties = self.parties()?;
         self.made(at, Form::Instance(Instance { template, values, parties }))

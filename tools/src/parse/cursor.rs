@@ -1,6 +1,7 @@
 //! A walk along tokens.
 
-use crate::fault::{Fault, Place};
+use super::hints::hint;
+use crate::fault::{Fault, Place, Span};
 use crate::limits;
 use crate::syntax::Name;
 use crate::text::{Placed, Token};
@@ -39,7 +40,17 @@ impl Cursor {
     }
 
     pub fn at(&self) -> Place {
-        self.peek(0).at
+        self.span().at
+    }
+
+    /// Where the next token stands.
+    pub fn span(&self) -> Span {
+        self.peek(0).span
+    }
+
+    /// Where the token before it stood.
+    pub fn last_span(&self) -> Span {
+        self.tokens[self.next.saturating_sub(1).min(self.tokens.len() - 1)].span
     }
 
     pub fn skip(&mut self) {
@@ -47,7 +58,9 @@ impl Cursor {
     }
 
     pub fn unexpected(&self, wanted: &str) -> Fault {
-        Fault::new(self.at(), format!("expected {wanted}, found {}", self.token().told()))
+        let found = self.token();
+        let what = format!("expected {wanted}, found {}{}", found.told(), hint(wanted, found));
+        Fault::new(self.at(), what).of_length(found.length())
     }
 
     /// Takes a sign or reserved word if it is next.
@@ -120,9 +133,11 @@ impl Cursor {
     pub fn close_angle(&mut self) -> Result<(), Fault> {
         let here = self.next;
         match self.tokens.get_mut(here) {
-            Some(Placed { token: token @ Token::Sign(">="), at }) => {
+            Some(Placed { token: token @ Token::Sign(">="), span }) => {
                 *token = Token::Sign("=");
-                at.column += 1;
+                span.at.column += 1;
+                // The sign may be written as one character of several bytes.
+                span.start = span.end - 1;
                 Ok(())
             }
             _ => self.expect(">"),
@@ -144,7 +159,7 @@ impl Cursor {
     pub fn record(&mut self, at: Place) -> Result<(), Fault> {
         self.records += 1;
         if self.records > RECORDS {
-            return Fault::err(at, "the record would be over 16,384 bytes");
+            return Err(limits::too_long(at));
         }
         Ok(())
     }

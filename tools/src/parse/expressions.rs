@@ -1,8 +1,7 @@
 //! Expressions. `||` binds loosest, then `&&`, comparisons, `+ -`, `* /`, `!`.
 
 use super::cursor::Cursor;
-use crate::fault::{Fault, Place};
-use crate::limits;
+use crate::fault::{Fault, Place, Span};
 use crate::model;
 use crate::syntax::{Expression, Operator, Term};
 use crate::text::Token;
@@ -43,7 +42,7 @@ impl Cursor {
             let at = self.at();
             let Some(operator) = self.operator(operators) else { return Ok(left) };
             let right = operand(self)?;
-            left = self.term(at, Term::Binary(operator, Box::new(left), Box::new(right)))?;
+            left = self.binary(at, operator, left, right)?;
         }
     }
 
@@ -61,28 +60,28 @@ impl Cursor {
         if self.operator(&COMPARISONS).is_some() {
             return Fault::err(next, "a second comparison: one of the two needs parentheses");
         }
-        self.term(at, Term::Binary(operator, Box::new(left), Box::new(right)))
+        self.binary(at, operator, left, right)
     }
 
     fn negation(&mut self) -> Parsed {
-        let at = self.at();
+        let sign = self.span();
         if !self.take("!") {
-            return self.primary(at);
+            return self.primary(sign);
         }
         let operand = self.nested(Cursor::negation)?;
-        self.term(at, Term::Not(Box::new(operand)))
+        self.term(sign.to(operand.span), Term::Not(Box::new(operand)))
     }
 
-    fn primary(&mut self, at: Place) -> Parsed {
+    fn primary(&mut self, first: Span) -> Parsed {
         if self.take("(") {
             let inner = self.expression()?;
             self.expect(")")?;
-            return Ok(inner);
+            return Ok(Expression { span: first.to(self.last_span()), ..inner });
         }
         let term = match (self.token(), self.second()) {
-            (Token::Number(number), _) => literal(at, *number)?,
+            (Token::Number(number), _) => Term::Number(*number),
             (Token::Sign("-"), Token::Number(number)) => {
-                let term = literal(at, -number)?;
+                let term = Term::Number(-number);
                 self.skip();
                 term
             }
@@ -90,23 +89,24 @@ impl Cursor {
             (Token::Sign("false"), _) => Term::Truth(false),
             (Token::Name(name), _) => Term::Name(name.clone()),
             (Token::Date(_), _) => {
-                return Fault::err(at, "a date stands only after `starting`; a difference needs blanks around `-`");
+                let what = "a date stands only after `starting`; a difference needs blanks around `-`";
+                return Err(Fault::new(first.at, what).of_length(first.end - first.start));
             }
             _ => return Err(self.unexpected("an expression")),
         };
         self.skip();
-        self.term(at, term)
+        self.term(first.to(self.last_span()), term)
     }
 
-    fn term(&mut self, at: Place, term: Term) -> Parsed {
+    fn term(&mut self, span: Span, term: Term) -> Parsed {
+        self.record(span.at)?;
+        Ok(Expression { at: span.at, span, term })
+    }
+
+    /// An operator with its two sides; it stands at its sign.
+    fn binary(&mut self, at: Place, operator: Operator, left: Expression, right: Expression) -> Parsed {
         self.record(at)?;
-        Ok(Expression { at, term })
-    }
-}
-
-fn literal(at: Place, number: i64) -> Result<Term, Fault> {
-    match i32::try_from(number) {
-        Ok(number) if limits::is_number(i64::from(number)) => Ok(Term::Number(number)),
-        _ => Fault::err(at, "a number beyond plus or minus 1,000,000,000"),
+        let span = left.span.to(right.span);
+        Ok(Expression { at, span, term: Term::Binary(operator, Box::new(left), Box::new(right)) })
     }
 }

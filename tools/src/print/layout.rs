@@ -1,5 +1,6 @@
 //! Clauses over lines, with their parts indented.
 
+use super::length::is_long;
 use super::parentheses::{must_close, side_closes, wait_closes};
 use super::{Printer, Sight, WIDTH};
 use crate::model::{Clause, Expression, Instance, Late, Wait};
@@ -26,12 +27,11 @@ impl Layout<'_> {
 
     /// A clause: on one line where it fits.
     pub fn clause(&mut self, clause: &Clause, sight: &Sight, indent: usize) {
-        let line = self.printer.clause(clause, sight);
-        if self.fits(indent, &line) {
+        if !is_long(clause) && self.fits(indent, &self.printer.clause(clause, sight)) {
             return;
         }
         match clause {
-            Clause::Fulfilled => self.push(indent, &line),
+            Clause::Fulfilled => self.push(indent, &self.printer.clause(clause, sight)),
             Clause::Wait(wait) => self.wait(wait, sight, indent),
             Clause::If(condition, then, otherwise) => {
                 self.condition("if", condition, sight, indent);

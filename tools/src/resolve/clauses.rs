@@ -1,69 +1,70 @@
 //! Clauses, with what is left out put in.
 
+use super::meter::Room;
 use super::scope::{unknown, Scope};
-use super::{distinct, Resolver};
+use super::Resolver;
 use crate::fault::{Fault, Place};
+use crate::limits;
 use crate::model::{Blame, Clause, Expression, Instance, Late, Type, Value, Wait};
 use crate::syntax::{self, Form, Name};
 
-type Resolved = Result<Clause, Fault>;
+type Sides = (Box<Clause>, Box<Clause>);
 
 impl Resolver {
-    pub fn clause(&mut self, tree: &syntax::Clause, scope: &Scope, depth: usize) -> Resolved {
+    /// The clause, or none where a part of it stands for nothing; what is wrong is noted in every part.
+    pub fn clause(&mut self, tree: &syntax::Clause, scope: &Scope, depth: usize) -> Option<Clause> {
+        match self.room(tree.at, depth, fields(&tree.form)) {
+            Room::Fits => {}
+            Room::Deep(_) => return Some(Clause::Fulfilled),
+            Room::Full(_) => return None,
+        }
         match &tree.form {
-            Form::Fulfilment => self.fulfilled(tree.at, depth),
-            Form::Obligation(blame, wait) => self.obligation(tree.at, blame, wait, scope, depth),
-            Form::Choice(wait, otherwise) => self.choice(tree.at, wait, otherwise.as_deref(), scope, depth),
+            Form::Fulfilment => Some(Clause::Fulfilled),
+            Form::Obligation(blame, wait) => self.obligation(tree.at, blame, wait, scope, depth + 1),
+            Form::Choice(wait, otherwise) => self.choice(tree.at, wait, otherwise.as_deref(), scope, depth + 1),
             Form::If(condition, then, otherwise) => {
-                self.meter.record(tree.at, depth, 0)?;
-                let condition = self.expression(condition, scope, depth + 1)?;
-                let then = self.clause(then, scope, depth + 1)?;
-                let otherwise = self.optional(tree.at, otherwise.as_deref(), scope, depth + 1)?;
-                Ok(Clause::If(condition, Box::new(then), Box::new(otherwise)))
+                let condition = self.expression(condition, scope, depth + 1);
+                let then = self.clause(then, scope, depth + 1);
+                let otherwise = self.optional(tree.at, otherwise.as_deref(), scope, depth + 1);
+                Some(Clause::If(condition?, Box::new(then?), Box::new(otherwise?)))
             }
             Form::And(left, right) => {
-                let (left, right) = self.sides(tree.at, left, right, scope, depth)?;
-                Ok(Clause::And(left, right))
+                let (left, right) = self.sides(left, right, scope, depth + 1)?;
+                Some(Clause::And(left, right))
             }
             Form::Or(left, right) => {
-                let (left, right) = self.sides(tree.at, left, right, scope, depth)?;
-                Ok(Clause::Or(left, right))
+                let (left, right) = self.sides(left, right, scope, depth + 1)?;
+                Some(Clause::Or(left, right))
             }
-            Form::Instance(instance) => self.instance(tree.at, instance, scope, depth),
+            Form::Instance(instance) => self.instance(instance, scope, depth + 1),
         }
-    }
-
-    fn fulfilled(&mut self, at: Place, depth: usize) -> Resolved {
-        self.meter.record(at, depth, 0)?;
-        Ok(Clause::Fulfilled)
     }
 
     /// A clause, or fulfilment where it is left out.
-    fn optional(&mut self, at: Place, tree: Option<&syntax::Clause>, scope: &Scope, depth: usize) -> Resolved {
+    fn optional(&mut self, at: Place, tree: Option<&syntax::Clause>, scope: &Scope, depth: usize) -> Option<Clause> {
         match tree {
             Some(tree) => self.clause(tree, scope, depth),
-            None => self.fulfilled(at, depth),
+            None => self.clause(&syntax::Clause { at, from: at, form: Form::Fulfilment }, scope, depth),
         }
     }
 
-    fn sides(
-        &mut self,
-        at: Place,
-        left: &syntax::Clause,
-        right: &syntax::Clause,
-        scope: &Scope,
-        depth: usize,
-    ) -> Result<(Box<Clause>, Box<Clause>), Fault> {
-        self.meter.record(at, depth, 0)?;
-        let left = self.clause(left, scope, depth + 1)?;
-        let right = self.clause(right, scope, depth + 1)?;
-        Ok((Box::new(left), Box::new(right)))
+    fn sides(&mut self, left: &syntax::Clause, right: &syntax::Clause, scope: &Scope, depth: usize) -> Option<Sides> {
+        let left = self.clause(left, scope, depth);
+        let right = self.clause(right, scope, depth);
+        Some((Box::new(left?), Box::new(right?)))
     }
 
-    fn obligation(&mut self, at: Place, blame: &Name, wait: &syntax::Wait, scope: &Scope, depth: usize) -> Resolved {
-        self.meter.record(at, depth, 2)?;
-        let late = Late::Breach(scope.blame(blame)?);
-        self.wait(at, wait, scope, depth + 1, late).map(|wait| Clause::Wait(Box::new(wait)))
+    fn obligation(
+        &mut self,
+        at: Place,
+        blame: &Name,
+        wait: &syntax::Wait,
+        scope: &Scope,
+        inner: usize,
+    ) -> Option<Clause> {
+        let blame = self.noted(scope.blame(blame));
+        let wait = self.wait(at, wait, scope, inner)?;
+        Some(Clause::Wait(Box::new(Wait { late: Late::Breach(blame?), ..wait })))
     }
 
     fn choice(
@@ -72,67 +73,121 @@ impl Resolver {
         wait: &syntax::Wait,
         otherwise: Option<&syntax::Clause>,
         scope: &Scope,
-        depth: usize,
-    ) -> Resolved {
-        self.meter.record(at, depth, 1)?;
-        let mut wait = self.wait(at, wait, scope, depth + 1, Late::Else(Clause::Fulfilled))?;
-        wait.late = Late::Else(self.optional(at, otherwise, scope, depth + 1)?);
-        Ok(Clause::Wait(Box::new(wait)))
+        inner: usize,
+    ) -> Option<Clause> {
+        let outside = scope.hiding(wait.bound.iter().chain(&wait.remaining));
+        let wait = self.wait(at, wait, scope, inner);
+        let otherwise = self.optional(at, otherwise, &outside, inner);
+        Some(Clause::Wait(Box::new(Wait { late: Late::Else(otherwise?), ..wait? })))
     }
 
     /// What an obligation and a choice share; `inner` is the depth of their parts.
-    fn wait(&mut self, at: Place, tree: &syntax::Wait, scope: &Scope, inner: usize, late: Late) -> Result<Wait, Fault> {
-        let (reading, bound) = self.reading(tree)?;
-        let condition = scope.with(&bound, &tree.reading)?;
+    fn wait(&mut self, at: Place, tree: &syntax::Wait, scope: &Scope, inner: usize) -> Option<Wait> {
+        let reading = self.reading(tree);
+        let bound = self.bound(tree, reading);
         let name = tree.remaining.as_ref().map_or("_", |name| &name.text);
         let remaining = Value { name: name.to_string(), value_type: Type::Number };
-        let then = condition.with(std::slice::from_ref(&remaining), &tree.reading)?;
-        Ok(Wait {
+        let inside = scope.with(&bound);
+        let after_all = inside.with(std::slice::from_ref(&remaining));
+        self.sight(&tree.reading, scope, &after_all);
+        let (inside, outside) =
+            (inside.hiding(&tree.remaining), scope.hiding(tree.bound.iter().chain(&tree.remaining)));
+        let condition = self.or_literal(at, tree.condition.as_ref(), Expression::TRUE, &inside, inner);
+        let after = self.or_literal(at, tree.after.as_ref(), Expression::ZERO, &outside, inner);
+        let within = self.or_literal(at, tree.within.as_ref(), Expression::ZERO, &outside, inner);
+        let then = self.optional(at, tree.then.as_deref(), &after_all, inner);
+        Some(Wait {
             place: 0,
-            reading,
-            condition: self.or_literal(at, tree.condition.as_ref(), Expression::TRUE, &condition, inner)?,
-            after: self.or_literal(at, tree.after.as_ref(), Expression::ZERO, scope, inner)?,
-            within: self.or_literal(at, tree.within.as_ref(), Expression::ZERO, scope, inner)?,
-            then: self.optional(at, tree.then.as_deref(), &then, inner)?,
+            reading: reading?,
             bound,
             remaining,
-            late,
+            condition: condition?,
+            after: after?,
+            within: within?,
+            then: then?,
+            late: Late::Else(Clause::Fulfilled),
         })
     }
 
-    /// The reading's number, and its values under the names given here.
-    fn reading(&self, tree: &syntax::Wait) -> Result<(usize, Vec<Value>), Fault> {
+    /// The reading's number.
+    fn reading(&mut self, tree: &syntax::Wait) -> Option<usize> {
+        let names = tree.bound.iter().chain(&tree.remaining);
+        self.distinct(names.filter(|name| name.text != "_"), "value");
         let name = &tree.reading;
         let known = self.readings.iter().position(|reading| reading.name == name.text);
-        let number = known.ok_or_else(|| unknown("reading", name))?;
-        let values = &self.readings[number].values;
-        count(name, values.len(), "value", tree.bound.len(), "named")?;
-        let names = tree.bound.iter().chain(&tree.remaining);
-        distinct(names.filter(|name| name.text != "_"), "value")?;
-        let bind = |(name, value): (&Name, &Value)| Value { name: name.text.clone(), ..value.clone() };
-        Ok((number, tree.bound.iter().zip(values).map(bind).collect()))
+        match known {
+            Some(number) => {
+                let values = self.readings[number].values.len();
+                self.faults.extend(count(name, values, "value", tree.bound.len(), "named"));
+            }
+            None => {
+                let known = self.readings.iter().map(|reading| reading.name.as_str());
+                self.faults.push(unknown("reading", name, known));
+            }
+        }
+        known
     }
 
-    fn instance(&mut self, at: Place, tree: &syntax::Instance, scope: &Scope, depth: usize) -> Resolved {
+    /// The reading's values under the names given here. A name without a value is of any type.
+    fn bound(&self, tree: &syntax::Wait, reading: Option<usize>) -> Vec<Value> {
+        let values = reading.map_or(&[][..], |number| &self.readings[number].values);
+        let types = values.iter().map(|value| value.value_type).chain(std::iter::repeat(Type::Number));
+        tree.bound.iter().zip(types).map(|(name, value_type)| Value { name: name.text.clone(), value_type }).collect()
+    }
+
+    /// "At most 16 are in sight." Said where the limit is passed first.
+    fn sight(&mut self, reading: &Name, outside: &Scope, inside: &Scope) {
+        let (before, now) = (outside.sight(), inside.sight());
+        if before <= limits::SIGHT && now > limits::SIGHT {
+            let over = now - limits::SIGHT;
+            let what = format!(
+                "{now} values would be in sight in the `then` of this `{}`, {over} over the {} there may be: \
+                 {before} from outside, {} of the reading and the remaining time",
+                reading.text,
+                limits::SIGHT,
+                now - before - 1,
+            );
+            self.faults.push(reading.fault(what).refused(3));
+        }
+    }
+
+    fn instance(&mut self, tree: &syntax::Instance, scope: &Scope, inner: usize) -> Option<Clause> {
         let name = &tree.template;
         let known = self.heads.iter().position(|head| head.name == name.text);
-        let template = known.ok_or_else(|| unknown("template", name))?;
-        let head = &self.heads[template];
-        count(name, head.values.len(), "value", tree.values.len(), "given")?;
-        count(name, head.parameters.len(), "party parameter", tree.parties.len(), "given")?;
-        self.meter.record(at, depth, 1 + tree.parties.len())?;
-        let values = tree.values.iter().map(|value| self.expression(value, scope, depth + 1));
-        let values = values.collect::<Result<_, _>>()?;
-        let blames = tree.parties.iter().map(|party| scope.blame(party)).collect::<Result<Vec<Blame>, _>>()?;
-        Ok(Clause::Instance(Instance { template, values, blames }))
+        match known {
+            Some(template) => {
+                let head = &self.heads[template];
+                let (values, parameters) = (head.values.len(), head.parameters.len());
+                let values = count(name, values, "value", tree.values.len(), "given");
+                let parameters = count(name, parameters, "party parameter", tree.parties.len(), "given");
+                self.faults.extend(values.into_iter().chain(parameters).map(|fault| fault.refused(2)));
+            }
+            None => {
+                let known = self.heads.iter().map(|head| head.name.as_str());
+                self.faults.push(unknown("template", name, known));
+            }
+        }
+        let values: Vec<_> = tree.values.iter().map(|value| self.expression(value, scope, inner)).collect();
+        let blames: Vec<_> = tree.parties.iter().map(|party| self.noted(scope.blame(party))).collect();
+        let values = values.into_iter().collect::<Option<Vec<Expression>>>();
+        let blames = blames.into_iter().collect::<Option<Vec<Blame>>>();
+        Some(Clause::Instance(Instance { template: known?, values: values?, blames: blames? }))
     }
 }
 
-/// As many as there must be.
-fn count(name: &Name, wanted: usize, what: &str, found: usize, done: &str) -> Result<(), Fault> {
-    if wanted == found {
-        return Ok(());
-    }
+/// The fault of other than as many as there must be.
+fn count(name: &Name, wanted: usize, what: &str, found: usize, done: &str) -> Option<Fault> {
     let plural = if wanted == 1 { "" } else { "s" };
-    Fault::err(name.at, format!("`{}` has {wanted} {what}{plural}, {found} {done} here", name.text))
+    let what = format!("`{}` has {wanted} {what}{plural}, {found} {done} here", name.text);
+    (wanted != found).then(|| name.fault(what))
+}
+
+/// The bytes of a clause's fields that are no records.
+fn fields(form: &Form) -> usize {
+    match form {
+        Form::Fulfilment | Form::If(..) | Form::And(..) | Form::Or(..) => 0,
+        Form::Obligation(..) => 2,
+        Form::Choice(..) => 1,
+        Form::Instance(instance) => 1 + instance.parties.len(),
+    }
 }

@@ -2,7 +2,7 @@
 
 use super::follow::follow;
 use super::records::records;
-use super::teller::{Form, Teller};
+use super::teller::{opened, Form, Teller};
 use crate::files;
 use crate::status::{exit, usage, Status};
 use crate::story::Story;
@@ -28,7 +28,7 @@ pub fn command(arguments: &[&str]) -> ExitCode {
 
 /// A file of readings: all its lines are read before the first is given to the run.
 fn run(text: &str, readings: &str, form: Form) -> Result<Status, String> {
-    let source = files::source(text)?;
+    let source = opened(text, form)?;
     let readings_read = files::readings(readings, &source)?;
     let mut teller = Teller::new(&source, readings, form, io::stdout().lock());
     let (mut story, start) = match Story::start(&source) {

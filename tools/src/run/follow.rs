@@ -1,8 +1,7 @@
 //! Readings from standard input, each told as soon as its line is whole.
 
-use super::teller::{Form, Teller};
+use super::teller::{opened, Form, Teller};
 use crate::fault::{utf8, Fault, Place};
-use crate::files;
 use crate::model::Agreement;
 use crate::readings::{reading, Reading};
 use crate::status::Status;
@@ -12,7 +11,7 @@ use std::io::{self, BufRead};
 /// A line that is no reading is told on standard error and passed over, so that a slip does not end
 /// the watch; the status at the end is then 2, or 1 if the agreement is breached.
 pub fn follow(text: &str, form: Form) -> Result<Status, String> {
-    let source = files::source(text)?;
+    let source = opened(text, form)?;
     let mut teller = Teller::new(&source, "-", form, io::stdout().lock());
     let (mut story, start) = match Story::start(&source) {
         Ok(started) => started,

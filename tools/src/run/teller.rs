@@ -1,6 +1,6 @@
 //! Writes a story down, event by event.
 
-use crate::json::Json;
+use crate::files;
 use crate::source::Source;
 use crate::status::{refused, Status};
 use crate::story::words::Words;
@@ -13,6 +13,15 @@ pub enum Form {
     Text,
     /// One JSON object a line.
     Json,
+}
+
+/// The agreement of a text. Where it is refused, one JSON object says so too.
+pub fn opened(text: &str, form: Form) -> Result<Source, String> {
+    files::source(text).inspect_err(|because| {
+        if form == Form::Json {
+            println!("{}", objects::refused(None, because));
+        }
+    })
 }
 
 pub struct Teller<'s, W> {
@@ -50,11 +59,12 @@ impl<'s, W: Write> Teller<'s, W> {
 
     /// The agreement was not started.
     pub fn refused(&mut self, refusal: Refusal) -> Result<Status, String> {
+        let because = refused(&self.words.source.name, refusal);
         if self.form == Form::Json {
-            let told = Json::Object(vec![("end", Json::text("refused")), ("refusal", objects::refusal(refusal))]);
+            let told = objects::refused(Some(refusal), &because);
             self.write(&format!("{told}\n"))?;
         }
-        Err(refused(&self.words.source.name, refusal))
+        Err(because)
     }
 
     fn write(&mut self, told: &str) -> Result<(), String> {

@@ -53,7 +53,13 @@ fn word(verdict: &Verdict) -> &'static str {
     }
 }
 
-pub fn refusal(refusal: Refusal) -> Json {
+/// A run that was not started; without a number where the text is refused.
+pub fn refused(number: Option<Refusal>, because: &str) -> Json {
+    let refusal = Json::optional(number, refusal);
+    Json::Object(vec![("end", Json::text("refused")), ("refusal", refusal), ("because", Json::text(because))])
+}
+
+fn refusal(refusal: Refusal) -> Json {
     let (number, because) = (Json::Number(refusal.number().into()), Json::text(refusal.to_string()));
     Json::Object(vec![("number", number), ("because", because)])
 }

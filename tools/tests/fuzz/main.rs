@@ -1,0 +1,43 @@
+//! Damaged texts, records, tables and readings: every one ends in an answer or a message, never in a panic, and what is
+//! explained never differs from the proved check.
+//!
+//! `FUZZ_SECONDS=300 FUZZ_SEED=7 cargo test --release --test fuzz -- --nocapture` runs for so long from another seed.
+
+mod corpus;
+mod damage;
+mod random;
+mod trials;
+
+use corpus::Corpus;
+use random::Random;
+use std::panic::catch_unwind;
+use std::time::{Duration, Instant};
+use trials::TRIALS;
+
+/// How long it runs where nothing else is said.
+const SECONDS: u64 = 3;
+
+fn setting(name: &str, otherwise: u64) -> u64 {
+    std::env::var(name).ok().and_then(|value| value.parse().ok()).unwrap_or(otherwise)
+}
+
+#[test]
+fn no_input_makes_it_panic() {
+    let corpus = Corpus::read();
+    let mut seed = setting("FUZZ_SEED", 1);
+    let end = Instant::now() + Duration::from_secs(setting("FUZZ_SECONDS", SECONDS));
+    let mut tried = [[0_usize; 2]; TRIALS.len()];
+    while Instant::now() < end {
+        for ((name, trial), tried) in TRIALS.iter().zip(&mut tried) {
+            match catch_unwind(|| trial(&mut Random::new(seed), &corpus)) {
+                Ok(answered) => tried[usize::from(answered)] += 1,
+                Err(_) => panic!("{name}: FUZZ_SEED={seed} shows it again"),
+            }
+        }
+        seed = Random::new(seed).next_seed();
+    }
+    for ((name, _), [faults, answers]) in TRIALS.iter().zip(tried) {
+        println!("{name}: {answers} answered, {faults} with a message");
+        assert!(answers > 0 && faults > 0, "{name}: {answers} answered, {faults} with a message");
+    }
+}
