@@ -9,35 +9,19 @@ mod json;
 mod xml;
 
 use common::{agreement, complaint, examples, text, written};
-use xml::{parse, Element};
+use xml::{overlapping, parse, Element};
 
 fn picture(text: &str, readings: &str) -> Element {
     let svg = written(&["timeline", text, readings], b"", 0);
     parse(&svg).unwrap_or_else(|what| panic!("{readings}: {what}"))
 }
 
-/// The place of a text: from, to, top and bottom. A character of a label takes less than 7 columns.
-fn place(element: &Element) -> (i64, i64, i64, i64) {
-    let number = |name: &str| element.get(name).expect(name).parse::<i64>().expect("a number");
-    let wide = 7 * i64::try_from(element.text.chars().count()).expect("a text");
-    (number("x"), number("x") + wide, number("y") - 9, number("y") + 2)
-}
-
 #[test]
 fn no_two_texts_overlap() {
     for (text, readings) in examples() {
         let picture = picture(&text, &readings);
-        let texts: Vec<&Element> = picture.all().into_iter().filter(|element| element.name == "text").collect();
-        assert!(texts.len() > 5, "{readings}");
-        for (n, one) in texts.iter().enumerate() {
-            let (from, to, top, bottom) = place(one);
-            assert!(from >= 0 && to <= 960, "{readings}: {}", one.text);
-            for other in &texts[..n] {
-                let (left, right, above, below) = place(other);
-                let apart = to < left || right < from || bottom < above || below < top;
-                assert!(apart, "{readings}: `{}` and `{}`", one.text, other.text);
-            }
-        }
+        assert_eq!(overlapping(&picture), None, "{readings}");
+        assert!(picture.all().iter().filter(|element| element.name == "text").count() > 5, "{readings}");
     }
 }
 

@@ -1,4 +1,5 @@
 //! A small reader of XML, for the pictures: elements, attributes and text; anything else is an error.
+#![allow(dead_code)]
 
 #[derive(Clone, Debug, Default)]
 pub struct Element {
@@ -20,6 +21,31 @@ impl Element {
         self.children.iter().for_each(|child| all.extend(child.all()));
         all
     }
+}
+
+/// Two texts of a picture that overlap, or one that leaves it.
+pub fn overlapping(picture: &Element) -> Option<String> {
+    let texts: Vec<&Element> = picture.all().into_iter().filter(|element| element.name == "text").collect();
+    for (n, one) in texts.iter().enumerate() {
+        let (from, to, top, bottom) = place(one);
+        if from < 0 || to > 960 {
+            return Some(one.text.clone());
+        }
+        for other in &texts[..n] {
+            let (left, right, above, below) = place(other);
+            if from <= right && left <= to && top <= below && above <= bottom {
+                return Some(format!("`{}` and `{}`", one.text, other.text));
+            }
+        }
+    }
+    None
+}
+
+/// The place of a text: from, to, top and bottom. A character of a label takes less than 7 columns.
+fn place(element: &Element) -> (i64, i64, i64, i64) {
+    let number = |name: &str| element.get(name).expect(name).parse::<i64>().expect("a number");
+    let wide = 7 * i64::try_from(element.text.chars().count()).expect("a text");
+    (number("x"), number("x") + wide, number("y") - 9, number("y") + 2)
 }
 
 /// The one element that is the whole text.
