@@ -17,6 +17,9 @@ use trials::TRIALS;
 /// How long it runs where nothing else is said.
 const SECONDS: u64 = 3;
 
+/// The rounds that are made however long they take.
+const ROUNDS: usize = 500;
+
 fn setting(name: &str, otherwise: u64) -> u64 {
     std::env::var(name).ok().and_then(|value| value.parse().ok()).unwrap_or(otherwise)
 }
@@ -27,7 +30,10 @@ fn no_input_makes_it_panic() {
     let mut seed = setting("FUZZ_SEED", 1);
     let end = Instant::now() + Duration::from_secs(setting("FUZZ_SECONDS", SECONDS));
     let mut tried = [[0_usize; 2]; TRIALS.len()];
-    while Instant::now() < end {
+    for round in 0.. {
+        if round >= ROUNDS && Instant::now() >= end {
+            break;
+        }
         for ((name, trial), tried) in TRIALS.iter().zip(&mut tried) {
             match catch_unwind(|| trial(&mut Random::new(seed), &corpus)) {
                 Ok(answered) => tried[usize::from(answered)] += 1,
