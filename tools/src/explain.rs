@@ -1,6 +1,6 @@
 //! A table in words.
 
-mod fit;
+pub(crate) mod fit;
 mod words;
 
 use crate::dates;

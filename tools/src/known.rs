@@ -5,6 +5,7 @@ use crate::model::{Blame, Clause, Expression, Instance, Late, Operator, Wait};
 use crate::sites::blamed;
 
 /// The values in sight, as literals, and the parties that the party parameters stand for.
+#[derive(Clone, Debug, PartialEq, Eq)]
 pub struct Known {
     pub values: Vec<Expression>,
     pub parameters: Vec<usize>,

@@ -12,24 +12,36 @@ use crate::numbers::number;
 
 /// The records of all lines. With an agreement, names may be used and values are checked.
 pub fn readings(text: &[u8], agreement: Option<&Agreement>) -> Result<Vec<u8>, Fault> {
-    let mut stream = Vec::new();
-    for (line, content) in (1..).zip(utf8(text)?.lines()) {
-        if let Some(reading) = Line::new(line, content, agreement).reading()? {
-            stream.extend(reading.record());
-        }
-    }
-    Ok(stream)
+    let readings = numbered(text, agreement)?;
+    Ok(readings.iter().flat_map(|(_, reading)| reading.record()).collect())
 }
 
-struct Reading {
-    time: u32,
-    kind: u8,
-    values: Vec<i32>,
+/// The readings of all lines, each with the number of its line.
+pub fn numbered(text: &[u8], agreement: Option<&Agreement>) -> Result<Vec<(usize, Reading)>, Fault> {
+    let mut readings = Vec::new();
+    for (line, content) in (1..).zip(utf8(text)?.lines()) {
+        readings.extend(reading(line, content, agreement)?.map(|reading| (line, reading)));
+    }
+    Ok(readings)
+}
+
+/// The reading of one line, if there is any.
+pub fn reading(line: usize, content: &str, agreement: Option<&Agreement>) -> Result<Option<Reading>, Fault> {
+    Line::new(line, content, agreement).reading()
+}
+
+/// A reading as its record has it.
+#[derive(Clone, Debug, PartialEq, Eq)]
+pub struct Reading {
+    pub time: u32,
+    /// The type: 0 is a time mark, the agreement's readings count from 1.
+    pub kind: u8,
+    pub values: Vec<i32>,
 }
 
 impl Reading {
     /// Kind 64: time, type, values.
-    fn record(&self) -> Vec<u8> {
+    pub fn record(&self) -> Vec<u8> {
         let length = limits::byte(limits::HEAD + 5 + 4 * self.values.len());
         let mut bytes = vec![length, 0, 64, 0];
         bytes.extend(self.time.to_le_bytes());

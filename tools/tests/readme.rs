@@ -2,7 +2,10 @@
 
 use tools::assemble;
 use tools::check::check;
-use tools::readings::readings;
+use tools::readings::{numbered, readings};
+use tools::source::Source;
+use tools::story::words::Words;
+use tools::story::{text, Story};
 
 const README: &str = include_str!("../README.md");
 
@@ -38,6 +41,25 @@ fn its_commands_are_those_of_the_usage() {
         let command = command.split(" TABLE").next().unwrap_or(command);
         assert!(usage.contains(command), "{command}");
     }
+}
+
+/// The first agreement that a new user writes, runs as shown.
+#[test]
+fn the_first_agreement_of_the_repository() {
+    let readme = include_str!("../../README.md");
+    let file = |name: &str| {
+        let begin = format!("cat > target/{name} <<'END'\n");
+        let rest = readme.split_once(&begin).unwrap_or_else(|| panic!("{name}")).1;
+        rest.split_once("END\n").expect("its end").0
+    };
+    let source = Source::read("target/sale.csl", file("sale.csl").as_bytes()).unwrap_or_else(|fault| panic!("{fault}"));
+    let words = Words::of(&source);
+    let readings = numbered(file("sale.readings").as_bytes(), Some(&source.assembled.agreement)).expect("readings");
+    let (mut story, _) = Story::start(&source).expect("a start");
+    let events = readings.iter().map(|(line, reading)| text::event(&words, &story.reading(*line, reading)));
+    let told: String = events.skip(1).collect();
+    let told = format!("```\n{told}\n{}```\n", text::ending(&words, &story.ending(), "target/sale.readings"));
+    assert!(readme.contains(&told), "{told}");
 }
 
 /// What both pages show of a mistake is what is said of it.

@@ -1,14 +1,15 @@
 //! The command `agreement`.
 
 use std::fmt::Display;
-use std::io::{self, Read, Write};
+use std::io::{self, Write};
 use std::process::ExitCode;
 use tools::check::{check, Accepted};
 use tools::decode::decode;
 use tools::explain::Context;
+use tools::files::read;
 use tools::readings::readings;
 use tools::shown::printable;
-use tools::{disassemble, explain};
+use tools::{disassemble, examples, explain, run, timeline};
 
 const USAGE: &str = "\
 usage: agreement check FILE                     what is wrong with the text of an agreement, and where
@@ -17,14 +18,21 @@ usage: agreement check FILE                     what is wrong with the text of a
        agreement readings [--for TEXT] FILE     lines `TIME TYPE VALUE..` to reading records
        agreement explain [--for TEXT | --agreement RECORD] TABLE
                                                 a table of 24,640 bytes in words
+       agreement run [--json] TEXT READINGS     what each reading did, what is ahead, how it ends
+       agreement run [--json] --follow TEXT     the same of lines from standard input, as they come
+       agreement run --records STREAM           the lines that brinewatch writes for a stream of records
+       agreement test FOLDER..                  every *.readings of a folder against the *.out beside it
+       agreement timeline [--html] TEXT READINGS
+                                                a run as a picture (SVG), or as a page with its story
        agreement COMMAND --help, agreement --version
 
 FILE may be - for standard input. Results go to standard output; what is wrong with an input goes to
-standard error as FILE:LINE:COLUMN. Exit status: 0 all is well, 2 an input is wrong or refused, 3 wrong
-arguments.
+standard error as FILE:LINE:COLUMN. Exit status: 0 all is well, 1 breached (run) or not as expected
+(test), 2 an input is wrong or refused, 3 wrong arguments.
 
 This tool is not proved. Whether an agreement is accepted is decided by the monitor's proved entry
-`check` alone, which is given the record; the tool only explains.
+`check` alone, which is given the record, and every verdict of a run is the proved monitor's; the tool
+only explains.
 ";
 
 const VERSION: &str = concat!("agreement ", env!("CARGO_PKG_VERSION"), "\n");
@@ -44,6 +52,9 @@ fn main() -> ExitCode {
         ["help"] => Ok(USAGE.as_bytes().to_vec()),
         _ if asked(["--help", "-h"]) => Ok(USAGE.as_bytes().to_vec()),
         _ if asked(["--version", "-V"]) => Ok(VERSION.as_bytes().to_vec()),
+        ["run", ref rest @ ..] => return run::command(rest),
+        ["test", ref rest @ ..] => return examples::command(rest),
+        ["timeline", ref rest @ ..] => return timeline::command(rest),
         ["check", file] => accepted(file).map(|accepted| accepted.told(file).into_bytes()),
         ["assemble", file] => accepted(file).map(|accepted| accepted.assembled.bytes),
         ["disassemble", file] => disassembled(file).map(String::into_bytes),
@@ -98,15 +109,6 @@ fn explained_by(table: &str, record: &str) -> Result<Vec<u8>, String> {
 
 fn told(file: &str, what: impl Display) -> String {
     format!("{}: {what}", printable(file))
-}
-
-fn read(file: &str) -> Result<Vec<u8>, String> {
-    let mut bytes = Vec::new();
-    let result = match file {
-        "-" => io::stdin().lock().read_to_end(&mut bytes).map(|_| bytes),
-        _ => std::fs::read(file),
-    };
-    result.map_err(|error| told(file, error))
 }
 
 fn write(bytes: &[u8]) -> Result<(), String> {

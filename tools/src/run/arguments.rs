@@ -1,0 +1,54 @@
+//! The command `agreement run`.
+
+use super::follow::follow;
+use super::records::records;
+use super::teller::{opened, Form, Teller};
+use crate::files;
+use crate::status::{exit, usage, Status};
+use crate::story::Story;
+use std::io::{self, Write};
+use std::process::ExitCode;
+
+const USAGE: &str = "\
+agreement run [--json] TEXT READINGS
+       agreement run [--json] --follow TEXT
+       agreement run --records STREAM";
+
+pub fn command(arguments: &[&str]) -> ExitCode {
+    let (options, files): (Vec<&str>, Vec<&str>) = arguments.iter().partition(|word| word.starts_with("--"));
+    let form = if options.contains(&"--json") { Form::Json } else { Form::Text };
+    let others: Vec<&str> = options.into_iter().filter(|option| *option != "--json").collect();
+    match (&others[..], &files[..], form) {
+        ([], [text, readings], _) => exit(run(text, readings, form)),
+        (["--follow"], [text], _) => exit(follow(text, form)),
+        (["--records"], [stream], Form::Text) => exit(raw(stream)),
+        _ => usage(USAGE),
+    }
+}
+
+/// A file of readings: all its lines are read before the first is given to the run.
+fn run(text: &str, readings: &str, form: Form) -> Result<Status, String> {
+    let source = opened(text, form)?;
+    let readings_read = files::readings(readings, &source)?;
+    let mut teller = Teller::new(&source, readings, form, io::stdout().lock());
+    let (mut story, start) = match Story::start(&source) {
+        Ok(started) => started,
+        Err(refusal) => return teller.refused(refusal),
+    };
+    teller.event(&start)?;
+    for (line, reading) in readings_read {
+        teller.event(&story.reading(line, &reading))?;
+    }
+    teller.ending(&story.ending())
+}
+
+/// A stream of records, as the program `brinewatch` takes it.
+fn raw(stream: &str) -> Result<Status, String> {
+    let mut output = io::stdout().lock();
+    let told = |step| writeln!(output, "{step}").and_then(|()| output.flush());
+    let verdict = match stream {
+        "-" => records(&mut io::stdin().lock(), told),
+        _ => records(&mut &files::read(stream)?[..], told),
+    };
+    verdict.map(|verdict| Status::of(&verdict)).map_err(|error| format!("{stream}: {error}"))
+}
