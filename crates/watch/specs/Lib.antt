@@ -1,0 +1,2 @@
+pub mod Watched
+pub mod Trials
