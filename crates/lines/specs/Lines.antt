@@ -29,16 +29,23 @@ verdictFields s cells = stateFields (getD cells 0 (pos 0)) (forecastOf s cells)
 unfoldable pub refusalFields : ℕ → List (List ℕ)
 refusalFields number = refused ∷ decimal number ∷ []
 
+-- what an answer says: the verdict of the table that it left, or the refusal
+unfoldable pub answerFields : List ℕ → Answer → List (List ℕ)
+answerFields s a = elim (a .number) [ zero ↦ verdictFields s (a .table) | suc k ↦ refusalFields (suc k) ]
+
 -- ---- the line of a start, from its answer; "A refused start [..] print[s] `-` as time"
-unfoldable pub startFields : List ℕ → Answer → List (List ℕ)
-startFields s a = elim (a .number) [ zero ↦ decimal (le32 s 4) ∷ verdictFields s (a .table) | suc k ↦ dash ∷ refusalFields (suc k) ]
+unfoldable pub startTime : List ℕ → ℕ → List ℕ
+startTime s number = elim (eqb number 0) [ true ↦ decimal (le32 s 4) | false ↦ dash ]
+
+unfoldable pub startLine : List ℕ → Answer → List ℕ
+startLine s a = line 0 (startTime s (a .number) ∷ answerFields s a)
 
 -- ---- the line of a reading, from its answer; "a reading refused with 8, print[s] `-` as time"
-unfoldable pub timeField : ℕ → List ℕ → List ℕ
-timeField number reading = elim (eqb number 8) [ true ↦ dash | false ↦ decimal (le32 reading 4) ]
+unfoldable pub readingTime : List ℕ → ℕ → List ℕ
+readingTime reading number = elim (eqb number 8) [ true ↦ dash | false ↦ decimal (le32 reading 4) ]
 
-unfoldable pub readingFields : List ℕ → List ℕ → Answer → List (List ℕ)
-readingFields s reading a = timeField (a .number) reading ∷ elim (a .number) [ zero ↦ verdictFields s (a .table) | suc k ↦ refusalFields (suc k) ]
+unfoldable pub readingLine : List ℕ → ℕ → List ℕ → Answer → List ℕ
+readingLine s n reading a = line n (readingTime reading (a .number) ∷ answerFields s a)
 
 -- ---- all lines: of the readings, from line n on, and of the whole run
 -- "A refused start, and a reading refused with 8, [..] end the run."
@@ -46,14 +53,14 @@ unfoldable pub readingLines : List ℕ → List ℤ → ℕ → List (List ℕ) 
 readingLines s cells n [] = []
 readingLines s cells n (b ∷ bs) =
     let a = readingOf s cells b in
-    line n (readingFields s b a) ++ elim (eqb (a .number) 8) [ true ↦ [] | false ↦ readingLines s (a .table) (n + 1) bs ]
+    readingLine s n b a ++ elim (eqb (a .number) 8) [ true ↦ [] | false ↦ readingLines s (a .table) (n + 1) bs ]
 
 unfoldable pub linesOf : List ℕ → List ℤ → List (List ℕ) → List ℕ
 linesOf s cells readings =
     let a = startOf s cells in
-    line 0 (startFields s a) ++ elim (eqb (a .number) 0) [ true ↦ readingLines s (a .table) 1 readings | false ↦ [] ]
+    startLine s a ++ elim (eqb (a .number) 0) [ true ↦ readingLines s (a .table) 1 readings | false ↦ [] ]
 
 -- what a proof by computation unfolds
 unfoldable pub computes : Unit {0}
-unfolding forecastFields stateFields verdictFields refusalFields startFields timeField readingFields readingLines linesOf
+unfolding forecastFields stateFields verdictFields refusalFields answerFields startTime startLine readingTime readingLine readingLines linesOf
 computes = tt
