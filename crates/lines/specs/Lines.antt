@@ -1,6 +1,6 @@
 -- Paper 01, "Pond trials": "Fields: line number (0 is the start), time, word, and for LIVE and BREACH the forecast time
 -- and party bits in decimal, or NONE; for REFUSED the number."
-use mathlib.Core.Bool.{Bool, true, false}
+use mathlib.Core.Bool.{Bool, true, false, not}
 use mathlib.Core.List.{List, [], _∷_, _++_}
 use Prim.Native.Nat.{ℕ, zero, suc, _+_}
 use lib.Dec.{eqb}
@@ -18,9 +18,14 @@ forecastFields noBreach = none ∷ []
 forecastFields (refusedForecast n) = []
 forecastFields noForecast = []
 
--- the word, by the table's state (1 running, 2 fulfilled, 3 breached), "and for LIVE and BREACH the forecast"
+-- the word, by the table's state (2 fulfilled, 1 running, else breached), "and for LIVE and BREACH the forecast"
+unfoldable pub stateBy : Bool → Bool → Forecast → List (List ℕ)
+stateBy true isRunning f = done ∷ []
+stateBy false true f = live ∷ forecastFields f
+stateBy false false f = breach ∷ forecastFields f
+
 unfoldable pub stateFields : ℤ → Forecast → List (List ℕ)
-stateFields state f = elim (eqZ state (pos 2)) [ true ↦ done ∷ [] | false ↦ elim (eqZ state (pos 1)) [ true ↦ live ∷ forecastFields f | false ↦ breach ∷ forecastFields f ] ]
+stateFields state f = stateBy (eqZ state (pos 2)) (eqZ state (pos 1)) f
 
 unfoldable pub verdictFields : List ℕ → List ℤ → List (List ℕ)
 verdictFields s cells = stateFields (getD cells 0 (pos 0)) (forecastOf s cells)
@@ -33,16 +38,21 @@ refusalFields number = refused ∷ decimal number ∷ []
 unfoldable pub answerFields : List ℕ → Answer → List (List ℕ)
 answerFields s a = elim (a .number) [ zero ↦ verdictFields s (a .table) | suc k ↦ refusalFields (suc k) ]
 
+-- the time of an agreement or a reading, or "`-` as time": both stand behind length and kind
+unfoldable pub timeField : Bool → List ℕ → List ℕ
+timeField true s = decimal (le32 s 4)
+timeField false s = dash
+
 -- ---- the line of a start, from its answer; "A refused start [..] print[s] `-` as time"
 unfoldable pub startTime : List ℕ → ℕ → List ℕ
-startTime s number = elim (eqb number 0) [ true ↦ decimal (le32 s 4) | false ↦ dash ]
+startTime s number = timeField (eqb number 0) s
 
 unfoldable pub startLine : List ℕ → Answer → List ℕ
 startLine s a = line 0 (startTime s (a .number) ∷ answerFields s a)
 
 -- ---- the line of a reading, from its answer; "a reading refused with 8, print[s] `-` as time"
 unfoldable pub readingTime : List ℕ → ℕ → List ℕ
-readingTime reading number = elim (eqb number 8) [ true ↦ dash | false ↦ decimal (le32 reading 4) ]
+readingTime reading number = timeField (not (eqb number 8)) reading
 
 unfoldable pub readingLine : List ℕ → ℕ → List ℕ → Answer → List ℕ
 readingLine s n reading a = line n (readingTime reading (a .number) ∷ answerFields s a)
@@ -62,5 +72,5 @@ linesOf s cells readings =
 
 -- what a proof by computation unfolds
 unfoldable pub computes : Unit {0}
-unfolding forecastFields stateFields verdictFields refusalFields answerFields startTime startLine readingTime readingLine readingLines linesOf
+unfolding forecastFields stateBy stateFields verdictFields refusalFields answerFields timeField startTime startLine readingTime readingLine readingLines linesOf
 computes = tt
