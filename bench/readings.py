@@ -1,7 +1,8 @@
 #!/usr/bin/env python3
-"""Counts the instructions that brinewatch takes for a reading: the entry `reading`, the entry `forecast` and the line.
-Needs target/bin/brinewatch (rt check brinewatch) and valgrind."""
+"""Counts the instructions that brinewatch takes for a reading: the entry `reading`, the entry `forecast` and the line;
+and the reads and writes of 10,000 readings. Needs target/bin/brinewatch (rt check brinewatch), valgrind and strace."""
 import os
+import re
 import struct
 import subprocess
 import time
@@ -21,6 +22,12 @@ def cost(name, before, one, n=20):
     print(f"{name}: {per:.0f} instructions a reading")
 
 
+def reads_and_writes(data):
+    """From a pipe that has all of the input, to a file, as `strace` counts them."""
+    out = subprocess.run(["strace", "-c", "-e", "trace=read,write", WATCH], input=data, stdout=subprocess.DEVNULL, stderr=subprocess.PIPE)
+    return {name.decode(): int(n) for n, name in re.findall(rb"(\d+)\s+(read|write)\n", out.stderr)}
+
+
 def main():
     large = agreement(owes(within=1000000), [template(tree(14, owes()))] * 32)
     inst = rec(22, bytes([0]))
@@ -37,6 +44,8 @@ def main():
     start = time.time()
     subprocess.run([WATCH], input=data, capture_output=True)
     print(f"10,000 readings of the sample: {time.time() - start:.2f} s")
+    calls = reads_and_writes(data)
+    print(f"{calls['read']} reads and {calls['write']} writes for {len(data)} bytes in")
 
 
 main()

@@ -1,7 +1,12 @@
-// Bytes in from standard input, lines out through a buffer: what the programs share.
+// Bytes in from standard input, cut into records, and bytes out through a buffer: what the programs share.
 ghost use mathlib.Core.Path.{_≡_};
-ghost use Prim.Native.Nat.{_<_};
-ghost use lib.ListN.{length};
+ghost use Prim.Native.Nat.{_-_, _<_, _≤_};
+ghost use lib.ListN.{length, take};
+ghost use Rattle.csl.specs.Bytes.{part};
+ghost use Rattle.stream.specs.Records.{sizeOf};
+ghost use Rattle.stream.specs.Next.{nextOf, Comes};
+ghost use Rattle.stream.specs.declared.Next.the-variants.{Wait};
+use arith::unsigned16;
 use libc::STDIN_FILENO;
 use libc::STDOUT_FILENO;
 
@@ -62,4 +67,87 @@ pub fn read_part(buf: &mut [u8], from: usize, to: usize) -> usize {
         }
     }
     0
+}
+
+// What is next: a record of so many bytes, or more input is needed, or the input has ended after a whole record.
+pub enum Next {
+    Record(usize),
+    Wait,
+    End,
+}
+
+// What is next in s, of an input that has ended there or has not.
+pub fn next_record(s: &[u8], ended: bool) -> Next
+    ensures { λ r. ⌜ (r ≡ nextOf (now (s .entry)) ended) × (r ≡ Wait → length (now (s .entry)) < 65_535) ⌝ }
+{
+    let size = record_size(s);
+    if size <= s.len() {
+        return Next::Record(size);
+    }
+    if !ended {
+        return Next::Wait;
+    }
+    if s.len() == 0 {
+        return Next::End;
+    }
+    Next::Record(s.len())
+}
+
+// What the first record's length field says; the field itself has two bytes.
+fn record_size(s: &[u8]) -> usize
+    ensures { λ r. ⌜ (r ≡ sizeOf (now (s .entry))) × (r < 65_536) ⌝ }
+{
+    let said = unsigned16(s, 0);
+    if said < 2 { 2 } else { said }
+}
+
+// Moves the bytes from `from` up to `to` to the front, and answers how many they are.
+pub fn keep(buf: &mut [u8], from: usize, to: usize) -> usize
+    requires { ⌜ (from ≤ to) × (to ≤ length (now buf)) ⌝ }
+    ensures { λ r. ⌜ (r ≡ to - from) × (take r (now (buf .exit)) ≡ part (now (buf .entry)) from to) ⌝ }
+{
+    if from == 0 {
+        return to;
+    }
+    for i in 0..to - from {
+        buf[i] = buf[from + i];
+    }
+    to - from
+}
+
+// What one read brought: bytes, or the input is over, or the read failed.
+pub enum Got {
+    Bytes(usize),
+    Over,
+    Failed,
+}
+
+// One read, for as many bytes as are there and fit.
+fn read_some(rest: &mut [u8]) -> Got
+    ensures { λ r. ⌜ Comes 0 (length (now (rest .entry))) r ⌝ }
+{
+    let got = libc::read(STDIN_FILENO, rest);
+    if got < 0 {
+        return Got::Failed;
+    }
+    let n = io::count(got, rest);
+    if n == 0 {
+        return Got::Over;
+    }
+    Got::Bytes(n)
+}
+
+// One read into buf from `at` on. What stands before `at` stays.
+pub fn read_more(buf: &mut [u8], at: usize) -> Got
+    requires { ⌜ at < length (now buf) ⌝ }
+    ensures { λ r. ⌜ (take at (now (buf .exit)) ≡ take at (now (buf .entry))) × Comes at (length (now (buf .entry))) r ⌝ }
+{
+    read_some(&mut buf[at..])
+}
+
+// Writes the first `at` bytes of out, and answers whether all of them were taken.
+pub fn emit(out: &[u8], at: usize) -> bool
+    requires { ⌜ at ≤ length (now out) ⌝ }
+{
+    io::write_all(STDOUT_FILENO, &out[..at])
 }

@@ -1,202 +1,485 @@
-// The program's loop: the agreement, then readings, from standard input; a line for each.
-ghost use Prim.Native.Nat.{_≤_};
-use arith::unsigned16;
+// The program: the agreement, then readings, from standard input; a line for each, written before more input is waited for.
+ghost use mathlib.Core.Path.{_≡_};
+ghost use mathlib.Core.List.{_∷_, _++_};
+ghost use Prim.Native.Nat.{_+_, _^_, _≤_, _<_};
+ghost use lib.IntN.{pos};
+ghost use lib.ListN.{length, getD, take};
+ghost use Rattle.lines.specs.Text.{decimal, fields, line, space, dash};
+ghost use Rattle.lines.specs.Lines.{forecastFields, verdictFields, readingTime, refusalFields};
+ghost use Rattle.lines.specs.Put.{Put};
+ghost use Rattle.monitor.specs.Answers.{numberOf, forecastAnswer};
+ghost use Rattle.watch.specs.Steps.{lineRoom, stageAfter, Begins, Follows, Turns};
+ghost use Rattle.watch.specs.declared.Stage.the-variants.{Ready, Waiting};
+use arith::equal;
 use arith::unsigned32;
+use lines::put_bytes;
+use lines::put_decimal;
+use lines::put_next;
+use lines::put_refusal;
 use monitor::Foretold;
 use monitor::Refusal;
 use monitor::Started;
 use monitor::Taken;
-use stream::flush;
-use stream::make_room;
-use stream::put;
-use stream::put_all;
-use stream::put_decimal;
-use stream::put_next;
-use stream::read_part;
+use stream::Got;
+use stream::Next;
+use stream::emit;
+use stream::keep;
+use stream::next_record;
+use stream::read_more;
 
-// Whether to go on, and how many bytes of the output's buffer are in use.
-struct Turn {
-    go: bool,
-    at: usize,
-}
+// No line is longer.
+const LINE_ROOM: usize = 96;
 
-// Takes the next record by its length field, and answers how many bytes of it came: fewer where the input ends.
-fn take_record(buf: &mut [u8]) -> usize {
-    let head = read_part(buf, 0, 2);
-    if head < 2 {
-        return head;
+// A forecast's time and parties, or NONE, and the line's end.
+fn put_forecast(out: &mut [u8], at: usize, foretold: Foretold) -> usize
+    requires { ⌜ at + 43 ≤ length (now out) ⌝ }
+    ensures { λ r. ⌜ Put (fields (forecastFields (forecastAnswer foretold))) (now (out .entry)) at (now (out .exit)) r × (r ≤ at + 43) ⌝ }
+{
+    match foretold {
+        Foretold::Breach { time, parties } => {
+            let a = put_next(out, at, time);
+            let b = put_next(out, a, parties as u64);
+            put_bytes(out, b, b"\n")
+        }
+        Foretold::Nothing => put_bytes(out, at, b" NONE\n"),
+        Foretold::Refused(_) => put_bytes(out, at, b"\n"),
     }
-    let len = unsigned16(buf, 0);
-    let body = read_part(buf, 2, len);
-    if body < 65_536 { 2 + body } else { 2 }
 }
 
-// A line's number and its time.
-fn put_start(out: &mut [u8], at: usize, n: u64, time: usize) -> usize {
+// The table's first cell.
+fn state_of(table: &[i64]) -> i64
+    ensures { λ r. ⌜ r ≡ getD (now (table .entry)) 0 (pos 0) ⌝ }
+{
+    if table.len() > 0 { table[0] } else { 0 }
+}
+
+// The word for a table's state, and the forecast unless it is fulfilled.
+fn put_verdict(out: &mut [u8], at: usize, agreement: &[u8], table: &[i64]) -> usize
+    requires { ⌜ at + 50 ≤ length (now out) ⌝ }
+    ensures { λ r. ⌜ Put (fields (verdictFields (now (agreement .entry)) (now (table .entry)))) (now (out .entry)) at (now (out .exit)) r × (r ≤ at + 50) ⌝ }
+{
+    let state = state_of(table);
+    if equal(state, 2) {
+        return put_bytes(out, at, b" DONE\n");
+    }
+    let foretold = monitor::forecast(agreement, table);
+    if equal(state, 1) {
+        let a = put_bytes(out, at, b" LIVE");
+        return put_forecast(out, a, foretold);
+    }
+    let a = put_bytes(out, at, b" BREACH");
+    put_forecast(out, a, foretold)
+}
+
+// A line's number and time.
+fn put_time(out: &mut [u8], at: usize, n: u64, time: usize) -> usize
+    requires { ⌜ at + 41 ≤ length (now out) ⌝ }
+    ensures { λ r. ⌜ Put (decimal n ++ (space ∷ decimal time)) (now (out .entry)) at (now (out .exit)) r × (r ≤ at + 41) ⌝ }
+{
     let a = put_decimal(out, at, n);
     put_next(out, a, time as u64)
 }
 
-// `N - ` for a record that has no time.
-fn put_timeless(out: &mut [u8], at: usize, n: u64) -> usize {
+// A line's number, and `-` for a record that has no time.
+fn put_timeless(out: &mut [u8], at: usize, n: u64) -> usize
+    requires { ⌜ at + 22 ≤ length (now out) ⌝ }
+    ensures { λ r. ⌜ Put (decimal n ++ (space ∷ dash)) (now (out .entry)) at (now (out .exit)) r × (r ≤ at + 22) ⌝ }
+{
     let a = put_decimal(out, at, n);
-    put_all(out, a, b" -")
+    put_bytes(out, a, b" -")
 }
 
-// The refusal's number.
-fn put_number(out: &mut [u8], at: usize, number: u32) -> usize {
-    let a = put_all(out, at, b" REFUSED");
-    let b = put_next(out, a, number as u64);
-    put(out, b, b'\n')
-}
-
-// The forecast's time and parties, or NONE.
-fn put_forecast(out: &mut [u8], at: usize, agreement: &[u8], table: &[i64]) -> usize {
-    match monitor::forecast(agreement, table) {
-        Foretold::Breach { time, parties } => {
-            let a = put_next(out, at, time);
-            put_next(out, a, parties as u64)
-        }
-        Foretold::Nothing => put_all(out, at, b" NONE"),
-        Foretold::Refused(_) => at,
-    }
-}
-
-fn state_of(table: &[i64]) -> i64 {
-    if table.len() > 0 { table[0] } else { 0 }
-}
-
-// The word for the table's state.
-fn put_word(out: &mut [u8], at: usize, state: i64) -> usize {
-    if state == 1 {
-        return put_all(out, at, b" LIVE");
-    }
-    if state == 2 {
-        return put_all(out, at, b" DONE");
-    }
-    put_all(out, at, b" BREACH")
-}
-
-// The word, with the forecast unless the table is fulfilled.
-fn put_state(out: &mut [u8], at: usize, agreement: &[u8], table: &[i64]) -> usize {
-    let state = state_of(table);
-    let a = put_word(out, at, state);
-    if state == 2 {
-        return put(out, a, b'\n');
-    }
-    let b = put_forecast(out, a, agreement, table);
-    put(out, b, b'\n')
+// Whether to go on, and how many bytes of the output's buffer are in use.
+pub struct Told {
+    go: bool,
+    at: usize,
 }
 
 // The agreement is started, and its line put.
-fn begin(agreement: &[u8], table: &mut [i64], out: &mut [u8], at: usize) -> Turn {
+pub fn begin(agreement: &[u8], table: &mut [i64], out: &mut [u8]) -> Told
+    requires { ⌜ lineRoom ≤ length (now out) ⌝ }
+    ensures { λ r. ⌜ Begins (now (agreement .entry)) (now (table .entry)) (now (table .exit)) (now (out .entry)) (now (out .exit)) r ⌝ }
+{
     match monitor::start(agreement, table) {
-        Started::Refused(refusal) => {
-            let a = put_timeless(out, at, 0);
-            Turn {
+        Started::Refused(why) => {
+            let a = put_timeless(out, 0, 0);
+            Told {
                 go: false,
-                at: put_number(out, a, monitor::number(refusal)),
+                at: put_refusal(out, a, monitor::number(why)),
             }
         }
         Started::Begun => {
-            let a = put_start(out, at, 0, unsigned32(agreement, 4));
-            Turn {
+            let a = put_time(out, 0, 0, unsigned32(agreement, 4));
+            Told {
                 go: true,
-                at: put_state(out, a, agreement, table),
+                at: put_verdict(out, a, agreement, table),
             }
         }
     }
 }
 
-// A reading refused with 8 has no time to print, and ends the run.
-fn put_refusal(out: &mut [u8], at: usize, n: u64, reading: &[u8], refusal: Refusal) -> Turn {
-    let number = monitor::number(refusal);
+// The line of a refused reading: one refused with 8 has no time.
+fn put_refused(out: &mut [u8], at: usize, n: u64, reading: &[u8], number: u32) -> usize
+    requires { ⌜ at + lineRoom ≤ length (now out) ⌝ }
+    ensures { λ r. ⌜ Put (line n (readingTime (now (reading .entry)) number ∷ refusalFields number)) (now (out .entry)) at (now (out .exit)) r × (r ≤ at + lineRoom) ⌝ }
+{
     if number == 8 {
         let a = put_timeless(out, at, n);
-        return Turn {
-            go: false,
-            at: put_number(out, a, number),
-        };
+        return put_refusal(out, a, number);
     }
-    let a = put_start(out, at, n, unsigned32(reading, 4));
-    Turn {
-        go: true,
-        at: put_number(out, a, number),
-    }
+    let a = put_time(out, at, n, unsigned32(reading, 4));
+    put_refusal(out, a, number)
 }
 
 // One reading: taken, and its line put.
-fn follow(
+pub fn follow(
     agreement: &[u8],
     table: &mut [i64],
     reading: &[u8],
     out: &mut [u8],
     at: usize,
     n: u64,
-) -> Turn {
+) -> Told
+    requires { ⌜ at + lineRoom ≤ length (now out) ⌝ }
+    ensures { λ r. ⌜ Follows (now (agreement .entry)) (now (table .entry)) (now (table .exit)) n (now (reading .entry)) (now (out .entry)) at (now (out .exit)) r ⌝ }
+{
     match monitor::reading(agreement, table, reading) {
-        Taken::Refused(refusal) => put_refusal(out, at, n, reading, refusal),
+        Taken::Refused(why) => {
+            let number = monitor::number(why);
+            Told {
+                at: put_refused(out, at, n, reading, number),
+                go: number != 8,
+            }
+        }
         Taken::Accepted => {
-            let a = put_start(out, at, n, unsigned32(reading, 4));
-            Turn {
+            let a = put_time(out, at, n, unsigned32(reading, 4));
+            Told {
                 go: true,
-                at: put_state(out, a, agreement, table),
+                at: put_verdict(out, a, agreement, table),
             }
         }
     }
 }
 
-// The next record from standard input; the input may end before it.
+// Where a run stands: a record may be there, or more input is needed, or it has ended.
+pub enum Stage {
+    Ready,
+    Waiting,
+    Over,
+}
+
+// The stage; how many bytes of the input are taken, and of the output's buffer in use; the next line's number.
+pub struct Turn {
+    stage: Stage,
+    from: usize,
+    at: usize,
+    line: u64,
+}
+
+// The next record of an input from which `from` bytes were taken.
 fn step(
     agreement: &[u8],
     table: &mut [i64],
-    buf: &mut [u8],
+    input: &[u8],
+    ended: bool,
+    from: usize,
     out: &mut [u8],
     at: usize,
-    n: u64,
-) -> Turn {
-    let got = take_record(buf);
-    if got == 0 {
-        return Turn { go: false, at };
-    }
-    let to = make_room(out, at);
-    if got <= buf.len() {
-        return follow(agreement, table, &buf[0..got], out, to, n);
-    }
-    Turn { go: false, at: to }
-}
-
-// A proved loop has to end, and nothing says that the input does: so there are at most 2^64 - 1 turns.
-fn run(agreement: &[u8], table: &mut [i64], buf: &mut [u8], out: &mut [u8], from: usize) -> usize {
-    let mut at = from;
-    for n in 1..u64::MAX {
-        let t = step(agreement, table, buf, out, at, n);
-        at = t.at;
-        if !t.go {
-            return at;
+    line: u64,
+) -> Turn
+    requires { ⌜ (from ≤ length (now input)) × (at + lineRoom ≤ length (now out)) × (line + length (now input) < 2 ^ 64 + from) ⌝ }
+    ensures { λ r. ⌜ Turns (now (agreement .entry)) (now (table .entry)) (now (table .exit)) line (now (input .entry)) ended from (now (out .entry)) at (now (out .exit)) r × (r .stage ≡ Ready → from < r .from) ⌝ }
+{
+    match next_record(&input[from..], ended) {
+        Next::Wait => Turn {
+            stage: Stage::Waiting,
+            from,
+            at,
+            line,
+        },
+        Next::End => Turn {
+            stage: Stage::Over,
+            from,
+            at,
+            line,
+        },
+        Next::Record(size) => {
+            let e = from + size;
+            let told = follow(agreement, table, &input[from..e], out, at, line);
+            Turn {
+                stage: stage_after(told.go),
+                from: e,
+                at: told.at,
+                line: line + 1,
+            }
         }
     }
-    at
+}
+
+fn stage_after(go: bool) -> Stage
+    ensures { λ r. ⌜ r ≡ stageAfter go ⌝ }
+{
+    if go { Stage::Ready } else { Stage::Over }
+}
+
+// All records that are there, as long as a line has room: what is written stands at the front of out.
+pub fn drain(
+    agreement: &[u8],
+    table: &mut [i64],
+    input: &[u8],
+    ended: bool,
+    out: &mut [u8],
+    line: u64,
+) -> Turn
+    requires { ⌜ line + length (now input) < 2 ^ 64 ⌝ }
+    ensures { λ r. ⌜ Turns (now (agreement .entry)) (now (table .entry)) (now (table .exit)) line (now (input .entry)) ended 0 (now (out .entry)) 0 (now (out .exit)) r ⌝ }
+{
+    let mut from = 0;
+    let mut at = 0;
+    let mut n = line;
+    while LINE_ROOM <= out.len() - at {
+        let t = step(agreement, table, input, ended, from, out, at, n);
+        let stage = t.stage;
+        match stage {
+            Stage::Waiting => {
+                return t;
+            }
+            Stage::Over => {
+                return t;
+            }
+            Stage::Ready => {
+                from = t.from;
+                at = t.at;
+                n = t.line;
+            }
+        }
+    }
+    Turn {
+        stage: Stage::Ready,
+        from,
+        at,
+        line: n,
+    }
+}
+
+// ---- what follows only reads and writes: no contract can say which bytes come and go
+
+// The bytes at hand stand at the front of a buffer: how many; whether the input has ended there; whether a read failed.
+struct Held {
+    size: usize,
+    ended: bool,
+    failed: bool,
+}
+
+// Waits for more input behind the bytes at hand.
+fn wait(buf: &mut [u8], size: usize) -> Held
+    requires { ⌜ size < length (now buf) ⌝ }
+    ensures { λ r. ⌜ (take size (now (buf .exit)) ≡ take size (now (buf .entry))) × (r .size ≤ length (now (buf .entry))) ⌝ }
+{
+    match read_more(buf, size) {
+        Got::Bytes(n) => Held {
+            size: size + n,
+            ended: false,
+            failed: false,
+        },
+        Got::Over => Held {
+            size,
+            ended: true,
+            failed: false,
+        },
+        Got::Failed => Held {
+            size,
+            ended: false,
+            failed: true,
+        },
+    }
+}
+
+// A run after a turn: whether it goes on, the bytes at hand, the next line's number.
+struct Served {
+    go: bool,
+    size: usize,
+    ended: bool,
+    line: u64,
+}
+
+// After a turn: more input is waited for only where it is needed, and all lines are written by then.
+fn await_more(buf: &mut [u8], size: usize, ended: bool, stage: Stage, line: u64) -> Served
+    requires { ⌜ (size ≤ length (now buf)) × (stage ≡ Waiting → size < length (now buf)) ⌝ }
+    ensures { λ r. ⌜ (r .size ≤ length (now (buf .entry))) × (r .line ≡ line) ⌝ }
+{
+    match stage {
+        Stage::Over => Served {
+            go: false,
+            size,
+            ended,
+            line,
+        },
+        Stage::Ready => Served {
+            go: true,
+            size,
+            ended,
+            line,
+        },
+        Stage::Waiting => {
+            let held = wait(buf, size);
+            if held.failed {
+                os::fail(b"brinewatch: standard input");
+            }
+            Served {
+                go: !held.failed,
+                size: held.size,
+                ended: held.ended,
+                line,
+            }
+        }
+    }
+}
+
+// All records at hand, their lines written, and then more input, if it is needed.
+fn serve(
+    agreement: &[u8],
+    table: &mut [i64],
+    buf: &mut [u8],
+    size: usize,
+    ended: bool,
+    out: &mut [u8],
+    line: u64,
+) -> Served
+    requires { ⌜ (size ≤ length (now buf)) × (length (now buf) ≡ 65_536) × (line + size < 2 ^ 64) ⌝ }
+    ensures { λ r. ⌜ (r .size ≤ 65_536) × (r .line ≤ line + 65_536) ⌝ }
+{
+    let t = drain(agreement, table, &buf[0..size], ended, out, line);
+    let at = t.at;
+    let from = t.from;
+    let stage = t.stage;
+    if !emit(out, at) {
+        os::fail(b"brinewatch: standard output");
+        return Served {
+            go: false,
+            size,
+            ended,
+            line,
+        };
+    }
+    let left = keep(buf, from, size);
+    await_more(buf, left, ended, stage, t.line)
+}
+
+// Readings until the run ends. A proved loop has to end, and nothing says that the input does: so there are at most 2^47 turns.
+fn run(agreement: &[u8], table: &mut [i64], buf: &mut [u8], held: usize, over: bool, out: &mut [u8])
+    requires { ⌜ (held ≤ length (now buf)) × (length (now buf) ≡ 65_536) ⌝ }
+{
+    let mut size = held;
+    let mut ended = over;
+    let mut line = 1;
+    for turn in 0..140_737_488_355_328u64 {
+        let next = serve(agreement, table, buf, size, ended, out, line);
+        if !next.go {
+            return;
+        }
+        size = next.size;
+        ended = next.ended;
+        line = next.line;
+    }
+}
+
+// What is found of the input's first record: whether to stop looking, its size, and the bytes at hand.
+struct First {
+    found: bool,
+    record: usize,
+    size: usize,
+    ended: bool,
+    failed: bool,
+}
+
+// Looks for the first record, and waits for more input where it is not whole.
+fn look(buf: &mut [u8], size: usize, ended: bool) -> First
+    requires { ⌜ (size ≤ length (now buf)) × (length (now buf) ≡ 65_536) ⌝ }
+    ensures { λ r. ⌜ (r .record ≤ r .size) × (r .size ≤ 65_536) ⌝ }
+{
+    match next_record(&buf[0..size], ended) {
+        Next::Record(record) => First {
+            found: true,
+            record,
+            size,
+            ended,
+            failed: false,
+        },
+        Next::End => First {
+            found: true,
+            record: 0,
+            size,
+            ended,
+            failed: false,
+        },
+        Next::Wait => {
+            let held = wait(buf, size);
+            First {
+                found: held.failed,
+                record: 0,
+                size: held.size,
+                ended: held.ended,
+                failed: held.failed,
+            }
+        }
+    }
+}
+
+// Each read brings a byte or the end of the input: so the first record is found within as many turns as it can have bytes.
+fn first_record(buf: &mut [u8]) -> First
+    requires { ⌜ length (now buf) ≡ 65_536 ⌝ }
+    ensures { λ r. ⌜ (r .record ≤ r .size) × (r .size ≤ 65_536) ⌝ }
+{
+    let mut size = 0;
+    let mut ended = false;
+    for turn in 0..65_537usize {
+        let first = look(buf, size, ended);
+        if first.found {
+            return first;
+        }
+        size = first.size;
+        ended = first.ended;
+    }
+    First {
+        found: false,
+        record: 0,
+        size,
+        ended,
+        failed: true,
+    }
 }
 
 // The agreement's line, then a line for each reading.
-fn go_on(agreement: &[u8], table: &mut [i64], out: &mut [u8]) -> usize {
-    let t = begin(agreement, table, out, 0);
-    if !t.go {
-        return t.at;
+fn go_on(agreement: &[u8], table: &mut [i64], buf: &mut [u8], first: First, out: &mut [u8])
+    requires { ⌜ (first .record ≤ first .size) × (first .size ≤ 65_536) × (length (now buf) ≡ 65_536) × (lineRoom ≤ length (now out)) ⌝ }
+{
+    let told = begin(agreement, table, out);
+    let at = told.at;
+    if !emit(out, at) {
+        os::fail(b"brinewatch: standard output");
+        return;
     }
-    let mut buf = [0u8; 65536];
-    run(agreement, table, &mut buf, out, t.at)
+    if told.go {
+        let record = first.record;
+        let size = first.size;
+        let held = keep(buf, record, size);
+        run(agreement, table, buf, held, first.ended, out);
+    }
 }
 
 // Reads the agreement and readings from standard input, and writes a line for each.
 pub fn watch() {
     let mut table = [0i64; 3080];
+    let mut buf = [0u8; 65536];
     let mut agreement = [0u8; 65536];
     let mut out = [0u8; 65536];
-    let got = take_record(&mut agreement);
-    if got <= 65536 {
-        let at = go_on(&agreement[0..got], &mut table, &mut out);
-        flush(&out, 0, at);
+    let first = first_record(&mut buf);
+    if first.failed {
+        os::fail(b"brinewatch: standard input");
+        return;
     }
+    let n = first.record;
+    bytes::copy(&buf[0..n], &mut agreement);
+    go_on(&agreement[0..n], &mut table, &mut buf, first, &mut out);
 }

@@ -1,0 +1,35 @@
+-- `next_record` is right: its tests are those of `nextOf`.
+use mathlib.Core.Path.{_≡_}
+use Prim.Native.Nat.{ℕ}
+use native.Mathlib.Omega.{arith}
+use borrow.Author.Tests.{not-true, not-false}
+use Rattle.stream.proofs.Cuts.{next-whole, next-wait, next-end, next-cut}
+use borrow.Author.Needs.{needs}
+use Rattle.stream.proofs.next_record.Statement.{statement}
+use Rattle.stream.proofs.next_record.Tie as tie
+use Rattle.stream.proofs.next_record.Reads as reads
+use Rattle.stream.proofs.next_record.Lts as lts
+use Rattle.stream.proofs.record_size.Reads as record-size-reads
+
+-- src/lib.rt:82:9
+record-size-requires : tie.Need-record-size-requires
+record-size-requires c κs = search needs
+
+-- src/lib.rt:84:9
+returns : tie.Need-returns
+returns c = (next-whole (c .before .before .before .args .s .now) (c .before .before .before .args .ended) (c .before .record-size .ensures .0) (c .if1 .taken), λ w. let z : _≡_ {A = ℕ} 0 1 = cc in absurd (omega arith))
+
+-- src/lib.rt:87:9
+returns-2 : tie.Need-returns-2
+returns-2 c = (next-wait (c .before .before .before .before .args .s .now) (c .before .before .before .before .args .ended) (c .before .before .record-size .ensures .0) (c .before .if1 .left) (not-true _ (c .if2 .taken)), λ _. omega (arith, c .before .before .record-size .ensures .1))
+
+-- src/lib.rt:90:9
+returns-3 : tie.Need-returns-3
+returns-3 c = (next-end (c .before .before .before .before .before .args .s .now) (c .before .before .before .before .before .args .ended) (c .before .before .before .record-size .ensures .0) (c .before .before .if1 .left) (not-false _ (c .before .if2 .left)) (c .if3 .taken), λ w. let z : _≡_ {A = ℕ} 0 1 = cc in absurd (omega arith))
+
+-- src/lib.rt:79:1
+returns-4 : tie.Need-returns-4
+returns-4 c = (next-cut (c .before .before .before .before .before .args .s .now) (c .before .before .before .before .before .args .ended) (c .before .before .before .record-size .ensures .0) (c .before .before .if1 .left) (not-false _ (c .before .if2 .left)) (c .if3 .left), λ w. let z : _≡_ {A = ℕ} 0 1 = cc in absurd (omega arith))
+
+pub next-record-spec : {M : Type 1} → statement M
+next-record-spec = tie.close (tie.spec record-size-requires returns returns-2 returns-3 returns-4)

@@ -1,0 +1,4 @@
+pub mod Says
+pub mod Taking
+pub mod Arrives
+pub mod Session

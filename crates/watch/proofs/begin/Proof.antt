@@ -1,0 +1,90 @@
+-- `begin` is right, case by case of `start`'s answer.
+use native.Mathlib.Omega.{arith}
+use Rattle.watch.proofs.Says.{begins-refused, begins-begun}
+use borrow.Author.Needs.{needs}
+use Rattle.watch.proofs.begin.Statement.{statement}
+use Rattle.watch.proofs.begin.Tie as tie
+use Rattle.watch.proofs.begin.Reads as reads
+use Rattle.watch.proofs.begin.Lts as lts
+use Rattle.arith.proofs.unsigned32.Reads as unsigned32-reads
+use Rattle.lines.proofs.put_refusal.Reads as put-refusal-reads
+use Rattle.monitor.proofs.number.Reads as number-reads
+use Rattle.monitor.proofs.start.Reads as start-reads
+use Rattle.watch.proofs.put_time.Reads as put-time-reads
+use Rattle.watch.proofs.put_timeless.Reads as put-timeless-reads
+use Rattle.watch.proofs.put_verdict.Reads as put-verdict-reads
+
+start-requires : tie.Need-start-requires
+start-requires c κs = search needs
+
+enum-known-why : tie.Need-enum-known-why
+enum-known-why c = search needs
+
+put-timeless-requires : tie.Need-put-timeless-requires
+put-timeless-requires c κs = search needs
+
+number-requires : tie.Need-number-requires
+number-requires c κs = search needs
+
+put-refusal-requires : tie.Need-put-refusal-requires
+put-refusal-requires c κs = search needs
+
+enum-told : tie.Need-enum-told
+enum-told c = search needs
+
+unsigned32-requires : tie.Need-unsigned32-requires
+unsigned32-requires c κs = search needs
+
+put-time-requires : tie.Need-put-time-requires
+put-time-requires c κs = search needs
+
+put-verdict-requires : tie.Need-put-verdict-requires
+put-verdict-requires c κs = search needs
+
+same-length : tie.Need-same-length
+same-length c = search needs
+
+same-length-2 : tie.Need-same-length-2
+same-length-2 c = search needs
+
+returns : tie.Need-returns
+returns c =
+    let given = c .before .before .before .before .before .before .before .before .before .before .before .before .before .before .before .before .before .args in
+    let start = c .before .before .before .before .before .before .before .before .before .before .before .before .before .start in
+    let head = c .before .before .before .before .before .before .before .put-timeless .ensures in
+    let rest = c .before .before .put-refusal .ensures in
+    begins-refused (given .agreement .now) (given .table .now) (start .last .1 .0) (start .ensures) (omega (arith, head .1, rest .1)) (c .before .before .before .before .before .before .before .before .before .before .why .given .1) (c .before .before .before .number .ensures) (head .0) (rest .0)
+
+same-length-3 : tie.Need-same-length-3
+same-length-3 c = search needs
+
+same-length-4 : tie.Need-same-length-4
+same-length-4 c = search needs
+
+returns-2 : tie.Need-returns-2
+returns-2 c =
+    let given = c .before .before .before .before .before .before .before .before .before .before .before .before .before .before .before .before .before .args in
+    let start = c .before .before .before .before .before .before .before .before .before .before .before .before .before .start in
+    let head = c .before .before .before .before .before .before .before .put-time .ensures in
+    let rest = c .before .before .put-verdict .ensures in
+    begins-begun (given .agreement .now) (given .table .now) (start .last .1 .0) (start .ensures) (omega (arith, head .1, rest .1)) (c .before .before .before .before .before .before .before .before .before .before .enum-told .given .1) (c .before .before .before .before .before .before .before .before .unsigned32 .ensures .0) (head .0) (rest .0)
+
+pub begin-spec : {M : Type 1} → statement M
+begin-spec =
+    tie.close
+    (tie.spec
+    start-requires
+    enum-known-why
+    put-timeless-requires
+    number-requires
+    put-refusal-requires
+    enum-told
+    unsigned32-requires
+    put-time-requires
+    put-verdict-requires
+    same-length
+    same-length-2
+    returns
+    same-length-3
+    same-length-4
+    returns-2)

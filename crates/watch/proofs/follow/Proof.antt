@@ -1,0 +1,84 @@
+-- `follow` is right, case by case of `reading`'s answer.
+use native.Mathlib.Omega.{arith}
+use Rattle.watch.proofs.Says.{follows-refused, follows-accepted}
+use borrow.Author.Needs.{needs}
+use Rattle.watch.proofs.follow.Statement.{statement}
+use Rattle.watch.proofs.follow.Tie as tie
+use Rattle.watch.proofs.follow.Reads as reads
+use Rattle.watch.proofs.follow.Lts as lts
+use Rattle.arith.proofs.unsigned32.Reads as unsigned32-reads
+use Rattle.monitor.proofs.number.Reads as number-reads
+use Rattle.monitor.proofs.reading.Reads as reading-reads
+use Rattle.watch.proofs.put_refused.Reads as put-refused-reads
+use Rattle.watch.proofs.put_time.Reads as put-time-reads
+use Rattle.watch.proofs.put_verdict.Reads as put-verdict-reads
+
+reading-requires : tie.Need-reading-requires
+reading-requires c κs = search needs
+
+enum-known-why : tie.Need-enum-known-why
+enum-known-why c = search needs
+
+number-requires : tie.Need-number-requires
+number-requires c κs = search needs
+
+put-refused-requires : tie.Need-put-refused-requires
+put-refused-requires c κs = search needs
+
+enum-told : tie.Need-enum-told
+enum-told c = search needs
+
+unsigned32-requires : tie.Need-unsigned32-requires
+unsigned32-requires c κs = search needs
+
+put-time-requires : tie.Need-put-time-requires
+put-time-requires c κs = search needs
+
+put-verdict-requires : tie.Need-put-verdict-requires
+put-verdict-requires c κs = search needs
+
+same-length : tie.Need-same-length
+same-length c = search needs
+
+same-length-2 : tie.Need-same-length-2
+same-length-2 c = search needs
+
+returns : tie.Need-returns
+returns c =
+    let given = c .before .before .before .before .before .before .before .before .before .before .before .before .before .before .args in
+    let reading = c .before .before .before .before .before .before .before .before .before .reading in
+    let line = c .before .before .put-refused .ensures in
+    follows-refused (given .agreement .now) (given .table .now) (reading .last .1 .0) (given .n) (given .reading .now) (given .at) (reading .ensures) (line .1) (c .before .before .before .before .before .before .why .given .1) (c .before .before .before .before .number .ensures) (line .0)
+
+same-length-3 : tie.Need-same-length-3
+same-length-3 c = search needs
+
+same-length-4 : tie.Need-same-length-4
+same-length-4 c = search needs
+
+returns-2 : tie.Need-returns-2
+returns-2 c =
+    let given = c .before .before .before .before .before .before .before .before .before .before .before .before .before .before .before .before .before .before .args in
+    let reading = c .before .before .before .before .before .before .before .before .before .before .before .before .before .reading in
+    let head = c .before .before .before .before .before .before .before .put-time .ensures in
+    let rest = c .before .before .put-verdict .ensures in
+    follows-accepted (given .agreement .now) (given .table .now) (reading .last .1 .0) (given .n) (given .reading .now) (given .at) (reading .ensures) (omega (arith, head .1, rest .1)) (c .before .before .before .before .before .before .before .before .before .before .enum-told .given .1) (c .before .before .before .before .before .before .before .before .unsigned32 .ensures .0) (head .0) (rest .0)
+
+pub follow-spec : {M : Type 1} → statement M
+follow-spec =
+    tie.close
+    (tie.spec
+    reading-requires
+    enum-known-why
+    number-requires
+    put-refused-requires
+    enum-told
+    unsigned32-requires
+    put-time-requires
+    put-verdict-requires
+    same-length
+    same-length-2
+    returns
+    same-length-3
+    same-length-4
+    returns-2)

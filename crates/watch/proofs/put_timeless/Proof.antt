@@ -1,0 +1,35 @@
+-- `put_timeless` is right: the number, then `-` behind a space.
+use native.Mathlib.Omega.{arith}
+use Rattle.lines.proofs.Puts.{then}
+use borrow.Author.Needs.{needs}
+use Rattle.watch.proofs.put_timeless.Statement.{statement}
+use Rattle.watch.proofs.put_timeless.Tie as tie
+use Rattle.watch.proofs.put_timeless.Reads as reads
+use Rattle.watch.proofs.put_timeless.Lts as lts
+use Rattle.lines.proofs.put_bytes.Reads as put-bytes-reads
+use Rattle.lines.proofs.put_decimal.Reads as put-decimal-reads
+
+put-decimal-requires : tie.Need-put-decimal-requires
+put-decimal-requires c κs = search needs
+
+slice-aggregate-put-bytes : tie.Need-slice-aggregate-put-bytes
+slice-aggregate-put-bytes c = search needs
+
+put-bytes-requires : tie.Need-put-bytes-requires
+put-bytes-requires c κs = search needs
+
+same-length : tie.Need-same-length
+same-length c = search needs
+
+returns : tie.Need-returns
+returns c = let number = c .before .before .before .before .before .before .before .put-decimal .ensures in let dash = c .before .before .put-bytes .ensures in (then (number .0) dash, omega (arith, number .1, dash .place))
+
+pub put-timeless-spec : {M : Type 1} → statement M
+put-timeless-spec =
+    tie.close
+    (tie.spec
+    put-decimal-requires
+    slice-aggregate-put-bytes
+    put-bytes-requires
+    same-length
+    returns)
