@@ -18,7 +18,7 @@ use tools::timeline::{picture, Form};
 
 /// The reading of a record of kind 64 with whole values; other bytes are none that a line can stand for.
 fn read(record: &[u8]) -> Option<Reading> {
-    let whole = record.len() >= 9 && record.len() <= 25 && (record.len() - 9) % 4 == 0;
+    let whole = record.len() >= 9 && record.len() <= 25 && (record.len() - 9).is_multiple_of(4);
     let [low, high, 64, 0, ..] = record else { return None };
     if !whole || usize::from(u16::from_le_bytes([*low, *high])) != record.len() {
         return None;
