@@ -18,6 +18,16 @@ pub struct Breach {
     pub parties: Parties,
 }
 
+/// The library's version: 10,000 times its first number, 100 times its second, and its third.
+///
+/// ```
+/// assert_eq!(givuntha::version(), 100);
+/// ```
+pub fn version() -> u32 {
+    // SAFETY: nothing is lent.
+    unsafe { raw::givuntha_version() }
+}
+
 /// Checks an agreement of any bytes, and answers the parties that it can blame.
 ///
 /// ```

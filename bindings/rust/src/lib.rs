@@ -42,7 +42,7 @@ mod stack;
 mod state;
 mod table;
 
-pub use entries::{check, forecast, reading, start, Breach};
+pub use entries::{check, forecast, reading, start, version, Breach};
 pub use parties::Parties;
 pub use refusal::Refusal;
 pub use stack::STACK;

@@ -31,3 +31,27 @@ fn the_table_and_the_stack_are_as_long() {
         assert!(header.lines().any(|known| known == line), "{line}");
     }
 }
+
+#[test]
+fn the_version_is_the_library_s() {
+    let header = header();
+    let part = |name: &str| -> u32 {
+        let line = header.lines().find_map(|line| line.strip_prefix(&format!("#define GIVUNTHA_VERSION_{name} ")));
+        line.expect(name).parse().expect(name)
+    };
+    assert_eq!(givuntha::version(), part("MAJOR") * 10_000 + part("MINOR") * 100 + part("PATCH"));
+    assert_eq!(env!("CARGO_PKG_VERSION"), format!("{}.{}.{}", part("MAJOR"), part("MINOR"), part("PATCH")));
+}
+
+/// Every answer of the header has words, and no two the same.
+#[test]
+fn every_answer_has_words() {
+    let header = header();
+    let words: Vec<&str> = header.lines().filter_map(|line| line.trim().strip_prefix("case GIVUNTHA_")).collect();
+    assert_eq!(words.len(), Refusal::ALL.len() + 1);
+    for refusal in Refusal::ALL {
+        let case = name(refusal);
+        let case = case.trim_start_matches("GIVUNTHA_");
+        assert!(words.iter().any(|word| word.starts_with(&format!("{case}: return \""))), "{case}");
+    }
+}

@@ -39,7 +39,7 @@ abbrev refusals : List Refusal
 refusals = AgreementLength ∷ AgreementForm ∷ AgreementTyping ∷ AgreementGuards ∷ AgreementWidth ∷ TableLength ∷ TableContent ∷ ReadingForm ∷ ReadingTyping ∷ ReadingTime ∷ Units ∷ []
 
 -- what a number says: 0 is success, and n + 1 the refusal that has n before it
-abbrev told : {A : Type 0} → A → (Refusal → A) → ℕ → A
+abbrev pub told : {A : Type 0} → A → (Refusal → A) → ℕ → A
 told success refused zero = success
 told success refused (suc n) = refused (getD refusals n Units)
 
@@ -56,28 +56,28 @@ number-told success refused ReadingTyping = refl
 number-told success refused ReadingTime = refl
 number-told success refused Units = refl
 
-abbrev checkedBy : CheckAnswer → Checked
+abbrev pub checkedBy : CheckAnswer → Checked
 checkedBy a = told (Accepted (a .parties)) Refused (a .number)
 
 pub check-told : (r : Checked) → checkedBy (checkAnswer r) ≡ r
 check-told (Accepted parties) = refl
 check-told (Refused r) = number-told (Accepted 0) Refused r
 
-abbrev startedBy : Answer → Started
+abbrev pub startedBy : Answer → Started
 startedBy a = told Begun refusedStart (a .number)
 
 pub start-told : (r : Started) (table : List ℤ) → startedBy (startAnswer r table) ≡ r
 start-told Begun table = refl
 start-told (refusedStart r) table = number-told Begun refusedStart r
 
-abbrev takenBy : Answer → Taken
+abbrev pub takenBy : Answer → Taken
 takenBy a = told acceptedReading refusedReading (a .number)
 
 pub reading-told : (r : Taken) (table : List ℤ) → takenBy (takenAnswer r table) ≡ r
 reading-told acceptedReading table = refl
 reading-told (refusedReading r) table = number-told acceptedReading refusedReading r
 
-abbrev foretoldBy : Forecast → Foretold
+abbrev pub foretoldBy : Forecast → Foretold
 foretoldBy entries.noBreach = Nothing
 foretoldBy entries.noForecast = Nothing
 foretoldBy (entries.breachAt t b) = Breach t b
@@ -112,7 +112,7 @@ forecast-plain s us = from-check s (λ n h ck _. subst Plain (sym (forecast-refu
         let good = runOf-good a mains us q (isFair s a mains ck) e in
         let ok = run-ok s a mains ck (q .lastTime) (q .outcome) good in
         let here : ForecastFits a mains (forecastOf s us) =
-            subst (ForecastFits a mains) (sym (forecast-is s a mains ck us q l e)) (fits s a mains ck (forecastRun a q) ok) in
+        subst (ForecastFits a mains) (sym (forecast-is s a mains ck us q l e)) (fits s a mains ck (forecastRun a q) ok) in
         fits-plain a mains (forecastOf s us) here
 
     by-length : (mains : List ℕ) → checked s ≡ accepted (agreementOf s) mains → (b : Bool) → eqb (length us) 3080 ≡ b → Plain (forecastOf s us)

@@ -68,9 +68,9 @@ fn put_forecast(out: &mut [u8], at: usize, foretold: Foretold) -> usize {
             let to = put_number(out, at, b"forecast", 0);
             put_all(out, to, b" none")
         }
-        Foretold::Breach(time, parties) => {
+        Foretold::Breach { time, parties } => {
             let to = put_number(out, at, b"forecast", 0);
-            let then = put_next(out, to, whole(time));
+            let then = put_next(out, to, time);
             put_next(out, then, parties as u64)
         }
         Foretold::Refused(refusal) => {

@@ -6,7 +6,7 @@ use native.Mathlib.Omega.{arith}
 use lib.IntN.{ℤ}
 use Rattle.csl.specs.Entries.{Forecast, refusedForecast, noBreach, breachAt, noForecast, forecastOf}
 use Rattle.monitor.proofs.Apart.{Plain, forecast-plain}
-use Rattle.monitor_c.specs.Numbers.{ForecastNumbers, forecastNumbers}
+use Rattle.givuntha.specs.Numbers.{ForecastNumbers, forecastNumbers}
 
 same : (f g : Forecast) → Plain f → Plain g → forecastNumbers f ≡ forecastNumbers g → f ≡ g
 same (refusedForecast m) (refusedForecast n) h k e = ap refusedForecast (ap (λ x. x .number) e)

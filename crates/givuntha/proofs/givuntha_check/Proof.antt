@@ -2,9 +2,9 @@
 use borrow.Author.Needs.{needs}
 use mathlib.Core.Path.{sym, ap, _∙_}
 use Rattle.monitor.specs.Answers.{checkAnswer}
-use Rattle.monitor_c.proofs.Records.{checkRefused}
-use Rattle.monitor_c.proofs.givuntha_check.Statement.{statement}
-use Rattle.monitor_c.proofs.givuntha_check.Tie as tie
+use Rattle.givuntha.proofs.Records.{checkRefused}
+use Rattle.givuntha.proofs.givuntha_check.Statement.{statement}
+use Rattle.givuntha.proofs.givuntha_check.Tie as tie
 
 returns : tie.Need-returns
 returns c = ap checkAnswer (sym (c .before .bits .given .1)) ∙ c .before .before .before .check .ensures

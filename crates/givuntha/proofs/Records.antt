@@ -4,7 +4,7 @@ use Prim.Native.Nat.{ℕ}
 use lib.IntN.{ℤ}
 use Rattle.csl.specs.Check.{CheckAnswer}
 use Rattle.csl.specs.Entries.{Answer}
-use Rattle.monitor_c.specs.Numbers.{ForecastNumbers}
+use Rattle.givuntha.specs.Numbers.{ForecastNumbers}
 
 abbrev pub checkRefused : ℕ → CheckAnswer
 checkRefused n = record { number = n; parties = 0 }

@@ -2,7 +2,7 @@
 ghost use mathlib.Core.Path.{_≡_};
 ghost use Rattle.csl.specs.Check.{CheckAnswer, checkOf};
 ghost use Rattle.csl.specs.Entries.{Answer, startOf, readingOf, forecastOf};
-ghost use Rattle.monitor_c.specs.Numbers.{ForecastNumbers, forecastNumbers};
+ghost use Rattle.givuntha.specs.Numbers.{ForecastNumbers, forecastNumbers};
 use monitor::Checked;
 use monitor::Foretold;
 use monitor::Started;
@@ -73,4 +73,12 @@ pub extern "C" fn givuntha_forecast(
             monitor::number(why)
         }
     }
+}
+
+// The version: 10,000 times its first number, 100 times its second, and its third.
+#[no_mangle]
+pub extern "C" fn givuntha_version() -> u32
+    ensures { λ r. ⌜ r ≡ 100 ⌝ }
+{
+    100
 }

@@ -4,10 +4,10 @@ use mathlib.Core.Path.{_≡_, sym, ap, _∙_}
 use Rattle.csl.specs.Entries.{Forecast}
 use Rattle.monitor.specs.declared.Foretold.{Foretold}
 use Rattle.monitor.specs.Answers.{forecastAnswer}
-use Rattle.monitor_c.specs.Numbers.{ForecastNumbers, forecastNumbers}
-use Rattle.monitor_c.proofs.Records.{forecastRefused}
-use Rattle.monitor_c.proofs.givuntha_forecast.Statement.{statement}
-use Rattle.monitor_c.proofs.givuntha_forecast.Tie as tie
+use Rattle.givuntha.specs.Numbers.{ForecastNumbers, forecastNumbers}
+use Rattle.givuntha.proofs.Records.{forecastRefused}
+use Rattle.givuntha.proofs.givuntha_forecast.Statement.{statement}
+use Rattle.givuntha.proofs.givuntha_forecast.Tie as tie
 
 -- the numbers of the answer that was given
 abbrev numbersOf : Foretold → ForecastNumbers

@@ -1,0 +1,98 @@
+-- Demand 3, spelled out sentence by sentence: each is what `monitor`'s theorem says.
+use mathlib.Core.Path.{_≡_}
+use mathlib.Core.Logic.{_≢_, _↔_}
+use mathlib.Core.List.{List, [], _∷_, _++_}
+use mathlib.Core.Option.{some}
+use Prim.Native.Nat.{ℕ, _≤_, _<_}
+use lib.Dec.{T}
+use lib.IntN.{ℤ}
+use lib.ListN.{length}
+use Rattle.csl.specs.Parties.{subset}
+use Rattle.csl.specs.Syntax.{Agreement}
+use Rattle.csl.specs.Check.{checked, accepted}
+use Rattle.csl.specs.Outcomes.{Outcome, breach, stuck}
+use Rattle.csl.specs.Rules.{Reading}
+use Rattle.csl.specs.Run.{Run, started, step}
+use Rattle.csl.specs.Table.{tableOf, runOf}
+use Rattle.csl.specs.Entries.{startOf}
+use Rattle.csl.specs.Demand3.{Bytes, AllBytes, fitting, reached, needed, NotStuck, IsBreach, runAfter, numbersBy}
+use Rattle.monitor.specs.declared.Started.{Started}
+use Rattle.monitor.specs.declared.Started.the-variants.{Begun}
+use Rattle.monitor.specs.Answers.{startAnswer}
+use Rattle.monitor.specs.Calls.{Call, Calls, lastTable, readingsIn, numberIn, numbersIn}
+use Rattle.monitor.specs.Demand3 as specs
+use Rattle.monitor.specs.Demand3.{Demand3, Begins, IsStarted, Upheld, runBy}
+use Rattle.monitor.proofs.Demand3.{demand3, begins}
+
+-- what the words mean where it matters
+stuck-is-stuck : NotStuck stuck → ⊥
+unfolding NotStuck
+stuck-is-stuck h = h
+
+breach-is-breach : (t : ℕ) (ps : List ℕ) → IsBreach (breach t ps)
+unfolding IsBreach
+breach-is-breach t ps = tt
+
+abbrev after : Agreement → List Call → Run
+after a calls = runAfter a ((started a) .run) (readingsIn calls)
+
+-- for an accepted, started agreement and every list of readings, whatever their bytes
+module _ (s : List ℕ) (lent : List ℤ) (a : Agreement) (mains : List ℕ) (r : Started) (us : List ℤ) (calls : List Call)
+    (bytes : Bytes s) (all : AllBytes (readingsIn calls))
+    (acc : checked s ≡ accepted a mains) (long : length lent ≡ 3080) (few : (started a) .number ≡ 0)
+    (begun : startAnswer r us ≡ startOf s lent) (made : Calls s us calls) where
+  claim : Upheld a mains r us calls
+  unfolding Demand3
+  claim = demand3 s lent a mains r us calls bytes all (record { isAccepted = acc; notSix = long; notEleven = few }) begun made
+
+  never-stuck : (before later : List Call) → calls ≡ before ++ later → NotStuck (after a before .outcome)
+  unfolding runBy
+  never-stuck = claim .neverStuck
+
+  starts : r ≡ Begun
+  starts = claim .begun
+
+  answers : numbersIn calls ≡ numbersBy a ((started a) .run) (readingsIn calls)
+  answers = claim .numbers
+
+  table-long : length (lastTable us calls) ≡ 3080
+  table-long = claim .cells
+
+  table-typed : (q : Run) × (runOf a mains (lastTable us calls) ≡ some q)
+  table-typed = claim .wellTyped
+
+  table-is : lastTable us calls ≡ tableOf (after a calls)
+  unfolding runBy
+  table-is = claim .table
+
+  module _ (before : List Call) (one : Call) (later : List Call) (split : calls ≡ before ++ (one ∷ later)) where
+    is-eleven : (numberIn one ≡ 11) ↔ ((d : Reading) × (fitting a (one .bytes) ≡ some d) × (after a before .lastTime ≤ d .time)
+        × (128 < needed (reached a (after a before .outcome) d)))
+    unfolding runBy
+    is-eleven = claim .eleven before one later split
+
+    is-taken : (numberIn one ≡ 0) ↔ ((d : Reading) × (fitting a (one .bytes) ≡ some d) × (after a before .lastTime ≤ d .time)
+        × (needed (reached a (after a before .outcome) d) ≤ 128))
+    unfolding runBy
+    is-taken = claim .taken before one later split
+
+    is-refused : numberIn one ≢ 0 → one .left ≡ lastTable us before
+    is-refused = claim .refused before one later split
+
+    is-breached : (IsBreach (after a before .outcome) → ⊥)
+        → (t : ℕ) (ps : List ℕ) → (step a (after a before) (one .bytes)) .run .outcome ≡ breach t ps
+        → (d : Reading) × (fitting a (one .bytes) ≡ some d) × (ps ≢ []) × T (subset ps mains) × (a .start ≤ t) × (t ≤ d .time)
+    unfolding runBy
+    is-breached = claim .breached before one later split
+
+    stays-breached : IsBreach (after a before .outcome) → one .left ≡ lastTable us before
+    unfolding runBy
+    stays-breached = claim .final before one later split
+
+  begins-unbreached : IsBreach ((started a) .run .outcome) → ⊥
+  begins-unbreached = claim .unbreached
+
+begun-was-started : (s : List ℕ) (lent us : List ℤ) → startAnswer Begun us ≡ startOf s lent
+    → (a : Agreement) × (mains : List ℕ) × (checked s ≡ accepted a mains) × (length lent ≡ 3080) × ((started a) .number ≡ 0)
+unfolding Begins
+begun-was-started s lent us e = let b = begins s lent us e in (b .0, b .1, b .2 .isAccepted, b .2 .notSix, b .2 .notEleven)

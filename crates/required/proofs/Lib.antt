@@ -1,0 +1,6 @@
+pub mod Trials
+pub mod Contracts
+pub mod Demand3
+pub mod Forecast
+pub mod Monitors
+pub mod Rules

@@ -1,0 +1,1 @@
+// No code: what this repository must have, by name (proofs/).
