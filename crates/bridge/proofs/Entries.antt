@@ -1,44 +1,45 @@
 -- What the entries answer, from the rules on cells: code that is proved against those answers as csl says.
--- Main theorems: `start-reduce`, `reading-running`, `forecast-running`; `delivered` is demand 3 for code that answers so.
+-- Main theorems: `start-reduce`, `reading-running`, `forecast-running`; `delivered` is demand 3 for code that answers
+-- so.
 use mathlib.Core.Bool.{Bool, cond, false, true}
-use mathlib.Core.List.{List, [], _∷_, _++_, append-nil}
+use mathlib.Core.List.{List, [], _∷_, _++_}
 use mathlib.Core.Option.{Option, none, some}
 use mathlib.Core.Path.{ap, refl, subst, sym, _∙_, _≡_}
 use Prim.Native.Nat.{_<_, ℕ, _≤_}
 use native.Mathlib.Omega.{arith}
-use lib.Dec.{eqb, eqb→eq, ltb}
-use lib.IntN.{pos, ℤ}
-use lib.ListN.{drop, getD, length, length-append}
+use lib.Dec.{ltb}
+use lib.IntN.{ℤ}
+use lib.ListN.{drop, length}
 use Rattle.csl.specs.Lists.{all}
 use Rattle.csl.specs.Parties.{bitsOf}
 use Rattle.csl.specs.Syntax.{Agreement}
 use Rattle.csl.specs.Decode.{agreementOf, mainOf}
 use Rattle.csl.specs.Check.{accepted, checked}
-use Rattle.csl.specs.Values.{valuesOf}
 use Rattle.csl.specs.Outcomes.{Outcome, Residue, breach, done, running, stuck, units}
 use Rattle.csl.specs.Rules.{Reading, activate}
 use Rattle.csl.specs.Places.{follow, forecast}
-use Rattle.csl.specs.Run.{Fit, Raw, Run, Stepped, fit, fitOf, followed, kept, rawReading, started, step, typedReading, unfit, valuesWanted}
-use Rattle.csl.specs.Table.{cellsOf, headCells, natCells, padded, runOf, standFor, tableOf}
-use Rattle.csl.specs.Entries.{Answer, Forecast, breachAt, forecastOf, forecastRun, noBreach, noForecast, readingOf, refusal, shown, startOf, written}
+use Rattle.csl.specs.Run.{Fit, Raw, Run, Stepped, fit, fitOf, followed, kept, rawReading, started, step, typedReading}
+use Rattle.csl.specs.Run.{unfit}
+use Rattle.csl.specs.Table.{cellsOf, natCells, runOf, standFor, tableOf}
+use Rattle.csl.specs.Entries.{Answer, Forecast, breachAt, forecastOf, forecastRun, noBreach, noForecast, readingOf}
+use Rattle.csl.specs.Entries.{refusal, shown, startOf, written}
 use Rattle.csl.specs.Demand3.{fitting}
-use Rattle.soundness.proofs.Inversion.{from-bind, from-need, some-inj}
+use Rattle.soundness.proofs.Inversion.{some-inj}
 use Rattle.soundness.proofs.Evaluation.{HaveTy}
 use Rattle.soundness.proofs.Good.{Good, SightOk}
 use Rattle.soundness.proofs.Walks.{Fair}
 use Rattle.soundness.proofs.Activation.{activate-good}
 use Rattle.soundness.proofs.Following.{ReadingOk, follow-good}
 use Rattle.soundness.proofs.Forecasts.{ForecastOk, forecast-ok}
-use Rattle.soundness.proofs.RoundTrip.{len-cells, len-typed}
-use Rattle.soundness.proofs.Readings.{reading-ok, values-typed}
+use Rattle.soundness.proofs.Readings.{reading-ok}
 use Rattle.soundness.proofs.Runs.{Since, fit-cases, isFair, reading-is, runAt, start-is, stepped}
-use Rattle.soundness.proofs.ReadBack.{runOf-good, table-back, values-are}
+use Rattle.soundness.proofs.ReadBack.{runOf-good, table-back}
 use Rattle.cells.specs.Reduce.{Reduced}
 use Rattle.cells.specs.Reduce as cells
 use Rattle.cells.specs.Across as table
 use Rattle.bridge.proofs.Evaluate.{nothing}
 use Rattle.bridge.proofs.Shows.{Shows}
-use Rattle.bridge.proofs.Reduce.{activate-shows, then-shows}
+use Rattle.bridge.proofs.Reduce.{activate-shows}
 use Rattle.bridge.proofs.Across.{FoundIs, follow-across, forecast-across, sightsOf}
 use Rattle.bridge.proofs.Refusals.{answer, forecast-on}
 use Rattle.bridge.proofs.Tables.{reducedTable, table-shows, tooMany-shows, unitsIn}
@@ -47,11 +48,15 @@ use Rattle.bridge.proofs.Tables.{reducedTable, table-shows, tooMany-sho
 unfoldable pub keptCells : ℕ → List ℤ → Reduced → Answer
 keptCells now us x = cond (ltb 128 (unitsIn x)) (answer 11 us) (answer 0 (reducedTable now x))
 
-kept-shows : (ag : Agreement) (W : ℕ → Type 0) (P : List ℕ) (before : Run) (us : List ℤ) (now : ℕ) (o : Outcome) (x : Reduced) → Good ag W P o → Shows o x → written us (kept before (runAt now o)) ≡ keptCells now us x
+kept-shows : (ag : Agreement) (W : ℕ → Type 0) (P : List ℕ) (before : Run) (us : List ℤ) (now : ℕ) (o : Outcome)
+    (x : Reduced) → Good ag W P o → Shows o x → written us (kept before (runAt now o)) ≡ keptCells now us x
 unfolding written refusal kept keptCells
-kept-shows ag W P before us now o x g h = ap (λ b. written us (elim b [ true ↦ stepped 11 before | false ↦ stepped 0 (runAt now o) ])) (tooMany-shows ag W P o x g h) ∙ go (ltb 128 (unitsIn x))
+kept-shows ag W P before us now o x g h = ap
+    (λ b. written us (elim b [ true ↦ stepped 11 before | false ↦ stepped 0 (runAt now o) ]))
+    (tooMany-shows ag W P o x g h) ∙ go (ltb 128 (unitsIn x))
   where
-    go : (b : Bool) → written us (elim b [ true ↦ stepped 11 before | false ↦ stepped 0 (runAt now o) ]) ≡ cond b (answer 11 us) (answer 0 (reducedTable now x))
+    go : (b : Bool) → written us (elim b [ true ↦ stepped 11 before | false ↦ stepped 0 (runAt now o) ]) ≡ cond b
+        (answer 11 us) (answer 0 (reducedTable now x))
     go true = refl
     go false = ap (answer 0) (table-shows ag W P now o x g h)
 
@@ -61,7 +66,8 @@ foretold cells.done = noBreach
 foretold (cells.breach t b) = breachAt t b
 foretold (cells.running us) = noForecast
 
-foretold-shows : (ag : Agreement) (mains : List ℕ) (o : Outcome) (x : Reduced) → ForecastOk ag mains o → Shows o x → (shown o ≡ foretold x) × ((us : List ℤ) → x ≡ cells.running us → ⊥)
+foretold-shows : (ag : Agreement) (mains : List ℕ) (o : Outcome) (x : Reduced) → ForecastOk ag mains o → Shows o x
+    → (shown o ≡ foretold x) × ((us : List ℤ) → x ≡ cells.running us → ⊥)
 unfolding ForecastOk Shows shown foretold
 foretold-shows ag mains done x f h = rw h (refl, λ us e. let z : _≡_ {A = ℕ} 0 1 = cc in omega arith)
 foretold-shows ag mains (breach t ps) x f h = rw h (refl, λ us e. let z : _≡_ {A = ℕ} 0 1 = cc in omega arith)
@@ -73,7 +79,8 @@ same-one e = cc
 
 -- ---- a reading that fits, or not
 module _ (a : Agreement) (q : Run) (r : List ℕ) where
-  step-by : (x : Fit) → fitOf a (q .lastTime) r ≡ x → step a q r ≡ (elim x [ unfit n ↦ stepped n q | fit d ↦ followed a q d ])
+  step-by : (x : Fit) → fitOf a (q .lastTime) r ≡ x
+      → step a q r ≡ (elim x [ unfit n ↦ stepped n q | fit d ↦ followed a q d ])
   unfolding step
   step-by x e = ap (λ x. elim x [ unfit n ↦ stepped n q | fit d ↦ followed a q d ]) e
 
@@ -99,30 +106,17 @@ module _ (a : Agreement) (q : Run) (r : List ℕ) where
   step-ten d f lt = fit-cases a (q .lastTime) r
       (λ n w f′ e. nothing (sym f′ ∙ f))
       (λ d′ f′ lt′ e. step-by (unfit 10) e)
-      (λ w d′ e₁ e₂ f′ le e. let t : d′ .time ≡ d .time = ap (λ x. x .time) (some-inj (sym f′ ∙ f)) in absurd (omega arith))
+      (λ w d′ e₁ e₂ f′ le e. let t : d′ .time ≡ d .time = ap (λ x. x .time) (some-inj (sym f′ ∙ f)) in
+      absurd (omega arith))
 
   -- one that fits and is not earlier is followed
-  step-fits : (d : Reading) → fitting a r ≡ some d → q .lastTime ≤ d .time → ReadingOk a d × (step a q r ≡ followed a q d)
+  step-fits : (d : Reading) → fitting a r ≡ some d → q .lastTime ≤ d .time → ReadingOk a d
+      × (step a q r ≡ followed a q d)
   step-fits d f le = fit-cases a (q .lastTime) r
       (λ n w f′ e. nothing (sym f′ ∙ f))
       (λ d′ f′ lt e. let t : d′ .time ≡ d .time = ap (λ x. x .time) (some-inj (sym f′ ∙ f)) in absurd (omega arith))
-      (λ w d′ e₁ e₂ f′ le′ e. let t : d′ ≡ d = some-inj (sym f′ ∙ f) in (subst (ReadingOk a) t ((reading-ok a w d′ e₂) .0), step-by (fit d) (e ∙ ap fit t)))
-
--- a typed reading's cells are its bytes' numbers
-pub reading-cells : (a : Agreement) (w : Raw) (d : Reading) → typedReading a w ≡ some d → (d .time ≡ w .time) × (d .type ≡ w .type) × (cellsOf (d .values) ≡ w .numbers)
-unfolding typedReading
-reading-cells a w d e =
-    from-bind (valuesWanted a (w .type)) _ d e λ ts a₁ b₁.
-    from-need (eqb (length ts) (length (w .numbers))) _ d b₁ λ t b₂.
-    from-bind (valuesOf (a .parties) ts (w .numbers)) _ d b₂ λ vs a₃ b₃.
-    let is = values-are (a .parties) ts (w .numbers) vs a₃ in
-    let count = ap length is ∙ length-append (cellsOf (vs .0)) (vs .1) in
-    let typed = len-cells (vs .0) ∙ len-typed (a .parties) ts (vs .0) (values-typed (a .parties) ts (w .numbers) vs a₃) in
-    (ap (λ x. x .time) (sym (some-inj b₃)), ap (λ x. x .type) (sym (some-inj b₃)), ap (λ x. cellsOf (x .values)) (sym (some-inj b₃)) ∙ alone (cellsOf (vs .0)) (vs .1) (w .numbers) is (omega (arith, count, typed, eqb→eq (length ts) (length (w .numbers)) t)))
-  where
-    alone : (xs ys zs : List ℤ) → zs ≡ xs ++ ys → length ys ≡ 0 → xs ≡ zs
-    alone xs [] zs e l = sym (append-nil xs) ∙ sym e
-    alone xs (y ∷ ys) zs e l = absurd (omega arith)
+      (λ w d′ e₁ e₂ f′ le′ e. let t : d′ ≡ d = some-inj (sym f′ ∙ f) in
+      (subst (ReadingOk a) t ((reading-ok a w d′ e₂) .0), step-by (fit d) (e ∙ ap fit t)))
 
 -- ---- an accepted agreement
 module _ (s mains : List ℕ) (ck : checked s ≡ accepted (agreementOf s) mains) where
@@ -137,38 +131,24 @@ module _ (s mains : List ℕ) (ck : checked s ≡ accepted (agreementOf s) mains
   no-sight = record { count = refl; fewParams = omega arith; range = tt; values = tt }
 
   -- ---- the state, from the table's head
-  pub from-run : {C : Type 0} (us : List ℤ) (q : Run) → length us ≡ 3080 → runOf ag mains us ≡ some q
-      → ((now : ℕ) (res : Residue) → getD us 0 (pos 0) ≡ pos 1 → getD us 1 (pos 0) ≡ pos now → getD us 4 (pos 0) ≡ pos (units res) → runOf ag mains us ≡ some (runAt now (running res)) → C)
-      → ((now : ℕ) → getD us 0 (pos 0) ≡ pos 2 → getD us 1 (pos 0) ≡ pos now → runOf ag mains us ≡ some (runAt now done) → C)
-      → ((now t : ℕ) (ps : List ℕ) → getD us 0 (pos 0) ≡ pos 3 → getD us 1 (pos 0) ≡ pos now → getD us 2 (pos 0) ≡ pos t → getD us 3 (pos 0) ≡ pos (bitsOf ps) → runOf ag mains us ≡ some (runAt now (breach t ps)) → C) → C
-  unfolding tableOf padded headCells natCells Good
-  from-run {C = C} us q l e k₁ k₂ k₃ = go (q .lastTime) (q .outcome) e
-    where
-      at : (now : ℕ) (o : Outcome) → runOf ag mains us ≡ some (runAt now o) → (i : ℕ) → getD us i (pos 0) ≡ getD (tableOf (runAt now o)) i (pos 0)
-      at now o e i = ap (λ t. getD t i (pos 0)) (sym (table-back ag mains us (runAt now o) e l))
-
-      go : (now : ℕ) (o : Outcome) → runOf ag mains us ≡ some (runAt now o) → C
-      go now (running res) e = k₁ now res (at now (running res) e 0) (at now (running res) e 1) (at now (running res) e 4) e
-      go now done e = k₂ now (at now done e 0) (at now done e 1) e
-      go now (breach t ps) e = k₃ now t ps (at now (breach t ps) e 0) (at now (breach t ps) e 1) (at now (breach t ps) e 2) (at now (breach t ps) e 3) e
-      go now stuck e = absurd ((runOf-good ag mains us (runAt now stuck) fair e) .good)
-
   -- ---- start
-  start-shows : (us : List ℤ) (x : Reduced) → length us ≡ 3080 → Shows (activate (ag .templates) (ag .main) (record { params = []; values = [] }) (ag .start)) x → startOf s us ≡ keptCells (ag .start) us x
+  start-shows : (us : List ℤ) (x : Reduced) → length us ≡ 3080
+      → Shows (activate (ag .templates) (ag .main) (record { params = []; values = [] }) (ag .start)) x
+      → startOf s us ≡ keptCells (ag .start) us x
   unfolding started
   start-shows us x l h =
       start-is s ag mains ck us l
-      ∙ kept-shows ag (λ t. Unit {0}) (standFor [] mains) _ us (ag .start) (activate (ag .templates) (ag .main) (record { params = []; values = [] }) (ag .start)) x
-      (activate-good ag mains fair (λ t. Unit {0}) (ag .main) 0 [] (record { params = []; values = [] }) (ag .start) mains no-sight tt (fair .main) (fair .mainPlaced)) h
+      ∙ kept-shows ag (λ t. Unit {0}) (standFor [] mains) _ us (ag .start)
+      (activate (ag .templates) (ag .main) (record { params = []; values = [] }) (ag .start)) x
+      (activate-good ag mains fair (λ t. Unit {0}) (ag .main) 0 [] (record { params = []; values = [] }) (ag .start)
+      mains no-sight tt (fair .main) (fair .mainPlaced)) h
 
-  -- "the main clause is activated at the start time"
-  pub start-activate : (us : List ℤ) → length us ≡ 3080 → startOf s us ≡ keptCells (ag .start) us (cells.activate (ag .templates) (mainOf s) [] [] (ag .start))
-  unfolding agreementOf natCells cellsOf
-  start-activate us l = start-shows us _ l (then-shows ag mains fair (ag .main) 0 [] (record { params = []; values = [] }) (ag .start) mains no-sight (fair .main) (fair .mainPlaced))
-
-  pub start-reduce : (us : List ℤ) → length us ≡ 3080 → startOf s us ≡ keptCells (ag .start) us (cells.reduce cells.activating (ag .templates) (mainOf s) [] [] (ag .start))
+  pub start-reduce : (us : List ℤ) → length us ≡ 3080
+      → startOf s us ≡ keptCells (ag .start) us
+      (cells.reduce cells.activating (ag .templates) (mainOf s) [] [] (ag .start))
   unfolding agreementOf natCells cellsOf activate
-  start-reduce us l = start-shows us _ l (activate-shows ag mains fair (ag .main) 0 [] (record { params = []; values = [] }) (ag .start) mains no-sight (fair .main) (fair .mainPlaced))
+  start-reduce us l = start-shows us _ l (activate-shows ag mains fair (ag .main) 0 []
+      (record { params = []; values = [] }) (ag .start) mains no-sight (fair .main) (fair .mainPlaced))
 
   module _ (us : List ℤ) (l : length us ≡ 3080) where
     -- ---- a reading that does not fit, or is early
@@ -190,24 +170,32 @@ module _ (s mains : List ℕ) (ck : checked s ≡ accepted (agreementOf s) mains
 
     -- ---- one that fits and is not early
     module _ (now : ℕ) (r : List ℕ) (d : Reading) (f : fitting ag r ≡ some d) (le : now ≤ d .time) where
-      pub reading-done : runOf ag mains us ≡ some (runAt now done) → readingOf s us r ≡ answer 0 (reducedTable (d .time) cells.done)
+      pub reading-done : runOf ag mains us ≡ some (runAt now done)
+          → readingOf s us r ≡ answer 0 (reducedTable (d .time) cells.done)
       unfolding written followed tableOf reducedTable
       reading-done is = by-step (runAt now done) is r _ ((step-fits ag (runAt now done) r d f le) .1)
 
-      pub reading-breach : (t : ℕ) (ps : List ℕ) → runOf ag mains us ≡ some (runAt now (breach t ps)) → readingOf s us r ≡ answer 0 us
+      pub reading-breach : (t : ℕ) (ps : List ℕ) → runOf ag mains us ≡ some (runAt now (breach t ps))
+          → readingOf s us r ≡ answer 0 us
       unfolding written followed
-      reading-breach t ps is = by-step (runAt now (breach t ps)) is r _ ((step-fits ag (runAt now (breach t ps)) r d f le) .1) ∙ ap (answer 0) (table-back ag mains us (runAt now (breach t ps)) is l)
+      reading-breach t ps is = by-step (runAt now (breach t ps)) is r _
+          ((step-fits ag (runAt now (breach t ps)) r d f le) .1)
+          ∙ ap (answer 0) (table-back ag mains us (runAt now (breach t ps)) is l)
 
       -- x is what the rules on cells give for all units of the table
-      pub reading-running : FoundIs s → (res : Residue) (sights : List ℕ) (x : Reduced) → runOf ag mains us ≡ some (runAt now (running res))
-          → table.across (cells.following (d .time) (d .type) (cellsOf (d .values))) s (units res) (sightsOf ag res ++ sights) (drop 8 us) ≡ x ∷ [] → readingOf s us r ≡ keptCells (d .time) us x
+      pub reading-running : FoundIs s → (res : Residue) (sights : List ℕ) (x : Reduced)
+          → runOf ag mains us ≡ some (runAt now (running res))
+          → table.across (cells.following (d .time) (d .type) (cellsOf (d .values))) s (units res)
+          (sightsOf ag res ++ sights) (drop 8 us) ≡ x ∷ [] → readingOf s us r ≡ keptCells (d .time) us x
       unfolding followed Good follow
       reading-running found res sights x is e =
           let st = step-fits ag (runAt now (running res)) r d f le in
           let g = (runOf-good ag mains us (runAt now (running res)) fair is) .good in
           let w = follow-across s mains fair found now res us l is sights d (st .0) le in
           by-step (runAt now (running res)) is r _ (st .1)
-          ∙ kept-shows ag (Since ag (d .time)) (g .0) (runAt now (running res)) us (d .time) (follow ag d res) x (follow-good ag mains fair d (st .0) now le res (g .0) (g .1)) (subst (Shows (follow ag d res)) (same-one (sym (w .only) ∙ e)) (w .shown))
+          ∙ kept-shows ag (Since ag (d .time)) (g .0) (runAt now (running res)) us (d .time) (follow ag d res) x
+          (follow-good ag mains fair d (st .0) now le res (g .0) (g .1))
+          (subst (Shows (follow ag d res)) (same-one (sym (w .only) ∙ e)) (w .shown))
 
     -- ---- the forecast
     pub forecast-done : (now : ℕ) → runOf ag mains us ≡ some (runAt now done) → forecastOf s us ≡ noBreach
@@ -215,15 +203,19 @@ module _ (s mains : List ℕ) (ck : checked s ≡ accepted (agreementOf s) mains
     forecast-done now is = forecast-on us s ag mains ck l (some (runAt now done)) is
 
     -- "A breached table gives its verdict."
-    pub forecast-breach : (now t : ℕ) (ps : List ℕ) → runOf ag mains us ≡ some (runAt now (breach t ps)) → forecastOf s us ≡ breachAt t (bitsOf ps)
+    pub forecast-breach : (now t : ℕ) (ps : List ℕ) → runOf ag mains us ≡ some (runAt now (breach t ps))
+        → forecastOf s us ≡ breachAt t (bitsOf ps)
     unfolding forecastRun shown
     forecast-breach now t ps is = forecast-on us s ag mains ck l (some (runAt now (breach t ps))) is
 
-    pub forecast-running : FoundIs s → (now : ℕ) (res : Residue) (sights : List ℕ) (x : Reduced) → runOf ag mains us ≡ some (runAt now (running res))
-        → table.across cells.forecasting s (units res) (sightsOf ag res ++ sights) (drop 8 us) ≡ x ∷ [] → (forecastOf s us ≡ foretold x) × ((vs : List ℤ) → x ≡ cells.running vs → ⊥)
+    pub forecast-running : FoundIs s → (now : ℕ) (res : Residue) (sights : List ℕ) (x : Reduced)
+        → runOf ag mains us ≡ some (runAt now (running res))
+        → table.across cells.forecasting s (units res) (sightsOf ag res ++ sights) (drop 8 us) ≡ x ∷ []
+        → (forecastOf s us ≡ foretold x) × ((vs : List ℤ) → x ≡ cells.running vs → ⊥)
     unfolding Good forecast forecastRun
     forecast-running found now res sights x is e =
         let g = (runOf-good ag mains us (runAt now (running res)) fair is) .good in
         let w = forecast-across s mains fair found now res us l is sights in
-        let t = foretold-shows ag mains (forecast ag res) x (forecast-ok ag mains fair now res (g .0) (g .1) (g .2)) (subst (Shows (forecast ag res)) (same-one (sym (w .only) ∙ e)) (w .shown)) in
+        let t = foretold-shows ag mains (forecast ag res) x (forecast-ok ag mains fair now res (g .0) (g .1) (g .2))
+        (subst (Shows (forecast ag res)) (same-one (sym (w .only) ∙ e)) (w .shown)) in
         (forecast-on us s ag mains ck l (some (runAt now (running res))) is ∙ t .0, t .1)

@@ -11,9 +11,11 @@ use lib.ListN.{getD}
 use lib.Signed.{ltZ}
 use Rattle.csl.specs.Lists.{at}
 use Rattle.csl.specs.Numbers.{bottom, calculate, eqZ, held, inRange, limit, top}
-use Rattle.csl.specs.Syntax.{Expr, Op, Ty, arithmetic, badExpr, binary, conj, equal, less, negation, number, numberLit, party, partyLit, truth, truthLit, variable}
+use Rattle.csl.specs.Syntax.{Expr, Op, Ty, arithmetic, badExpr, binary, conj, equal, less, negation, number}
+use Rattle.csl.specs.Syntax.{numberLit, party, partyLit, truth, truthLit, variable}
 use Rattle.csl.specs.Typing.{hasType, haveTypes, typeExpr}
-use Rattle.csl.specs.Values.{Val, apply, asBool, asNum, asTruth, bool, eval, evalBool, evalNum, evals, num, onBools, onNums, sameBool, sameVal, who}
+use Rattle.csl.specs.Values.{Val, apply, asBool, asNum, asTruth, bool, eval, evalBool, evalNum, evals, num, onBools}
+use Rattle.csl.specs.Values.{onNums, sameBool, sameVal, who}
 use Rattle.csl.specs.Table.{cellOf, cellsOf}
 use Rattle.soundness.proofs.Inversion.{from-bind, from-need, some-inj}
 use Rattle.soundness.proofs.Evaluation.{HasTy, HaveTy, at-typed}
@@ -131,7 +133,8 @@ apply-cell equal u v w e = same-cell u v w e
 -- ---- expressions
 module _ (ps : ℕ) (few : ps ≤ 16) (env : List Ty) (vs : List Val) (h : HaveTy ps env vs) where
   -- a typed expression's cell is the cell of its value
-  pub eval-cells : (x : Expr) (t : Ty) (v : Val) → typeExpr ps env x ≡ some t → eval vs x ≡ some v → evalCells (cellsOf vs) x ≡ cellOf v
+  pub eval-cells : (x : Expr) (t : Ty) (v : Val) → typeExpr ps env x ≡ some t → eval vs x ≡ some v
+      → evalCells (cellsOf vs) x ≡ cellOf v
   unfolding typeExpr eval evalCells cellOf
   eval-cells (numberLit z) t v ty e = from-need (inRange z) _ t ty λ b p. held-same z b ∙ ap cellOf (some-inj e)
   eval-cells (truthLit n) t v ty e = truth-lit n v e
@@ -143,7 +146,8 @@ module _ (ps : ℕ) (few : ps ≤ 16) (env : List Ty) (vs : List Val) (h : HaveT
       from-bind (typeExpr ps env x) _ t ty λ s p q.
       from-bind (eval vs x) _ v e λ u p′ q′.
       from-bind (asBool u) _ v q′ λ b p₂ r.
-      ap (λ z. cond (isTrue z) (pos 0) (pos 1)) (eval-cells x s u p p′ ∙ as-bool u b p₂) ∙ not-cell b ∙ ap cellOf (some-inj r)
+      ap (λ z. cond (isTrue z) (pos 0) (pos 1)) (eval-cells x s u p p′ ∙ as-bool u b p₂) ∙ not-cell b
+      ∙ ap cellOf (some-inj r)
   eval-cells (binary o x y) t v ty e =
       from-bind (typeExpr ps env x) _ t ty λ s p q.
       from-bind (typeExpr ps env y) _ t q λ s′ p′ q′.
@@ -153,7 +157,8 @@ module _ (ps : ℕ) (few : ps ≤ 16) (env : List Ty) (vs : List Val) (h : HaveT
   eval-cells badExpr t v ty e = nothing e
 
   -- a number's cell is the number
-  pub num-cells : (x : Expr) (u : Unit {0}) (z : ℤ) → hasType ps env x number ≡ some u → evalNum vs x ≡ some z → evalCells (cellsOf vs) x ≡ z
+  pub num-cells : (x : Expr) (u : Unit {0}) (z : ℤ) → hasType ps env x number ≡ some u → evalNum vs x ≡ some z
+      → evalCells (cellsOf vs) x ≡ z
   unfolding hasType evalNum
   num-cells x u z ty e =
       from-bind (typeExpr ps env x) _ u ty λ t p q.
@@ -161,7 +166,8 @@ module _ (ps : ℕ) (few : ps ≤ 16) (env : List Ty) (vs : List Val) (h : HaveT
       eval-cells x t v p pv ∙ as-num v z r
 
   -- a truth's cell tells it
-  pub bool-cells : (x : Expr) (u : Unit {0}) (b : Bool) → hasType ps env x truth ≡ some u → evalBool vs x ≡ some b → isTrue (evalCells (cellsOf vs) x) ≡ b
+  pub bool-cells : (x : Expr) (u : Unit {0}) (b : Bool) → hasType ps env x truth ≡ some u → evalBool vs x ≡ some b
+      → isTrue (evalCells (cellsOf vs) x) ≡ b
   unfolding hasType evalBool
   bool-cells x u b ty e =
       from-bind (typeExpr ps env x) _ u ty λ t p q.
@@ -169,7 +175,8 @@ module _ (ps : ℕ) (few : ps ≤ 16) (env : List Ty) (vs : List Val) (h : HaveT
       ap isTrue (eval-cells x t v p pv ∙ as-bool v b r) ∙ is-true b
 
   -- the cells of an instance's values
-  pub evals-cells : (xs : List Expr) (ts : List Ty) (u : Unit {0}) (ws : List Val) → haveTypes ps env xs ts ≡ some u → evals vs xs ≡ some ws → evalsCells (cellsOf vs) xs ≡ cellsOf ws
+  pub evals-cells : (xs : List Expr) (ts : List Ty) (u : Unit {0}) (ws : List Val) → haveTypes ps env xs ts ≡ some u
+      → evals vs xs ≡ some ws → evalsCells (cellsOf vs) xs ≡ cellsOf ws
   unfolding haveTypes hasType evals evalsCells cellsOf
   evals-cells [] [] u ws ty e = ap cellsOf (some-inj e)
   evals-cells [] (t ∷ ts) u ws ty e = nothing ty

@@ -17,7 +17,8 @@ use Rattle.csl.specs.Widths.{narrowAll}
 use Rattle.csl.specs.Check.{Checked, accepted, checkAnswer, checkDecoded, checkOf, checkTyped, checked, refused}
 use Rattle.csl.specs.Run.{Run, started, step}
 use Rattle.csl.specs.Table.{runOf}
-use Rattle.csl.specs.Entries.{Answer, Forecast, forecastOf, forecastRun, isTable, readingOf, refusal, refusedForecast, shown, startOf, written}
+use Rattle.csl.specs.Entries.{Answer, Forecast, forecastOf, forecastRun, isTable, readingOf, refusal, refusedForecast}
+use Rattle.csl.specs.Entries.{shown, startOf, written}
 use Rattle.soundness.proofs.Decoding.{decode-is}
 use Rattle.soundness.proofs.Checked.{passed}
 use Rattle.soundness.proofs.Runs.{isTable-is}
@@ -39,7 +40,11 @@ numbered s = by-size (sized s)
     by-width a ps true = tt
     by-width a ps false = omega arith
 
-    by-guard : (a : Agreement) (ps : List ℕ) (b : Bool) → Numbered (elim b [ false ↦ refused 4 | true ↦ elim (narrowAll a) [ false ↦ refused 5 | true ↦ accepted a ps ] ])
+    by-guard : (a : Agreement) (ps : List ℕ) (b : Bool)
+        → Numbered (elim b [
+          | false ↦ refused 4
+          | true ↦ elim (narrowAll a) [ false ↦ refused 5 | true ↦ accepted a ps ]
+        ])
     by-guard a ps true = by-width a ps (narrowAll a)
     by-guard a ps false = omega arith
 
@@ -51,20 +56,26 @@ numbered s = by-size (sized s)
     by-form (some a) = by-type a (typed a)
     by-form none = omega arith
 
-    by-size : (b : Bool) → Numbered (elim b [ false ↦ refused 1 | true ↦ elim (decode s) [ none ↦ refused 2 | some a ↦ checkDecoded a ] ])
+    by-size : (b : Bool) → Numbered (elim b
+        [ false ↦ refused 1 | true ↦ elim (decode s) [ none ↦ refused 2 | some a ↦ checkDecoded a ] ])
     by-size true = by-form (decode s)
     by-size false = omega arith
 
 -- refused with a number, or accepted, and then the agreement is what the bytes decode to
-pub from-check : {C : Type 0} (s : List ℕ) → ((n : ℕ) → 0 < n → checked s ≡ refused n → checkOf s ≡ record { number = n; parties = 0 } → C) → ((mains : List ℕ) → checked s ≡ accepted (agreementOf s) mains → checkOf s ≡ record { number = 0; parties = bitsOf mains } → C) → C
+pub from-check : {C : Type 0} (s : List ℕ)
+    → ((n : ℕ) → 0 < n → checked s ≡ refused n → checkOf s ≡ record { number = n; parties = 0 } → C)
+    → ((mains : List ℕ) → checked s ≡ accepted (agreementOf s) mains
+    → checkOf s ≡ record { number = 0; parties = bitsOf mains } → C) → C
 unfolding checkOf checkAnswer Numbered
 from-check {C = C} s k₁ k₂ = go (checked s) refl (numbered s)
   where
     go : (c : Checked) → checked s ≡ c → Numbered (checked s) → C
     go (refused n) e h = k₁ n (subst Numbered e h) e (ap checkAnswer e)
-    go (accepted a ps) e h = decode-is s a ((passed s a ps e) .decodes) λ w same. k₂ ps (e ∙ ap (λ a. accepted a ps) (sym same)) (ap checkAnswer e)
+    go (accepted a ps) e h = decode-is s a ((passed s a ps e) .decodes) λ w same. k₂ ps
+        (e ∙ ap (λ a. accepted a ps) (sym same)) (ap checkAnswer e)
 
--- ---- an entry asks what check says, then the table's length; A is what it answers, `on` for a table of an accepted agreement
+-- ---- an entry asks what check says, then the table's length; A is what it answers, `on` for a table of an accepted
+-- agreement
 module _ {A : Type 0} (us : List ℤ) (refuse : ℕ → A) (on : Agreement → List ℕ → A) where
   asked : Checked → A
   asked c = elim c [ refused n ↦ refuse n | accepted a ps ↦ elim (isTable us) [ false ↦ refuse 6 | true ↦ on a ps ] ]
@@ -128,11 +139,14 @@ module _ (us : List ℤ) where
     module _ (l : length us ≡ 3080) where
       pub reading-seven : (r : List ℕ) → runOf a mains us ≡ none → readingOf s us r ≡ answer 7 us
       unfolding readingOf refusal asked onReading refuse
-      reading-seven r e = asked-on us refuse (onReading r) s a mains ck l ∙ ap (λ o. elim o [ none ↦ answer 7 us | some q ↦ written us (step a q r) ]) e
+      reading-seven r e = asked-on us refuse (onReading r) s a mains ck l
+          ∙ ap (λ o. elim o [ none ↦ answer 7 us | some q ↦ written us (step a q r) ]) e
 
-      pub forecast-on : (o : Option Run) → runOf a mains us ≡ o → forecastOf s us ≡ (elim o [ none ↦ refusedForecast 7 | some q ↦ shown (forecastRun a q) ])
+      pub forecast-on : (o : Option Run) → runOf a mains us ≡ o
+          → forecastOf s us ≡ (elim o [ none ↦ refusedForecast 7 | some q ↦ shown (forecastRun a q) ])
       unfolding forecastOf asked onForecast
-      forecast-on o e = asked-on us refusedForecast onForecast s a mains ck l ∙ ap (λ o. elim o [ none ↦ refusedForecast 7 | some q ↦ shown (forecastRun a q) ]) e
+      forecast-on o e = asked-on us refusedForecast onForecast s a mains ck l
+          ∙ ap (λ o. elim o [ none ↦ refusedForecast 7 | some q ↦ shown (forecastRun a q) ]) e
 
       pub forecast-seven : runOf a mains us ≡ none → forecastOf s us ≡ refusedForecast 7
       forecast-seven e = forecast-on none e

@@ -13,7 +13,8 @@ use Rattle.csl.specs.Lists.{_>>=_, at}
 use Rattle.csl.specs.Parties.{bit, bitsFrom, bitsOf, member, sameSet}
 use Rattle.csl.specs.Syntax.{Agreement, Join, and, or}
 use Rattle.csl.specs.Values.{Val}
-use Rattle.csl.specs.Outcomes.{Outcome, Sight, Sort, breach, done, earlier, joinBoth, joinEither, joined, later, orStuck, running, stuck}
+use Rattle.csl.specs.Outcomes.{Outcome, Sight, Sort, breach, done, earlier, joinBoth, joinEither, joined, later}
+use Rattle.csl.specs.Outcomes.{orStuck, running, stuck}
 use Rattle.csl.specs.Rules.{blamed, blamedAll}
 use Rattle.csl.specs.Table.{cellOf, cellsOf, natCells, residueCells, sortNumber, unitCells}
 use Rattle.csl.specs.Demand3.{NotStuck}
@@ -22,14 +23,16 @@ use Rattle.soundness.proofs.Good.{Good}
 use Rattle.cells.specs.Reduce as cells
 use Rattle.bridge.proofs.Evaluate.{nothing}
 
--- fulfilled as fulfilled, a breach with its parties by bit, a residue as the table holds it; nothing shows a stuck outcome
+-- fulfilled as fulfilled, a breach with its parties by bit, a residue as the table holds it; nothing shows a stuck
+-- outcome
 unfoldable pub Shows : Outcome → cells.Reduced → Type 0
 Shows done r = r ≡ cells.done
 Shows (breach t ps) r = r ≡ cells.breach t (bitsOf ps)
 Shows (running res) r = r ≡ cells.running (residueCells res)
 Shows stuck r = ⊥
 
-pub shows-bind : {A : Type 0} (m : Option A) (f : A → Option Outcome) (x : A) (r : cells.Reduced) → m ≡ some x → Shows (orStuck (f x)) r → Shows (orStuck (m >>= f)) r
+pub shows-bind : {A : Type 0} (m : Option A) (f : A → Option Outcome) (x : A) (r : cells.Reduced) → m ≡ some x
+    → Shows (orStuck (f x)) r → Shows (orStuck (m >>= f)) r
 shows-bind m f x r e s = subst (λ o. Shows (orStuck o) r) (sym (some-bind m f x e)) s
 
 pub good-moves : (ag : Agreement) (W : ℕ → Type 0) (P : List ℕ) (o : Outcome) → Good ag W P o → NotStuck o
@@ -60,7 +63,8 @@ digit false false r = omega arith
 or-digits : (x y : Bool) (m n : ℕ) → bitOr (bit x + 2 * m) (bit y + 2 * n) ≡ bit (x || y) + 2 * bitOr m n
 or-digits x y m n =
     or-step (bit x + 2 * m) (bit y + 2 * n)
-    ∙ ap₂ (λ (r c : ℕ). r * 2 + c) (ap₂ bitOr (half-digit x m) (half-digit y n)) (ap₂ max (low-digit x m) (low-digit y n))
+    ∙ ap₂ (λ (r c : ℕ). r * 2 + c) (ap₂ bitOr (half-digit x m) (half-digit y n))
+    (ap₂ max (low-digit x m) (low-digit y n))
     ∙ digit x y (bitOr m n)
 
 member-++ : (i : ℕ) (ps qs : List ℕ) → member i (ps ++ qs) ≡ (member i ps || member i qs)
@@ -68,7 +72,8 @@ unfolding member
 member-++ i [] qs = refl
 member-++ i (p ∷ ps) qs = go (eqb i p) (member-++ i ps qs)
   where
-    go : (b : Bool) → member i (ps ++ qs) ≡ (member i ps || member i qs) → (b || member i (ps ++ qs)) ≡ ((b || member i ps) || member i qs)
+    go : (b : Bool) → member i (ps ++ qs) ≡ (member i ps || member i qs)
+        → (b || member i (ps ++ qs)) ≡ ((b || member i ps) || member i qs)
     go true e = refl
     go false e = e
 
@@ -89,24 +94,39 @@ earlier-shows : (t u : ℕ) (ps qs : List ℕ) → Shows (earlier t ps u qs) (ce
 unfolding earlier cells.earlier Shows
 earlier-shows t u ps qs = go (ltb t u) (ltb u t)
   where
-    go : (x y : Bool) → Shows (elim x [ true ↦ breach t ps | false ↦ elim y [ true ↦ breach u qs | false ↦ breach t (ps ++ qs) ] ]) (cond x (cells.breach t (bitsOf ps)) (cond y (cells.breach u (bitsOf qs)) (cells.breach t (bitOr (bitsOf ps) (bitsOf qs)))))
+    go : (x y : Bool) → Shows (elim x [
+      | true ↦ breach t ps
+      | false ↦ elim y [ true ↦ breach u qs | false ↦ breach t (ps ++ qs) ]
+    ])
+        (cond x (cells.breach t (bitsOf ps)) (cond y (cells.breach u (bitsOf qs))
+        (cells.breach t (bitOr (bitsOf ps) (bitsOf qs)))))
     go true y = refl
     go false true = refl
     go false false = ap (cells.breach t) (sym (bits-or ps qs))
 
-later-shows : (t u : ℕ) (ps qs : List ℕ) → NotStuck (later t ps u qs) → Shows (later t ps u qs) (cells.later t (bitsOf ps) u (bitsOf qs))
+later-shows : (t u : ℕ) (ps qs : List ℕ) → NotStuck (later t ps u qs)
+    → Shows (later t ps u qs) (cells.later t (bitsOf ps) u (bitsOf qs))
 unfolding later cells.later Shows NotStuck
 later-shows t u ps qs = go (ltb t u) (ltb u t) (sameSet ps qs)
   where
-    go : (x y z : Bool) → NotStuck (elim x [ true ↦ breach u qs | false ↦ elim y [ true ↦ breach t ps | false ↦ elim z [ true ↦ breach t ps | false ↦ stuck ] ] ])
-        → Shows (elim x [ true ↦ breach u qs | false ↦ elim y [ true ↦ breach t ps | false ↦ elim z [ true ↦ breach t ps | false ↦ stuck ] ] ]) (cond x (cells.breach u (bitsOf qs)) (cells.breach t (bitsOf ps)))
+    go : (x y z : Bool) → NotStuck (elim x [
+      | true ↦ breach u qs
+      | false ↦ elim y [ true ↦ breach t ps | false ↦ elim z [ true ↦ breach t ps | false ↦ stuck ] ]
+    ])
+        → Shows (elim x [
+          | true ↦ breach u qs
+          | false ↦ elim y
+              [ true ↦ breach t ps | false ↦ elim z [ true ↦ breach t ps | false ↦ stuck ] ]
+        ])
+        (cond x (cells.breach u (bitsOf qs)) (cells.breach t (bitsOf ps)))
     go true y z n = refl
     go false true z n = refl
     go false false true n = refl
     go false false false n = absurd n
 
 -- what shows two sides, joined on cells, shows the two joined
-pub joined-shows : (j : Join) (l r : Outcome) (l′ r′ : cells.Reduced) → NotStuck (joined j l r) → Shows l l′ → Shows r r′ → Shows (joined j l r) (cells.joined j l′ r′)
+pub joined-shows : (j : Join) (l r : Outcome) (l′ r′ : cells.Reduced) → NotStuck (joined j l r) → Shows l l′
+    → Shows r r′ → Shows (joined j l r) (cells.joined j l′ r′)
 unfolding joined joinBoth joinEither NotStuck Shows cells.joined cells.joinBoth cells.joinEither residueCells
 joined-shows and done r l′ r′ n p q = rw p q
 joined-shows and (breach t ps) done l′ r′ n p q = rw (p, q) refl
@@ -144,15 +164,18 @@ pub blamed-cell : (params : List ℕ) (b p : ℕ) → blamed params b ≡ some p
 unfolding blamed cells.blamedCell
 blamed-cell params b p = go (ltb b 128)
   where
-    go : (x : Bool) → (elim x [ true ↦ some b | false ↦ at params (b - 128) ]) ≡ some p → cond x (pos b) (getD (natCells params) (b - 128) (pos 0)) ≡ pos p
+    go : (x : Bool) → (elim x [ true ↦ some b | false ↦ at params (b - 128) ]) ≡ some p
+        → cond x (pos b) (getD (natCells params) (b - 128) (pos 0)) ≡ pos p
     go true e = ap pos (some-inj e)
     go false e = at-natCell params (b - 128) p e
 
-pub blame-bits : (params : List ℕ) (b p : ℕ) → blamed params b ≡ some p → cells.blameBits (natCells params) b ≡ bitsOf (p ∷ [])
+pub blame-bits : (params : List ℕ) (b p : ℕ) → blamed params b ≡ some p
+    → cells.blameBits (natCells params) b ≡ bitsOf (p ∷ [])
 unfolding cells.blameBits cells.partyCell
 blame-bits params b p e = ap (λ z. bitsOf (cells.partyCell z ∷ [])) (blamed-cell params b p e)
 
-pub blamed-cells : (params bs qs : List ℕ) → blamedAll params bs ≡ some qs → cells.blamedCells (natCells params) bs ≡ natCells qs
+pub blamed-cells : (params bs qs : List ℕ) → blamedAll params bs ≡ some qs
+    → cells.blamedCells (natCells params) bs ≡ natCells qs
 unfolding blamedAll cells.blamedCells natCells
 blamed-cells params [] qs e = ap natCells (some-inj e)
 blamed-cells params (b ∷ bs) qs e =
@@ -162,7 +185,8 @@ blamed-cells params (b ∷ bs) qs e =
 
 -- ---- units
 -- a waiting unit on cells is the table's unit
-pub unit-cells : (s : Sort) (p a : ℕ) (e : Sight) → cells.unitOf (sortNumber s) p a (natCells (e .params)) (cellsOf (e .values)) ≡ unitCells s p a e
+pub unit-cells : (s : Sort) (p a : ℕ) (e : Sight)
+    → cells.unitOf (sortNumber s) p a (natCells (e .params)) (cellsOf (e .values)) ≡ unitCells s p a e
 unfolding cells.unitOf unitCells
 unit-cells s p a e = refl
 

@@ -38,11 +38,13 @@ module _ (ag : Agreement) (W : ℕ → Type 0) where
 
   module _ (P : List ℕ) where
     -- a good outcome's table is the table of what shows it
-    pub table-shows : (now : ℕ) (o : Outcome) (x : Reduced) → Good ag W P o → Shows o x → tableOf (runAt now o) ≡ reducedTable now x
+    pub table-shows : (now : ℕ) (o : Outcome) (x : Reduced) → Good ag W P o → Shows o x
+        → tableOf (runAt now o) ≡ reducedTable now x
     unfolding Good Shows tableOf reducedTable
     table-shows now done x g h = rw h refl
     table-shows now (breach t ps) x g h = rw h refl
-    table-shows now (running res) x g h = rw h (ap (λ n. padded 3080 (headCells 1 now 0 0 n ++ residueCells res)) (units-are res (g .0) (g .1)))
+    table-shows now (running res) x g h = rw h
+        (ap (λ n. padded 3080 (headCells 1 now 0 0 n ++ residueCells res)) (units-are res (g .0) (g .1)))
     table-shows now stuck x g h = absurd h
 
     pub needed-shows : (o : Outcome) (x : Reduced) → Good ag W P o → Shows o x → needed o ≡ unitsIn x

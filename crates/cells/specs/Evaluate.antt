@@ -6,7 +6,8 @@ use lib.IntN.{ℤ, pos}
 use lib.ListN.{getD}
 use lib.Signed.{ltZ}
 use Rattle.csl.specs.Numbers.{held, calculate, eqZ}
-use Rattle.csl.specs.Syntax.{Op, arithmetic, conj, less, equal, Expr, numberLit, truthLit, partyLit, variable, negation, binary, badExpr}
+use Rattle.csl.specs.Syntax.{Op, arithmetic, conj, less, equal, Expr, numberLit, truthLit, partyLit, variable}
+use Rattle.csl.specs.Syntax.{negation, binary, badExpr}
 
 unfoldable pub truthCell : Bool → ℤ
 truthCell true = pos 1

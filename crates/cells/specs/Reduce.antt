@@ -1,4 +1,5 @@
--- The rules on cells: activating, following and forecasting a clause, the residue being the cells that the table holds for it.
+-- The rules on cells: activating, following and forecasting a clause, the residue being the cells that the table
+-- holds for it.
 -- Total, with no stuck outcome; on a typed clause it is csl's rules: `bridge` proves it (proofs/Reduce).
 use mathlib.Core.Bool.{Bool, true, false, cond, not, _&&_}
 use mathlib.Core.List.{List, [], _∷_, _++_}
@@ -12,7 +13,8 @@ use lib.Signed.{ltZ}
 use Rattle.csl.specs.Lists.{at}
 use Rattle.csl.specs.Numbers.{laterOf}
 use Rattle.csl.specs.Parties.{bitsOf}
-use Rattle.csl.specs.Syntax.{Join, and, or, Wait, Clause, fulfilled, obligation, choice, if, join, instance, badClause, Template}
+use Rattle.csl.specs.Syntax.{Join, and, or, Wait, Clause, fulfilled, obligation, choice, if, join, instance}
+use Rattle.csl.specs.Syntax.{badClause, Template}
 use Rattle.csl.specs.Table.{padded, joinCells}
 use Rattle.cells.specs.Evaluate.{evalCells, evalsCells, isTrue}
 
@@ -84,7 +86,8 @@ lastOf vs a w = firstOf vs a w +ℤ evalCells vs (w .within)
 
 -- the reading is wanted, not early, and `where` is true
 unfoldable pub takes : List ℤ → ℕ → Wait → ℕ → ℕ → List ℤ → Bool
-takes vs a w t k rs = eqb (w .wanted) k && not (ltZ (pos t) (firstOf vs a w)) && isTrue (evalCells (vs ++ rs) (w .condition))
+takes vs a w t k rs = eqb (w .wanted) k && not (ltZ (pos t) (firstOf vs a w))
+    && isTrue (evalCells (vs ++ rs) (w .condition))
 
 -- "At most 16 are in sight."
 unfoldable pub thenValues : List ℤ → List ℤ → ℤ → List ℤ
@@ -105,7 +108,8 @@ onTaken activating thenIs t ps vs a w = done
 onTaken forecasting thenIs t ps vs a w = done
 onTaken (following u k rs) thenIs t ps vs a w = thenIs t ps (thenValues vs rs (lastOf vs a w -ℤ pos u)) u
 
-module _ (m : Mode) (thenIs : Clause → List ℤ → List ℤ → ℕ → Reduced) (instantiate : ℕ → List ℤ → List ℤ → ℕ → Reduced) where
+module _ (m : Mode) (thenIs : Clause → List ℤ → List ℤ → ℕ → Reduced)
+    (instantiate : ℕ → List ℤ → List ℤ → ℕ → Reduced) where
   unfoldable pub walk : Clause → List ℤ → List ℤ → ℕ → Reduced
   walk fulfilled ps vs a = done
   walk (obligation b w t) ps vs a = elim (fate m vs a w) [
@@ -134,7 +138,8 @@ module _ (m : Mode) (thenIs : Clause → List ℤ → List ℤ → ℕ → Reduc
 
 -- a clause outside the templates, or in some `then`, may name any template
 unfoldable pub activate : List Template → Clause → List ℤ → List ℤ → ℕ → Reduced
-activate ts c ps vs a = walk activating (λ t qs us u. done) (unfoldBelow activating (λ t qs us u. done) ts (length ts)) c ps vs a
+activate ts c ps vs a = walk activating (λ t qs us u. done)
+    (unfoldBelow activating (λ t qs us u. done) ts (length ts)) c ps vs a
 
 unfoldable pub reduce : Mode → List Template → Clause → List ℤ → List ℤ → ℕ → Reduced
 reduce m ts c ps vs a = walk m (activate ts) (unfoldBelow m (activate ts) ts (length ts)) c ps vs a

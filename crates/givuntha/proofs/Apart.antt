@@ -1,12 +1,12 @@
 -- A caller in C can tell every two forecasts apart, whatever agreements and tables are lent.
-use mathlib.Core.Path.{_≡_, refl, sym, ap, ap₂}
+use mathlib.Core.Path.{_≡_, refl, ap, ap₂}
 use mathlib.Core.List.{List}
-use Prim.Native.Nat.{ℕ, _<_}
+use Prim.Native.Nat.{ℕ}
 use native.Mathlib.Omega.{arith}
 use lib.IntN.{ℤ}
 use Rattle.csl.specs.Entries.{Forecast, refusedForecast, noBreach, breachAt, noForecast, forecastOf}
 use Rattle.monitor.proofs.Apart.{Plain, forecast-plain}
-use Rattle.givuntha.specs.Numbers.{ForecastNumbers, forecastNumbers}
+use Rattle.givuntha.specs.Numbers.{forecastNumbers}
 
 same : (f g : Forecast) → Plain f → Plain g → forecastNumbers f ≡ forecastNumbers g → f ≡ g
 same (refusedForecast m) (refusedForecast n) h k e = ap refusedForecast (ap (λ x. x .number) e)
@@ -23,5 +23,6 @@ same (breachAt t b) (breachAt u d) h k e = ap₂ breachAt (ap (λ x. x .time) e)
 same (breachAt t b) noForecast h k e = absurd k
 same noForecast g h k e = absurd h
 
-pub apart : (s s′ : List ℕ) (us us′ : List ℤ) → forecastNumbers (forecastOf s us) ≡ forecastNumbers (forecastOf s′ us′) → forecastOf s us ≡ forecastOf s′ us′
+pub apart : (s s′ : List ℕ) (us us′ : List ℤ)
+    → forecastNumbers (forecastOf s us) ≡ forecastNumbers (forecastOf s′ us′) → forecastOf s us ≡ forecastOf s′ us′
 apart s s′ us us′ = same (forecastOf s us) (forecastOf s′ us′) (forecast-plain s us) (forecast-plain s′ us′)

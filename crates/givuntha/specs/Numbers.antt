@@ -7,7 +7,8 @@ pub record ForecastNumbers : Type 0 where
   pub time : ℕ
   pub parties : ℕ
 
--- no breach ahead is no party; a refusal's other results are zero; `noForecast`, which never occurs, has a number that no
+-- no breach ahead is no party; a refusal's other results are zero; `noForecast`, which never occurs, has a number
+-- that no
 -- answer has. `proofs/Apart` shows that no two forecasts share their numbers
 abbrev pub forecastNumbers : Forecast → ForecastNumbers
 forecastNumbers (refusedForecast n) = record { number = n; time = 0; parties = 0 }

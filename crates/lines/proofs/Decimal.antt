@@ -1,13 +1,12 @@
 -- The digits that `io::decimal` puts, the fewest that hold n, are `decimal n`.
 use mathlib.Core.Path.{_≡_, refl, sym, ap, ap₂, _∙_}
-use mathlib.Core.Bool.{Bool, true, false, cond}
-use mathlib.Core.List.{List, [], _∷_, _++_}
+use mathlib.Core.Bool.{Bool, true, false}
+use mathlib.Core.List.{[], _∷_, _++_}
 use Prim.Native.Nat.{ℕ, zero, suc, _+_, _-_, _*_, _/_, _%_, _^_, _≤_, _<_}
 use native.Mathlib.Nat.{pow-succ', one-le-pow, mod-lt, mod-eq-of-lt, div-add-mod, pow-le-pow-right}
 use native.Mathlib.Omega.{arith}
 use borrow.Author.Tests.{lt-ltb, le-ltb, ltb-true, ltb-false}
 use lib.Dec.{ltb}
-use lib.ListN.{length, length-append}
 use Rattle.io.specs.Digits as io
 use Rattle.lines.specs.Text.{decimal, digitsIn, digit}
 
@@ -39,12 +38,14 @@ same (suc k) n (suc steps) h l m =
     let fits : n < 10 * 10 ^ suc k = rw (sym (pow-succ' 10 (suc k))) l in
     let big : 10 ≤ n = omega (arith, one-le-pow k 10 (omega arith)) in
     let less : n / 10 < steps = omega (arith, div-add-mod n 10) in
-    ap₂ (λ ds d. ds ++ (d ∷ [])) (same k (n / 10) steps less (tenth-below n (10 ^ suc k) fits) (λ p. tenth-above n (10 ^ k) has)) (glyph-is (n % 10) (mod-lt n (omega arith))) ∙ sym (large-step steps n big)
+    ap₂ (λ ds d. ds ++ (d ∷ [])) (same k (n / 10) steps less (tenth-below n (10 ^ suc k) fits)
+    (λ p. tenth-above n (10 ^ k) has)) (glyph-is (n % 10) (mod-lt n (omega arith))) ∙ sym (large-step steps n big)
 
 pub fewest : (n k : ℕ) → io.Fewest 10 1 n k → io.digits 10 k n ≡ decimal n
 unfolding decimal
 fewest n zero f = absurd (omega (arith, f .0))
-fewest n (suc k) f = same k n (suc n) (omega arith) (f .1) (λ p. let e : suc k - 1 ≡ k = omega arith in rw e at (f .2 (omega arith)))
+fewest n (suc k) f = same k n (suc n) (omega arith) (f .1)
+    (λ p. let e : suc k - 1 ≡ k = omega arith in rw e at (f .2 (omega arith)))
 
 -- a 64-bit number has at most 20 digits
 pub few : (n k : ℕ) → n < 2 ^ 64 → io.Fewest 10 1 n k → k ≤ 20
@@ -55,6 +56,7 @@ few n k h f = go (ltb 20 k) refl
     go true g =
         let more : 20 < k = ltb-true 20 k g in
         let has : 10 ^ (k - 1) ≤ n = f .2 (omega arith) in
-        let least : 10 ^ 20 ≤ 10 ^ (k - 1) = pow-le-pow-right {n = 10} (omega arith) {i = 20} {j = k - 1} (omega arith) in
+        let least : 10 ^ 20 ≤ 10 ^ (k - 1) = pow-le-pow-right {n = 10} (omega arith) {i = 20} {j = k - 1}
+        (omega arith) in
         let below : n < 10 ^ 20 = omega arith in
         absurd (omega arith)

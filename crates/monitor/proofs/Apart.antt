@@ -23,7 +23,10 @@ use Rattle.soundness.proofs.ReadBack.{runOf-good}
 use Rattle.soundness.proofs.Marks.{fits, forecast-is, run-ok}
 use Rattle.bridge.proofs.Refusals.{from-check, forecast-refused, forecast-six, forecast-seven}
 use Rattle.monitor.specs.declared.Refusal.{Refusal}
-use Rattle.monitor.specs.declared.Refusal.the-variants.{AgreementLength, AgreementForm, AgreementTyping, AgreementGuards, AgreementWidth, TableLength, TableContent, ReadingForm, ReadingTyping, ReadingTime, Units}
+use Rattle.monitor.specs.declared.Refusal.the-variants.{AgreementLength, AgreementForm, AgreementTyping}
+use Rattle.monitor.specs.declared.Refusal.the-variants.{AgreementGuards, AgreementWidth, TableLength}
+use Rattle.monitor.specs.declared.Refusal.the-variants.{TableContent, ReadingForm, ReadingTyping, ReadingTime}
+use Rattle.monitor.specs.declared.Refusal.the-variants.{Units}
 use Rattle.monitor.specs.declared.Checked.{Checked}
 use Rattle.monitor.specs.declared.Checked.the-variants.{Accepted, Refused}
 use Rattle.monitor.specs.declared.Started.{Started}
@@ -36,14 +39,16 @@ use Rattle.monitor.specs.Answers.{numberOf, checkAnswer, startAnswer, ta
 
 -- in the order of their numbers
 abbrev refusals : List Refusal
-refusals = AgreementLength ∷ AgreementForm ∷ AgreementTyping ∷ AgreementGuards ∷ AgreementWidth ∷ TableLength ∷ TableContent ∷ ReadingForm ∷ ReadingTyping ∷ ReadingTime ∷ Units ∷ []
+refusals = AgreementLength ∷ AgreementForm ∷ AgreementTyping ∷ AgreementGuards ∷ AgreementWidth ∷ TableLength
+    ∷ TableContent ∷ ReadingForm ∷ ReadingTyping ∷ ReadingTime ∷ Units ∷ []
 
 -- what a number says: 0 is success, and n + 1 the refusal that has n before it
 abbrev pub told : {A : Type 0} → A → (Refusal → A) → ℕ → A
 told success refused zero = success
 told success refused (suc n) = refused (getD refusals n Units)
 
-pub number-told : {A : Type 0} (success : A) (refused : Refusal → A) (r : Refusal) → told success refused (numberOf r) ≡ refused r
+pub number-told : {A : Type 0} (success : A) (refused : Refusal → A) (r : Refusal)
+    → told success refused (numberOf r) ≡ refused r
 number-told success refused AgreementLength = refl
 number-told success refused AgreementForm = refl
 number-told success refused AgreementTyping = refl
@@ -103,18 +108,23 @@ fits-plain a mains (entries.breachAt t b) h = h .0
 fits-plain a mains entries.noForecast h = h
 
 pub forecast-plain : (s : List ℕ) (us : List ℤ) → Plain (forecastOf s us)
-forecast-plain s us = from-check s (λ n h ck _. subst Plain (sym (forecast-refused us s n ck)) h) (λ mains ck _. by-length mains ck (eqb (length us) 3080) refl)
+forecast-plain s us = from-check s (λ n h ck _. subst Plain (sym (forecast-refused us s n ck)) h)
+    (λ mains ck _. by-length mains ck (eqb (length us) 3080) refl)
   where
-    by-run : (mains : List ℕ) → checked s ≡ accepted (agreementOf s) mains → length us ≡ 3080 → (q : Option Run) → runOf (agreementOf s) mains us ≡ q → Plain (forecastOf s us)
+    by-run : (mains : List ℕ) → checked s ≡ accepted (agreementOf s) mains → length us ≡ 3080 → (q : Option Run)
+        → runOf (agreementOf s) mains us ≡ q → Plain (forecastOf s us)
     by-run mains ck l none e = subst Plain (sym (forecast-seven us s (agreementOf s) mains ck l e)) (omega arith)
     by-run mains ck l (some q) e =
         let a = agreementOf s in
         let good = runOf-good a mains us q (isFair s a mains ck) e in
         let ok = run-ok s a mains ck (q .lastTime) (q .outcome) good in
         let here : ForecastFits a mains (forecastOf s us) =
-        subst (ForecastFits a mains) (sym (forecast-is s a mains ck us q l e)) (fits s a mains ck (forecastRun a q) ok) in
+        subst (ForecastFits a mains) (sym (forecast-is s a mains ck us q l e))
+        (fits s a mains ck (forecastRun a q) ok) in
         fits-plain a mains (forecastOf s us) here
 
-    by-length : (mains : List ℕ) → checked s ≡ accepted (agreementOf s) mains → (b : Bool) → eqb (length us) 3080 ≡ b → Plain (forecastOf s us)
+    by-length : (mains : List ℕ) → checked s ≡ accepted (agreementOf s) mains → (b : Bool) → eqb (length us) 3080 ≡ b
+        → Plain (forecastOf s us)
     by-length mains ck true e = by-run mains ck (eqb-true (length us) 3080 e) (runOf (agreementOf s) mains us) refl
-    by-length mains ck false e = subst Plain (sym (forecast-six us s (agreementOf s) mains ck (eqb-false (length us) 3080 e))) (omega arith)
+    by-length mains ck false e = subst Plain
+        (sym (forecast-six us s (agreementOf s) mains ck (eqb-false (length us) 3080 e))) (omega arith)

@@ -44,7 +44,9 @@ use Rattle.monitor.specs.Answers.{numberOf, startAnswer, Goes, Verified,
 -- ---- an accepted agreement is short
 pub short : {s places : List ℕ} {p : ℕ} → Goes s places p → length s ≤ 16_384
 unfolding sized between
-short {s = s} g = T-both (between 4 16_384 (length s)) _ ((passed s (agreementOf s) (g .mains) (g .isAccepted)) .sized) λ a b. T-both (leb 4 (length s)) (leb (length s) 16_384) a λ c d. leb→le (length s) 16_384 d
+short {s = s} g = T-both (between 4 16_384 (length s)) _
+    ((passed s (agreementOf s) (g .mains) (g .isAccepted)) .sized) λ a b. T-both (leb 4 (length s))
+    (leb (length s) 16_384) a λ c d. leb→le (length s) 16_384 d
 
 -- ---- the main clause's activation
 abbrev mainSite : ℕ → ℕ → ℕ → Site
@@ -54,7 +56,8 @@ abbrev startEvent : Event
 startEvent = record { step = Activate; time = 0; sort = 0 }
 
 module _ (s : List ℕ) {n p t : ℕ} (en : n ≡ byte s 10) (et : t ≡ le32 s 4) where
-  pub main-ready : {places : List ℕ} → Indexed places s → t < 4_294_967_296 → Ready places s startEvent [] (mainSite n p t) [] []
+  pub main-ready : {places : List ℕ} → Indexed places s → t < 4_294_967_296
+      → Ready places s startEvent [] (mainSite n p t) [] []
   main-ready i h = record {
     indexed = i;
     few = omega arith;
@@ -66,14 +69,16 @@ module _ (s : List ℕ) {n p t : ℕ} (en : n ≡ byte s 10) (et : t ≡ le32 s 
     dated = omega arith;
   }
 
-  pub main-fits : {out : List ℤ} → p ≤ length s → length s ≤ 16_384 → length out ≤ 3072 → Fits s (mainSite n p t) (part s p (length s)) out
+  pub main-fits : {out : List ℤ} → p ≤ length s → length s ≤ 16_384 → length out ≤ 3072
+      → Fits s (mainSite n p t) (part s p (length s)) out
   main-fits h k l = record {
     inside = omega (arith, length-part s p (length s) (omega arith));
     near = omega arith;
     room = l;
   }
 
-  pub main-is : (r : Reduced) (out : List ℤ) → p ≡ mainPlace s → Is (reduceAt startEvent [] s (mainSite n p t) (part s p (length s)) [] []) r out → Is (mainReduced s) r out
+  pub main-is : (r : Reduced) (out : List ℤ) → p ≡ mainPlace s
+      → Is (reduceAt startEvent [] s (mainSite n p t) (part s p (length s)) [] []) r out → Is (mainReduced s) r out
   unfolding mainReduced mainOf agreementOf reduceBelow cells.reduce
   main-is r out ep h = rw (ep, en, et, sym (templates-length s)) at h
 
@@ -113,7 +118,8 @@ same-table now cells.done = refl
 same-table now (cells.breach t b) = refl
 same-table now (cells.running cs) = refl
 
-module _ {now : ℕ} {r : Reduced} {out before after : List ℤ} {q : Bool} (settles : Settles now r out before after q) (x : cells.Reduced) (i : Is x r out) where
+module _ {now : ℕ} {r : Reduced} {out before after : List ℤ} {q : Bool} (settles : Settles now r out before after q)
+    (x : cells.Reduced) (i : Is x r out) where
   pub kept-no : not q ≡ true → answer 11 after ≡ keptCells now before x
   unfolding keptCells
   kept-no e =
@@ -124,7 +130,11 @@ module _ {now : ℕ} {r : Reduced} {out before after : List ℤ} {q : Bool} (set
   unfolding keptCells
   kept-yes e =
       let f = not-false q e in
-      rw (few-units out x r i (leb-true (unitsOf r) 128 (sym (settles .fits) ∙ f)), settles .wrote f x i, same-table now x) refl
+      rw (
+        few-units out x r i (leb-true (unitsOf r) 128 (sym (settles .fits) ∙ f)),
+        settles .wrote f x i,
+        same-table now x,
+      ) refl
 
   -- so few units as a table has are written
   pub written-few : unitsOf r ≤ 128 → not q ≡ false
@@ -135,7 +145,9 @@ pub main-few : (s : List ℕ) (r : Reduced) (out : List ℤ) → Is (mainReduced
 unfolding mainReduced
 main-few s r out i = answer-few (mainReduced s) r out (reduce-few cells.activating _ _ _ _ _) i
 
-module _ {s places : List ℕ} {p : ℕ} (g : Goes s places p) {before after : List ℤ} (l : length before ≡ 3080) {r : Reduced} {out : List ℤ} (i : Is (mainReduced s) r out) {t : ℕ} (et : t ≡ le32 s 4) {q : Bool} (settles : Settles t r out before after q) where
+module _ {s places : List ℕ} {p : ℕ} (g : Goes s places p) {before after : List ℤ} (l : length before ≡ 3080)
+    {r : Reduced} {out : List ℤ} (i : Is (mainReduced s) r out) {t : ℕ} (et : t ≡ le32 s 4) {q : Bool}
+    (settles : Settles t r out before after q) where
   started : startOf s before ≡ keptCells t before (mainReduced s)
   unfolding mainReduced agreementOf
   started = rw et (start-reduce s (g .mains) (g .isAccepted) before l)
@@ -153,8 +165,12 @@ module _ {s places : List ℕ} {p : ℕ} (g : Goes s places p) {before after : L
 pub goes-on : (s places : List ℕ) {c : Checked} {p : ℕ} → Verified s places c → c ≡ Accepted p → Goes s places p
 goes-on s places v e = rw e at v
 
-pub start-checked : (s places : List ℕ) (table : List ℤ) {c : Checked} {why : Refusal} → Verified s places c → c ≡ Refused why → startAnswer (refusedStart why) table ≡ startOf s table
-start-checked s places table {why = why} v e = let w : Verified s places (Refused why) = rw e at v in sym (start-refused table s (numberOf why) w)
+pub start-checked : (s places : List ℕ) (table : List ℤ) {c : Checked} {why : Refusal} → Verified s places c
+    → c ≡ Refused why → startAnswer (refusedStart why) table ≡ startOf s table
+start-checked s places table {why = why} v e = let w : Verified s places (Refused why) = rw e at v in
+    sym (start-refused table s (numberOf why) w)
 
-pub start-table : (s places : List ℕ) (table : List ℤ) {c : Checked} {p : ℕ} → Verified s places c → c ≡ Accepted p → (length table ≡ 3080 → ⊥) → startAnswer (refusedStart TableLength) table ≡ startOf s table
-start-table s places table v e h = let g = goes-on s places v e in sym (start-six table s (agreementOf s) (g .mains) (g .isAccepted) h)
+pub start-table : (s places : List ℕ) (table : List ℤ) {c : Checked} {p : ℕ} → Verified s places c → c ≡ Accepted p
+    → (length table ≡ 3080 → ⊥) → startAnswer (refusedStart TableLength) table ≡ startOf s table
+start-table s places table v e h = let g = goes-on s places v e in
+    sym (start-six table s (agreementOf s) (g .mains) (g .isAccepted) h)

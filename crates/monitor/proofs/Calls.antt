@@ -1,4 +1,5 @@
--- Calls of reading on a run's table answer as the run does and leave its table: one call at a time (`called`), so through the list
+-- Calls of reading on a run's table answer as the run does and leave its table: one call at a time (`called`), so
+-- through the list
 -- (`last-table`, `all-numbers`), and at each of its calls (`found`).
 use mathlib.Core.Path.{_≡_, refl, sym, ap, ap₂, subst, _∙_}
 use mathlib.Core.List.{List, [], _∷_, _++_}
@@ -29,16 +30,19 @@ use Rattle.monitor.proofs.forecast.Kinds as forecast-kinds
 use Rattle.monitor.proofs.forecast.Reads as forecast
 
 -- ---- the contracts of the entries are the equations that specs/Calls, specs/Demand3 and specs/Forecasts speak of
-pub start-call : (lifetimes : Lfts 2) (given : Dens {n = 2} lifetimes start-kinds.ps) (r : Started) (left : AtExit (endedOf 2 start-kinds.ps start-kinds.r) lifetimes)
+pub start-call : (lifetimes : Lfts 2) (given : Dens {n = 2} lifetimes start-kinds.ps) (r : Started)
+    (left : AtExit (endedOf 2 start-kinds.ps start-kinds.r) lifetimes)
     → start.Post lifetimes given r left → startAnswer r (left .1 .0 .now) ≡ startOf (given .0 .now) (given .1 .0 .now)
 start-call lifetimes given r left meets = meets
 
-pub reading-call : (lifetimes : Lfts 3) (given : Dens {n = 3} lifetimes reading-kinds.ps) (r : Taken) (left : AtExit (endedOf 3 reading-kinds.ps reading-kinds.r) lifetimes)
+pub reading-call : (lifetimes : Lfts 3) (given : Dens {n = 3} lifetimes reading-kinds.ps) (r : Taken)
+    (left : AtExit (endedOf 3 reading-kinds.ps reading-kinds.r) lifetimes)
     → reading.Post lifetimes given r left
     → takenAnswer r (left .1 .0 .now) ≡ readingOf (given .0 .now) (given .1 .0 .now) (given .1 .1 .0 .now)
 reading-call lifetimes given r left meets = meets
 
-pub forecast-call : (lifetimes : Lfts 2) (given : Dens {n = 2} lifetimes forecast-kinds.ps) (r : Foretold) (left : AtExit (endedOf 2 forecast-kinds.ps forecast-kinds.r) lifetimes)
+pub forecast-call : (lifetimes : Lfts 2) (given : Dens {n = 2} lifetimes forecast-kinds.ps) (r : Foretold)
+    (left : AtExit (endedOf 2 forecast-kinds.ps forecast-kinds.r) lifetimes)
     → forecast.Post lifetimes given r left → forecastAnswer r ≡ forecastOf (given .0 .now) (given .1 .0 .now)
 forecast-call lifetimes given r left meets = meets
 
@@ -71,7 +75,8 @@ module _ (s : List ℕ) (a : Agreement) (mains : List ℕ) (ck : checked s ≡ a
   unfolding numberIn
   called q us c e i meets =
       let fine = reading-fine s a mains ck (q .lastTime) (q .outcome) (c .bytes) i in
-      let is : takenAnswer (c .answer) (c .left) ≡ readingOf s (tableOf q) (c .bytes) = meets ∙ ap (λ us. readingOf s us (c .bytes)) e in
+      let is : takenAnswer (c .answer) (c .left) ≡ readingOf s (tableOf q) (c .bytes) = meets
+      ∙ ap (λ us. readingOf s us (c .bytes)) e in
       (ap (λ x. x .number) is ∙ fine .0, sym (table-of (c .answer) (c .left)) ∙ ap (λ x. x .table) is ∙ fine .1)
 
   -- calls one after another
@@ -79,7 +84,9 @@ module _ (s : List ℕ) (a : Agreement) (mains : List ℕ) (ck : checked s ≡ a
       → Calls s us calls → lastTable us calls ≡ tableOf (runAfter a q (readingsIn calls))
   unfolding Calls AllBytes readingsIn lastTable runAfter
   last-table q us [] e i h cs = e
-  last-table q us (c ∷ calls) e i h cs = last-table ((step a q (c .bytes)) .run) (c .left) calls ((called q us c e i (cs .0)) .1) (step-inv s a mains ck (q .lastTime) (q .outcome) (c .bytes) (h .0) i) (h .1) (cs .1)
+  last-table q us (c ∷ calls) e i h cs = last-table ((step a q (c .bytes)) .run) (c .left) calls
+      ((called q us c e i (cs .0)) .1) (step-inv s a mains ck (q .lastTime) (q .outcome) (c .bytes) (h .0) i) (h .1)
+      (cs .1)
 
   pub all-numbers : (q : Run) (us : List ℤ) (calls : List Call) → us ≡ tableOf q → Sound q → AllBytes (readingsIn calls)
       → Calls s us calls → numbersIn calls ≡ numbersBy a q (readingsIn calls)
@@ -87,10 +94,12 @@ module _ (s : List ℕ) (a : Agreement) (mains : List ℕ) (ck : checked s ≡ a
   all-numbers q us [] e i h cs = refl
   all-numbers q us (c ∷ calls) e i h cs =
       let x = called q us c e i (cs .0) in
-      ap₂ (λ n ns. n ∷ ns) (x .0) (all-numbers ((step a q (c .bytes)) .run) (c .left) calls (x .1) (step-inv s a mains ck (q .lastTime) (q .outcome) (c .bytes) (h .0) i) (h .1) (cs .1))
+      ap₂ (λ n ns. n ∷ ns) (x .0) (all-numbers ((step a q (c .bytes)) .run) (c .left) calls (x .1)
+      (step-inv s a mains ck (q .lastTime) (q .outcome) (c .bytes) (h .0) i) (h .1) (cs .1))
 
   -- ---- one of the calls, on a table that was the run q's at first
-  module _ (q : Run) (us : List ℤ) (is : us ≡ tableOf q) (i : Sound q) (calls : List Call) (h : AllBytes (readingsIn calls)) (cs : Calls s us calls) where
+  module _ (q : Run) (us : List ℤ) (is : us ≡ tableOf q) (i : Sound q) (calls : List Call)
+      (h : AllBytes (readingsIn calls)) (cs : Calls s us calls) where
     -- what the call finds, and how the run goes on
     pub record Found (before : List Call) (one : Call) (later : List Call) : Type 0 where
       pub inv : Sound (runAfter a q (readingsIn before))
@@ -102,7 +111,8 @@ module _ (s : List ℕ) (a : Agreement) (mains : List ℕ) (ck : checked s ≡ a
       pub meets : Calls s us before × Calls s (one .left) later
 
     pub inv-at : (before later : List Call) → calls ≡ before ++ later → Sound (runAfter a q (readingsIn before))
-    inv-at before later e = after-inv s a mains ck q (readingsIn before) ((bytes-split before later (subst (λ cs. AllBytes (readingsIn cs)) e h)) .0) i
+    inv-at before later e = after-inv s a mains ck q (readingsIn before)
+        ((bytes-split before later (subst (λ cs. AllBytes (readingsIn cs)) e h)) .0) i
 
     pub found : (before : List Call) (one : Call) (later : List Call) → calls ≡ before ++ (one ∷ later)
         → Found before one later
@@ -114,4 +124,12 @@ module _ (s : List ℕ) (a : Agreement) (mains : List ℕ) (ck : checked s ≡ a
         let i′ = inv-at before (one ∷ later) e in
         let t = last-table q us before is i (bs .0) (two .0) in
         let x = called run (lastTable us before) one t i′ (two .1 .0) in
-        record { inv = i′; table = t; number = x .0; left = x .1; next = step-inv s a mains ck (run .lastTime) (run .outcome) (one .bytes) (bs .1 .0) i′; bytes = (bs .0, bs .1 .1); meets = (two .0, two .1 .1) }
+        record {
+          inv = i′;
+          table = t;
+          number = x .0;
+          left = x .1;
+          next = step-inv s a mains ck (run .lastTime) (run .outcome) (one .bytes) (bs .1 .0) i′;
+          bytes = (bs .0, bs .1 .1);
+          meets = (two .0, two .1 .1);
+        }

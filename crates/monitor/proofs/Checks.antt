@@ -1,15 +1,13 @@
 -- Laws for `verify`: what each test says of csl's check.
-use mathlib.Core.Path.{_≡_, refl, sym, ap, _∙_, subst}
+use mathlib.Core.Path.{_≡_, refl, sym, _∙_, subst}
 use mathlib.Core.Bool.{Bool, true, false, not}
-use mathlib.Core.List.{List, [], _∷_}
+use mathlib.Core.List.{List}
 use mathlib.Core.Option.{Option, none, some}
-use mathlib.Core.Logic.{_⊎_, inl, inr}
-use Prim.Native.Nat.{ℕ, zero, suc, _+_, _*_, _≤_, _<_}
+use Prim.Native.Nat.{ℕ, zero, suc, _+_, _*_, _<_}
 use native.Mathlib.Omega.{arith}
 use borrow.Author.Tests.{not-true, not-false}
-use lib.Dec.{T, eqb, eqb→eq}
+use lib.Dec.{T}
 use Rattle.csl.specs.Parties.{member, bit, bitsFrom, bitsOf}
-use Rattle.csl.specs.Syntax.{Agreement}
 use Rattle.csl.specs.Decode.{sized, wellFormed, agreementOf, decode}
 use Rattle.csl.specs.Typing.{typed}
 use Rattle.csl.specs.Guards.{guardedFrom}
@@ -17,8 +15,7 @@ use Rattle.csl.specs.Widths.{narrowAll}
 use Rattle.csl.specs.Check as csl
 use Rattle.csl.specs.Check.{checked, checkTyped, checkDecoded, checkOf, refused, accepted}
 use Rattle.soundness.proofs.Members.{In, member→in}
-use Rattle.soundness.proofs.Walks.{Fair}
-use Rattle.soundness.proofs.Checked.{Passed, passed, fair}
+use Rattle.soundness.proofs.Checked.{passed, fair}
 use Rattle.soundness.proofs.Runs.{main-in}
 use Rattle.parties.specs.Masks.{maskOf}
 use Rattle.records.specs.Index.{Indexed}
@@ -27,7 +24,7 @@ use Rattle.typing.specs.declared.Typed.the-variants.{Parties, Untyped}
 use Rattle.typing.specs.Clauses.{typedAs}
 use Rattle.monitor.specs.declared.Checked.{Checked}
 use Rattle.monitor.specs.declared.Checked.the-variants.{Accepted, Refused}
-use Rattle.monitor.specs.Answers.{numberOf, checkAnswer, Goes, Verified}
+use Rattle.monitor.specs.Answers.{checkAnswer, Goes, Verified}
 
 -- ---- what typing answered
 pub untyped : (o : Option (List ℕ)) → Untyped ≡ typedAs o → o ≡ none
@@ -102,7 +99,8 @@ module _ (s : List ℕ) {l : Bool} (le : l ≡ sized s) where
 
       pub typing-refused : r ≡ Untyped → checked s ≡ refused 3
       unfolding checkDecoded
-      typing-refused e = decodes ∙ have-none _ (checkTyped (agreementOf s)) (typed (agreementOf s)) (untyped (typed (agreementOf s)) (sym e ∙ re))
+      typing-refused e = decodes ∙ have-none _ (checkTyped (agreementOf s)) (typed (agreementOf s))
+          (untyped (typed (agreementOf s)) (sym e ∙ re))
 
       module _ {p : ℕ} (pe : r ≡ Parties p) where
         mains : List ℕ
@@ -110,7 +108,8 @@ module _ (s : List ℕ) {l : Bool} (le : l ≡ sized s) where
 
         types : checked s ≡ checkTyped (agreementOf s) mains
         unfolding checkDecoded mains
-        types = decodes ∙ have-some _ (checkTyped (agreementOf s)) (typed (agreementOf s)) mains (typed-mask (typed (agreementOf s)) p (sym pe ∙ re) .1)
+        types = decodes ∙ have-some _ (checkTyped (agreementOf s)) (typed (agreementOf s)) mains
+            (typed-mask (typed (agreementOf s)) p (sym pe ∙ re) .1)
 
         module _ {g : Bool} (ge : g ≡ guardedFrom 0 (agreementOf s .templates)) where
           pub guards-refused : not g ≡ true → checked s ≡ refused 4
@@ -118,7 +117,8 @@ module _ (s : List ℕ) {l : Bool} (le : l ≡ sized s) where
           guards-refused e = types ∙ test-no _ _ (guardedFrom 0 (agreementOf s .templates)) (sym ge ∙ not-true g e)
 
           module _ (gt : not g ≡ false) {n : Bool} (ne : n ≡ narrowAll (agreementOf s)) where
-            guards : checked s ≡ elim (narrowAll (agreementOf s)) [ false ↦ refused 5 | true ↦ accepted (agreementOf s) mains ]
+            guards : checked s ≡ elim (narrowAll (agreementOf s))
+                [ false ↦ refused 5 | true ↦ accepted (agreementOf s) mains ]
             unfolding checkTyped
             guards = types ∙ test-yes _ _ (guardedFrom 0 (agreementOf s .templates)) (sym ge ∙ not-false g gt)
 
@@ -129,7 +129,12 @@ module _ (s : List ℕ) {l : Bool} (le : l ≡ sized s) where
             unfolding mains
             goes places x e =
                 let ok = guards ∙ test-yes _ _ (narrowAll (agreementOf s)) (sym ne ∙ not-false n e) in
-                record { mains = mains; isAccepted = ok; isParties = typed-mask (typed (agreementOf s)) p (sym pe ∙ re) .2 ∙ main-bits s mains ok; indexed = x (not-false w wt) }
+                record {
+                  mains = mains;
+                  isAccepted = ok;
+                  isParties = typed-mask (typed (agreementOf s)) p (sym pe ∙ re) .2 ∙ main-bits s mains ok;
+                  indexed = x (not-false w wt);
+                }
 
 -- ---- the entry `check`
 pub checked-as : (s places : List ℕ) (r : Checked) → Verified s places r → checkAnswer r ≡ checkOf s

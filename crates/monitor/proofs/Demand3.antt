@@ -1,7 +1,8 @@
--- Demand 3 holds: the table that each call is given is the run's (`Calls`), and of one more reading the run says all that is claimed.
+-- Demand 3 holds: the table that each call is given is the run's (`Calls`), and of one more reading the run says all
+-- that is claimed.
 use mathlib.Core.Path.{_≡_, refl, sym, ap, _∙_}
 use mathlib.Core.Bool.{Bool, true, false}
-use mathlib.Core.List.{List, [], _∷_, _++_}
+use mathlib.Core.List.{List, _∷_, _++_}
 use mathlib.Core.Logic.{_↔_}
 use Prim.Native.Nat.{ℕ}
 use native.Mathlib.Omega.{arith}
@@ -17,10 +18,14 @@ use Rattle.csl.specs.Table.{runOf, tableOf}
 use Rattle.csl.specs.Entries.{startOf}
 use Rattle.csl.specs.Demand3.{AllBytes, Bytes}
 use Rattle.soundness.proofs.Runs.{Case, cases, not-stuck, start-is, table-typed, written-number, written-zero}
-use Rattle.soundness.proofs.Demand3.{after-inv, start-inv, start-unbreached, step-eleven, step-final, step-refused, step-shows, step-taken}
+use Rattle.soundness.proofs.Demand3.{after-inv, start-inv, start-unbreached, step-eleven, step-final, step-refused}
+use Rattle.soundness.proofs.Demand3.{step-shows, step-taken}
 use Rattle.bridge.proofs.Refusals.{from-check, start-refused, start-six}
 use Rattle.monitor.specs.declared.Refusal.{Refusal}
-use Rattle.monitor.specs.declared.Refusal.the-variants.{AgreementLength, AgreementForm, AgreementTyping, AgreementGuards, AgreementWidth, TableLength, TableContent, ReadingForm, ReadingTyping, ReadingTime, Units}
+use Rattle.monitor.specs.declared.Refusal.the-variants.{AgreementLength, AgreementForm, AgreementTyping}
+use Rattle.monitor.specs.declared.Refusal.the-variants.{AgreementGuards, AgreementWidth, TableLength}
+use Rattle.monitor.specs.declared.Refusal.the-variants.{TableContent, ReadingForm, ReadingTyping, ReadingTime}
+use Rattle.monitor.specs.declared.Refusal.the-variants.{Units}
 use Rattle.monitor.specs.declared.Started.{Started}
 use Rattle.monitor.specs.declared.Started.the-variants.{Begun, Refused}
 use Rattle.monitor.specs.Answers.{numberOf, startAnswer}
@@ -55,7 +60,8 @@ table-left (Refused w) us = refl
 carries : {P : Type 0} {m n k : ℕ} → m ≡ n → (n ≡ k) ↔ P → (m ≡ k) ↔ P
 carries e h = (λ x. h .0 (sym e ∙ x), λ p. e ∙ h .1 p)
 
-module _ (s : List ℕ) (lent : List ℤ) (a : Agreement) (mains : List ℕ) (st : IsStarted s lent a mains) (r : Started) (us : List ℤ) (start : startAnswer r us ≡ startOf s lent) (hs : Bytes s) where
+module _ (s : List ℕ) (lent : List ℤ) (a : Agreement) (mains : List ℕ) (st : IsStarted s lent a mains) (r : Started)
+    (us : List ℤ) (start : startAnswer r us ≡ startOf s lent) (hs : Bytes s) where
   run : Run
   run = (started a) .run
 
@@ -76,32 +82,45 @@ module _ (s : List ℕ) (lent : List ℤ) (a : Agreement) (mains : List ℕ) (st
   module _ (calls : List Call) (hr : AllBytes (readingsIn calls)) (cs : Calls s us calls) where
     -- of one of the calls: what it finds, and the case of its reading
     at-call : (before : List Call) (one : Call) (later : List Call) → calls ≡ before ++ (one ∷ later)
-        → Found s a mains ck run us us-is run-inv calls hr cs before one later × Case a (runBy a before .lastTime) (runBy a before .outcome) (one .bytes)
+        → Found s a mains ck run us us-is run-inv calls hr cs before one later
+        × Case a (runBy a before .lastTime) (runBy a before .outcome) (one .bytes)
     unfolding runBy run
     at-call before one later e =
-        let f = found s a mains ck run us us-is run-inv calls hr cs before one later e in
-        (f, cases a (runBy a before .lastTime) (runBy a before .outcome) (one .bytes) (not-stuck a mains (runBy a before .lastTime) (runBy a before .outcome) (f .inv .good)))
+        let f = found s a mains ck run us us-is run-inv calls hr cs before one later e in (
+          f,
+          cases a (runBy a before .lastTime) (runBy a before .outcome) (one .bytes)
+              (not-stuck a mains (runBy a before .lastTime) (runBy a before .outcome) (f .inv .good)),
+        )
 
     upheld : Upheld a mains r us calls
     unfolding runBy run
     upheld =
         let whole = last-table s a mains ck run us calls us-is run-inv hr cs in
-        let typed = table-typed s a mains ck (runBy a calls) (after-inv s a mains ck run (readingsIn calls) hr run-inv) in
+        let typed = table-typed s a mains ck (runBy a calls)
+        (after-inv s a mains ck run (readingsIn calls) hr run-inv) in
         record {
-          neverStuck = λ before later e. not-stuck a mains (runBy a before .lastTime) (runBy a before .outcome) ((inv-at s a mains ck run us us-is run-inv calls hr cs before later e) .good);
+          neverStuck = λ before later e. not-stuck a mains (runBy a before .lastTime) (runBy a before .outcome)
+              ((inv-at s a mains ck run us us-is run-inv calls hr cs before later e) .good);
           begun = begun-is r us (ap (λ x. x .number) (start ∙ begins-zero));
           numbers = all-numbers s a mains ck run us calls us-is run-inv hr cs;
           cells = ap length whole ∙ typed .0;
           wellTyped = (typed .1 .0, ap (runOf a mains) whole ∙ typed .1 .1);
           table = whole;
-          eleven = λ before one later e. let f = at-call before one later e in carries (f .0 .number) (step-eleven a (runBy a before .lastTime) (runBy a before .outcome) (one .bytes) (f .1));
-          taken = λ before one later e. let f = at-call before one later e in carries (f .0 .number) (step-taken a (runBy a before .lastTime) (runBy a before .outcome) (one .bytes) (f .1));
+          eleven = λ before one later e. let f = at-call before one later e in
+              carries (f .0 .number) (step-eleven a (runBy a before .lastTime) (runBy a before .outcome) (one .bytes)
+              (f .1));
+          taken = λ before one later e. let f = at-call before one later e in
+              carries (f .0 .number) (step-taken a (runBy a before .lastTime) (runBy a before .outcome) (one .bytes)
+              (f .1));
           refused = λ before one later e nz. let f = at-call before one later e in
-              f .0 .left ∙ ap tableOf (step-refused a (runBy a before .lastTime) (runBy a before .outcome) (one .bytes) (f .1) (λ z. nz (f .0 .number ∙ z))) ∙ sym (f .0 .table);
-          breached = λ before one later e. step-shows s a mains ck (runBy a before) (one .bytes) ((at-call before one later e) .0 .inv);
+              f .0 .left ∙ ap tableOf (step-refused a (runBy a before .lastTime) (runBy a before .outcome)
+              (one .bytes) (f .1) (λ z. nz (f .0 .number ∙ z))) ∙ sym (f .0 .table);
+          breached = λ before one later e. step-shows s a mains ck (runBy a before) (one .bytes)
+              ((at-call before one later e) .0 .inv);
           unbreached = start-unbreached s a mains ck;
           final = λ before one later e b. let f = at-call before one later e in
-              f .0 .left ∙ ap tableOf (step-final a (runBy a before .lastTime) (runBy a before .outcome) (one .bytes) (f .1) b) ∙ sym (f .0 .table);
+              f .0 .left ∙ ap tableOf (step-final a (runBy a before .lastTime) (runBy a before .outcome) (one .bytes)
+              (f .1) b) ∙ sym (f .0 .table);
         }
 
 -- The single claim over the whole list.
@@ -116,14 +135,24 @@ begun-table s mains lent ck e = go (eqb (length lent) 3080) refl
   where
     go : (b : Bool) → eqb (length lent) 3080 ≡ b → length lent ≡ 3080
     go true g = eqb-true (length lent) 3080 g
-    go false g = let z : _≡_ {A = ℕ} 6 0 = sym (ap (λ x. x .number) (start-six lent s (agreementOf s) mains ck (eqb-false (length lent) 3080 g))) ∙ e in absurd (omega arith)
+    go false g = let z : _≡_ {A = ℕ} 6 0 = sym
+        (ap (λ x. x .number) (start-six lent s (agreementOf s) mains ck (eqb-false (length lent) 3080 g))) ∙ e in
+        absurd (omega arith)
 
 pub begins : Begins
 unfolding Begins
 begins s lent us start = from-check s
     (λ n h ck _. let z : n ≡ 0 = sym (ap (λ x. x .number) (start-refused lent s n ck)) ∙ zero in absurd (omega arith))
-    (λ mains ck _. let l = begun-table s mains lent ck zero in
-    (agreementOf s, mains, record { isAccepted = ck; notSix = l; notEleven = sym (written-number lent (started (agreementOf s))) ∙ sym (ap (λ x. x .number) (start-is s (agreementOf s) mains ck lent l)) ∙ zero }))
+    (λ mains ck _. let l = begun-table s mains lent ck zero in (
+      agreementOf s,
+      mains,
+      record {
+        isAccepted = ck;
+        notSix = l;
+        notEleven = sym (written-number lent (started (agreementOf s)))
+            ∙ sym (ap (λ x. x .number) (start-is s (agreementOf s) mains ck lent l)) ∙ zero;
+      },
+    ))
   where
     zero : (startOf s lent) .number ≡ 0
     zero = sym (ap (λ x. x .number) start)

@@ -35,7 +35,8 @@ use Rattle.places.specs.Locate.{Accepted, mainsOf, mainsIn}
 use Rattle.bridge.proofs.Across.{follow-across}
 use Rattle.bridge.proofs.Tables as bridge
 use Rattle.bridge.proofs.Refusals.{answer, reading-refused, reading-six, reading-seven}
-use Rattle.bridge.proofs.Entries.{keptCells, reading-eight, reading-nine, reading-ten, reading-done, reading-breach, reading-running}
+use Rattle.bridge.proofs.Entries.{keptCells, reading-eight, reading-nine, reading-ten, reading-done, reading-breach}
+use Rattle.bridge.proofs.Entries.{reading-running}
 use Rattle.readings.specs.Taking.{TakenIs, UntypedRead, FittingRead}
 use Rattle.readings.specs.declared.Taken.{Taken as Fitting}
 use Rattle.readings.specs.declared.Taken.the-variants.{Malformed, Untyped, Fits}
@@ -55,7 +56,8 @@ use Rattle.state.specs.declared.State.the-variants.{Damaged, Running, Fulfilled
 use Rattle.monitor.specs.declared.Checked.{Checked}
 use Rattle.monitor.specs.declared.Checked.the-variants.{Accepted as acceptedAgreement, Refused}
 use Rattle.monitor.specs.declared.Refusal.{Refusal}
-use Rattle.monitor.specs.declared.Refusal.the-variants.{TableLength, TableContent, ReadingForm, ReadingTyping, ReadingTime, Units as tooManyUnits}
+use Rattle.monitor.specs.declared.Refusal.the-variants.{TableLength, TableContent, ReadingForm, ReadingTyping}
+use Rattle.monitor.specs.declared.Refusal.the-variants.{ReadingTime, Units as tooManyUnits}
 use Rattle.monitor.specs.declared.Taken.the-variants.{Accepted as acceptedReading, Refused as refusedReading}
 use Rattle.monitor.specs.Answers.{numberOf, takenAnswer, Goes, Verified, Opened, Fitted, isDamaged}
 use Rattle.monitor.proofs.Begins.{goes-on, kept-no, kept-yes, written-few}
@@ -76,11 +78,13 @@ main-parties g = g .isParties ∙ ap bitsOf (sym (mains-same g))
 pub behind-head : (us : List ℤ) → take (length us - 8) (drop 8 us) ≡ drop 8 us
 behind-head us = take-all (length us - 8) (drop 8 us) (rw (length-drop 8 us) (omega arith))
 
-fits-as : {s bytes : List ℕ} {us : List ℤ} {e : Event} {rs : List ℤ} (f : Fitted s bytes us e rs) → fitting (agreementOf s) bytes ≡ some (f .reading)
+fits-as : {s bytes : List ℕ} {us : List ℤ} {e : Event} {rs : List ℤ} (f : Fitted s bytes us e rs)
+    → fitting (agreementOf s) bytes ≡ some (f .reading)
 unfolding fitting _>>=_
 fits-as f = rw (f .is) (f .typed)
 
-mode-as : {s bytes : List ℕ} {us : List ℤ} {e : Event} {rs : List ℤ} (f : Fitted s bytes us e rs) → modeAt e rs ≡ cells.following (f .reading .time) (f .reading .type) (cellsOf (f .reading .values))
+mode-as : {s bytes : List ℕ} {us : List ℤ} {e : Event} {rs : List ℤ} (f : Fitted s bytes us e rs)
+    → modeAt e rs ≡ cells.following (f .reading .time) (f .reading .type) (cellsOf (f .reading .values))
 mode-as f = rw (f .follows, f .time, f .type, f .cells) refl
 
 same-number : {m n : ℕ} → pos m ≡ pos n → m ≡ n
@@ -104,7 +108,8 @@ module _ {s places : List ℕ} {us : List ℤ} {sights : List ℕ} (o : Opened s
   abbrev ck : checked s ≡ accepted (agreementOf s) (mainsOf s)
   ck = accepts (o .goes)
 
-  in-order : {bytes : List ℕ} {e : Event} {rs : List ℤ} (f : Fitted s bytes us e rs) {q : _} (r : RunShows (runIn s us) us q) → r .now ≤ f .reading .time
+  in-order : {bytes : List ℕ} {e : Event} {rs : List ℤ} (f : Fitted s bytes us e rs) {q : _}
+      (r : RunShows (runIn s us) us q) → r .now ≤ f .reading .time
   in-order f r = omega (arith, f .inOrder (r .now) (r .cell), f .time)
 
   -- ---- a running run
@@ -116,7 +121,8 @@ module _ {s places : List ℕ} {us : List ℤ} {sights : List ℕ} (o : Opened s
     residue-sights = rw (run .count) at (run .sighted)
 
     pub units-ready : Tree (length s) sights (take (length us - 8) (drop 8 us)) n
-    units-ready = rw (behind-head us, run .count) (has-tree s (mainsOf s) ck (run .shows .now) res us (o .isTable) (run .shows .is) sights residue-sights)
+    units-ready = rw (behind-head us, run .count)
+        (has-tree s (mainsOf s) ck (run .shows .now) res us (o .isTable) (run .shows .is) sights residue-sights)
 
     -- what the rules on cells give for a reading
     record Given (bytes : List ℕ) (e : Event) (rs : List ℤ) : Type 0 where
@@ -129,22 +135,32 @@ module _ {s places : List ℕ} {us : List ℤ} {sights : List ℕ} (o : Opened s
         let d = f .reading in
         let more = drop (2 * units res) sights in
         let le = in-order f (run .shows) in
-        let w = follow-across s (mainsOf s) (isFair s ag (mainsOf s) ck) (founds s (mainsOf s) ck) (run .shows .now) res us (o .isTable) (run .shows .is) more d ((reading-ok ag (f .raw) d (f .typed)) .0) le in
-        let seen = sighted s (mainsOf s) ck (run .shows .now) res us (o .isTable) (run .shows .is) sights residue-sights in
+        let w = follow-across s (mainsOf s) (isFair s ag (mainsOf s) ck) (founds s (mainsOf s) ck) (run .shows .now)
+        res us (o .isTable) (run .shows .is) more d ((reading-ok ag (f .raw) d (f .typed)) .0) le in
+        let seen = sighted s (mainsOf s) ck (run .shows .now) res us (o .isTable) (run .shows .is) sights
+        residue-sights in
         record {
           given = w .given;
-          is = ap₂ (λ m cs. table.across m s n sights cs) (mode-as f) (behind-head us) ∙ ap₂ (λ k q. table.across (cells.following (d .time) (d .type) (cellsOf (d .values))) s k q (drop 8 us)) (run .count) seen ∙ w .only;
-          reads = reading-running s (mainsOf s) ck us (o .isTable) (run .shows .now) bytes d (fits-as f) le (founds s (mainsOf s) ck) res more (w .given) (run .shows .is) (w .only) ∙ ap (λ t. keptCells t us (w .given)) (sym (f .time));
+          is = ap₂ (λ m cs. table.across m s n sights cs) (mode-as f) (behind-head us)
+              ∙ ap₂ (λ k q. table.across (cells.following (d .time) (d .type) (cellsOf (d .values))) s k q
+              (drop 8 us)) (run .count) seen ∙ w .only;
+          reads = reading-running s (mainsOf s) ck us (o .isTable) (run .shows .now) bytes d (fits-as f) le
+              (founds s (mainsOf s) ck) res more (w .given) (run .shows .is) (w .only)
+              ∙ ap (λ t. keptCells t us (w .given)) (sym (f .time));
         }
 
-    module _ (e : Event) (rs : List ℤ) (r : Reduced) (out : List ℤ) (h : Is (treeReduced (modeAt e rs) s n sights (take (length us - 8) (drop 8 us))) r out) where
+    module _ (e : Event) (rs : List ℤ) (r : Reduced) (out : List ℤ)
+        (h : Is (treeReduced (modeAt e rs) s n sights (take (length us - 8) (drop 8 us))) r out) where
       given-is : {bytes : List ℕ} (g : Given bytes e rs) → Is (g .given) r out
       given-is g = rw (tree-only (g .is)) at h
 
       pub follow-few : (bytes : List ℕ) × Fitted s bytes us e rs → bitsIn r < 65_536
-      follow-few f = let g = following (f .0) e rs (f .1) in answer-few (g .given) r out (outcome-few (modeAt e rs) s n sights (take (length us - 8) (drop 8 us)) (g .is)) (given-is g)
+      follow-few f = let g = following (f .0) e rs (f .1) in
+          answer-few (g .given) r out (outcome-few (modeAt e rs) s n sights (take (length us - 8) (drop 8 us))
+          (g .is)) (given-is g)
 
-      module _ {t : ℕ} (et : t ≡ e .time) {after : List ℤ} {q : Bool} (settles : Settles t r out us after q) (bytes : List ℕ) (f : Fitted s bytes us e rs) where
+      module _ {t : ℕ} (et : t ≡ e .time) {after : List ℤ} {q : Bool} (settles : Settles t r out us after q)
+          (bytes : List ℕ) (f : Fitted s bytes us e rs) where
         reads-as : (g : Given bytes e rs) → keptCells t us (g .given) ≡ readingOf s us bytes
         reads-as g = ap (λ k. keptCells k us (g .given)) et ∙ sym (g .reads)
 
@@ -175,21 +191,24 @@ module _ {s places : List ℕ} {us : List ℤ} {sights : List ℕ} (o : Opened s
     unfolding Shows
     shown-damaged e = rw e at v
 
-    pub read-damaged : st ≡ Damaged → (bytes : List ℕ) → takenAnswer (refusedReading TableContent) us ≡ readingOf s us bytes
+    pub read-damaged : st ≡ Damaged → (bytes : List ℕ)
+        → takenAnswer (refusedReading TableContent) us ≡ readingOf s us bytes
     read-damaged e bytes = sym (reading-seven us s ag (mainsOf s) ck (o .isTable) bytes (shown-damaged e))
 
     module _ (bytes : List ℕ) {e : Event} {rs : List ℤ} (f : Fitted s bytes us e rs) where
       pub read-breached : {t : ℤ} {b : ℕ} → st ≡ Breached t b → takenAnswer acceptedReading us ≡ readingOf s us bytes
       read-breached e =
           let b = shown-breached e in
-          sym (reading-breach s (mainsOf s) ck us (o .isTable) (b .shows .now) bytes (f .reading) (fits-as f) (in-order f (b .shows)) (b .time) _ (b .shows .is))
+          sym (reading-breach s (mainsOf s) ck us (o .isTable) (b .shows .now) bytes (f .reading) (fits-as f)
+          (in-order f (b .shows)) (b .time) _ (b .shows .is))
 
       pub read-done : st ≡ Fulfilled → takenAnswer acceptedReading (set us 1 (toZ w64 (e .time))) ≡ readingOf s us bytes
       read-done g =
           let r = shown-done g in
           let d = f .reading in
           let back = sym (table-back ag (mainsOf s) us (runAt (r .now) done) (r .is) (o .isTable)) in
-          ap (answer 0) (ap (set us 1) (toZ-pos w64 (e .time) (omega (arith, f .fits)) ∙ ap pos (f .time)) ∙ moved us (r .now) (d .time) back)
+          ap (answer 0) (ap (set us 1) (toZ-pos w64 (e .time) (omega (arith, f .fits)) ∙ ap pos (f .time))
+          ∙ moved us (r .now) (d .time) back)
           ∙ sym (reading-done s (mainsOf s) ck us (o .isTable) (r .now) bytes d (fits-as f) (in-order f r) (r .is))
 
   -- ---- before the reading is known to fit
@@ -228,7 +247,8 @@ module _ {s places : List ℕ} {us : List ℤ} {sights : List ℕ} (o : Opened s
       pub read-nine : t ≡ Untyped → takenAnswer (refusedReading ReadingTyping) us ≡ readingOf s us bytes
       read-nine g =
           let f : UntypedRead s bytes = rw g at h in
-          sym (reading-nine s (mainsOf s) ck us (o .isTable) (shown .run) (shown .is) bytes (f .raw) (f .is) (f .untyped))
+          sym (reading-nine s (mainsOf s) ck us (o .isTable) (shown .run) (shown .is) bytes (f .raw) (f .is)
+          (f .untyped))
 
       module _ {time sort n : ℕ} (g : t ≡ Fits time sort n) where
         abbrev fitting-read : FittingRead s bytes values time sort n
@@ -241,18 +261,26 @@ module _ {s places : List ℕ} {us : List ℤ} {sights : List ℕ} (o : Opened s
         read-soon = fitting-read .early
 
         -- the time of the last reading, as the code compares
-        earlier : {z : ℤ} {b : Bool} → z ≡ getD us 1 (pos 0) → b ≡ ltZ (toZ w64 time) z → b ≡ ltb time (shown .run .lastTime)
+        earlier : {z : ℤ} {b : Bool} → z ≡ getD us 1 (pos 0) → b ≡ ltZ (toZ w64 time) z
+            → b ≡ ltb time (shown .run .lastTime)
         unfolding ltZ
         earlier ez eb = eb ∙ ap₂ ltZ (toZ-pos w64 time (omega (arith, read-soon))) (ez ∙ shown .cell)
 
-        pub read-ten : {z : ℤ} {b : Bool} → z ≡ getD us 1 (pos 0) → b ≡ ltZ (toZ w64 time) z → b ≡ true → takenAnswer (refusedReading ReadingTime) us ≡ readingOf s us bytes
+        pub read-ten : {z : ℤ} {b : Bool} → z ≡ getD us 1 (pos 0) → b ≡ ltZ (toZ w64 time) z → b ≡ true
+            → takenAnswer (refusedReading ReadingTime) us ≡ readingOf s us bytes
         unfolding fitting _>>=_
         read-ten ez eb t =
             let f = fitting-read in
             let fits : fitting ag bytes ≡ some (f .reading) = rw (f .is) (f .typed) in
-            sym (reading-ten s (mainsOf s) ck us (o .isTable) (shown .run) (shown .is) bytes (f .reading) fits (omega (arith, ltb-true time (shown .run .lastTime) (sym (earlier ez eb) ∙ t), f .time)))
+            sym (reading-ten s (mainsOf s) ck us (o .isTable) (shown .run) (shown .is) bytes (f .reading) fits
+            (omega (arith, ltb-true time (shown .run .lastTime) (sym (earlier ez eb) ∙ t), f .time)))
 
-        pub read-fitted : {z : ℤ} {b : Bool} → z ≡ getD us 1 (pos 0) → b ≡ ltZ (toZ w64 time) z → b ≡ false → Fitted s bytes us (record { step = Follow; time = time; sort = sort }) (take n values)
+        pub read-fitted : {z : ℤ} {b : Bool} → z ≡ getD us 1 (pos 0) → b ≡ ltZ (toZ w64 time) z → b ≡ false
+            → Fitted s bytes us (record {
+              step = Follow;
+              time = time;
+              sort = sort;
+            }) (take n values)
         read-fitted ez eb t =
             let f = fitting-read in
             record {
@@ -266,19 +294,30 @@ module _ {s places : List ℕ} {us : List ℤ} {sights : List ℕ} (o : Opened s
               cells = f .cells;
               few = omega (arith, f .few, length-take n values);
               fits = f .early;
-              inOrder = λ now e. omega (arith, ltb-false time (shown .run .lastTime) (sym (earlier ez eb) ∙ t), same-number (sym e ∙ shown .cell));
+              inOrder = λ now e. omega (
+                arith,
+                ltb-false time (shown .run .lastTime) (sym (earlier ez eb) ∙ t),
+                same-number (sym e ∙ shown .cell),
+              );
             }
 
 -- ---- refusals 1 to 6, and what goes on
-pub read-checked : (s places : List ℕ) (us : List ℤ) (bytes : List ℕ) {c : Checked} {why : Refusal} → Verified s places c → c ≡ Refused why → takenAnswer (refusedReading why) us ≡ readingOf s us bytes
-read-checked s places us bytes {why = why} v e = let w : Verified s places (Refused why) = rw e at v in sym (reading-refused us s (numberOf why) w bytes)
+pub read-checked : (s places : List ℕ) (us : List ℤ) (bytes : List ℕ) {c : Checked} {why : Refusal}
+    → Verified s places c → c ≡ Refused why → takenAnswer (refusedReading why) us ≡ readingOf s us bytes
+read-checked s places us bytes {why = why} v e = let w : Verified s places (Refused why) = rw e at v in
+    sym (reading-refused us s (numberOf why) w bytes)
 
-pub read-table : (s places : List ℕ) (us : List ℤ) (bytes : List ℕ) {c : Checked} {p : ℕ} → Verified s places c → c ≡ acceptedAgreement p → (length us ≡ 3080 → ⊥) → takenAnswer (refusedReading TableLength) us ≡ readingOf s us bytes
-read-table s places us bytes v e h = let g = goes-on s places v e in sym (reading-six us s (agreementOf s) (g .mains) (g .isAccepted) h bytes)
+pub read-table : (s places : List ℕ) (us : List ℤ) (bytes : List ℕ) {c : Checked} {p : ℕ} → Verified s places c
+    → c ≡ acceptedAgreement p → (length us ≡ 3080 → ⊥)
+    → takenAnswer (refusedReading TableLength) us ≡ readingOf s us bytes
+read-table s places us bytes v e h = let g = goes-on s places v e in
+    sym (reading-six us s (agreementOf s) (g .mains) (g .isAccepted) h bytes)
 
 -- what `state_of` asks
-pub state-asked : (s places : List ℕ) {c : Checked} {p : ℕ} → Verified s places c → c ≡ acceptedAgreement p → Indexed places s × Accepted s × (p ≡ bitsOf (mainsOf s))
+pub state-asked : (s places : List ℕ) {c : Checked} {p : ℕ} → Verified s places c → c ≡ acceptedAgreement p
+    → Indexed places s × Accepted s × (p ≡ bitsOf (mainsOf s))
 state-asked s places v e = let g = goes-on s places v e in (g .indexed, record { is = accepts g }, main-parties g)
 
-pub opened : (s places : List ℕ) {us : List ℤ} {sights : List ℕ} {c : Checked} {p : ℕ} → Verified s places c → c ≡ acceptedAgreement p → length us ≡ 3080 → length sights ≡ 256 → Opened s places us sights
+pub opened : (s places : List ℕ) {us : List ℤ} {sights : List ℕ} {c : Checked} {p : ℕ} → Verified s places c
+    → c ≡ acceptedAgreement p → length us ≡ 3080 → length sights ≡ 256 → Opened s places us sights
 opened s places {p = p} v e l r = record { parties = p; goes = goes-on s places v e; isTable = l; room = r }

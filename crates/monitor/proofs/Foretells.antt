@@ -35,11 +35,13 @@ use Rattle.monitor.specs.declared.Checked.{Checked}
 use Rattle.monitor.specs.declared.Checked.the-variants.{Accepted, Refused}
 use Rattle.monitor.specs.declared.Refusal.{Refusal}
 use Rattle.monitor.specs.declared.Refusal.the-variants.{TableLength, TableContent}
-use Rattle.monitor.specs.declared.Foretold.the-variants.{Nothing, Breach as breachForetold, Refused as refusedForecast}
+use Rattle.monitor.specs.declared.Foretold.the-variants.{Nothing, Breach as breachForetold}
+use Rattle.monitor.specs.declared.Foretold.the-variants.{Refused as refusedForecast}
 use Rattle.monitor.specs.Answers.{numberOf, forecastAnswer, Verified, Opened}
 use Rattle.monitor.proofs.Begins.{goes-on}
 use Rattle.monitor.proofs.Tabled.{founds, sighted}
-use Rattle.monitor.proofs.Follows.{accepts, behind-head, residue-sights, shown-done, shown-breached, shown-damaged}
+use Rattle.monitor.proofs.Follows.{accepts, behind-head, residue-sights, shown-done, shown-breached}
+use Rattle.monitor.proofs.Follows.{shown-damaged}
 
 -- ---- a time u in a cell t, read as m
 module _ {t : ℤ} {u : ℕ} (fits : mag t < 2 ^ 63) (is : t ≡ pos u) where
@@ -57,7 +59,8 @@ module _ {s places : List ℕ} {us : List ℤ} {sights : List ℕ} (o : Opened s
   ck = accepts (o .goes)
 
   -- ---- a running run
-  module _ {n : ℕ} (run : RunningAs (runIn s us) us sights n) (r : Reduced) (out : List ℤ) (h : Is (treeReduced cells.forecasting s n sights (take (length us - 8) (drop 8 us))) r out) where
+  module _ {n : ℕ} (run : RunningAs (runIn s us) us sights n) (r : Reduced) (out : List ℤ)
+      (h : Is (treeReduced cells.forecasting s n sights (take (length us - 8) (drop 8 us))) r out) where
     record Given : Type 0 where
       given : cells.Reduced
       isFor : Is given r out
@@ -69,12 +72,15 @@ module _ {s places : List ℕ} {us : List ℤ} {sights : List ℕ} (o : Opened s
         let res = run .residue in
         let now = run .shows .now in
         let more = drop (2 * units res) sights in
-        let w = forecast-across s (mainsOf s) (isFair s (agreementOf s) (mainsOf s) ck) (founds s (mainsOf s) ck) now res us (o .isTable) (run .shows .is) more in
-        let f = forecast-running s (mainsOf s) ck us (o .isTable) (founds s (mainsOf s) ck) now res more (w .given) (run .shows .is) (w .only) in
+        let w = forecast-across s (mainsOf s) (isFair s (agreementOf s) (mainsOf s) ck) (founds s (mainsOf s) ck) now
+        res us (o .isTable) (run .shows .is) more in
+        let f = forecast-running s (mainsOf s) ck us (o .isTable) (founds s (mainsOf s) ck) now res more (w .given)
+        (run .shows .is) (w .only) in
         let same = sighted s (mainsOf s) ck now res us (o .isTable) (run .shows .is) sights (residue-sights o run) in
         record {
           given = w .given;
-          isFor = rw (tree-only {x = w .given} (ap (table.across cells.forecasting s n sights) (behind-head us) ∙ ap₂ (λ k q. table.across cells.forecasting s k q (drop 8 us)) (run .count) same ∙ w .only)) at h;
+          isFor = rw (tree-only {x = w .given} (ap (table.across cells.forecasting s n sights) (behind-head us)
+              ∙ ap₂ (λ k q. table.across cells.forecasting s k q (drop 8 us)) (run .count) same ∙ w .only)) at h;
           answers = f .0;
           ends = f .1;
         }
@@ -94,7 +100,8 @@ module _ {s places : List ℕ} {us : List ℤ} {sights : List ℕ} (o : Opened s
 
       pub ahead-breach : {m : ℕ} → pos m ≡ seen t → forecastAnswer (breachForetold m b) ≡ forecastOf s us
       unfolding foretold
-      ahead-breach h = ap (λ u. entries.breachAt u b) (time-read fits (dated .2) h) ∙ sym (ahead .answers ∙ ap foretold (dated .1))
+      ahead-breach h = ap (λ u. entries.breachAt u b) (time-read fits (dated .2) h)
+          ∙ sym (ahead .answers ∙ ap foretold (dated .1))
 
     pub ahead-running : {m : ℕ} → r ≡ Running m → forecastAnswer Nothing ≡ forecastOf s us
     ahead-running {m = m} e =
@@ -117,11 +124,17 @@ module _ {s places : List ℕ} {us : List ℤ} {sights : List ℕ} (o : Opened s
       pub foretell-breach : {m : ℕ} → pos m ≡ seen t → forecastAnswer (breachForetold m b) ≡ forecastOf s us
       foretell-breach h =
           let r = shown-breached o v e in
-          ap₂ entries.breachAt (time-read fits (r .isTime) h) (sym (bits-members b (omega (arith, r .small)))) ∙ sym (forecast-breach s (mainsOf s) ck us (o .isTable) (r .shows .now) (r .time) (members b) (r .shows .is))
+          ap₂ entries.breachAt (time-read fits (r .isTime) h) (sym (bits-members b (omega (arith, r .small))))
+          ∙ sym (forecast-breach s (mainsOf s) ck us (o .isTable) (r .shows .now) (r .time) (members b)
+          (r .shows .is))
 
 -- ---- refusals 1 to 6
-pub foretell-checked : (s places : List ℕ) (us : List ℤ) {c : Checked} {why : Refusal} → Verified s places c → c ≡ Refused why → forecastAnswer (refusedForecast why) ≡ forecastOf s us
-foretell-checked s places us {why = why} v e = let w : Verified s places (Refused why) = rw e at v in sym (forecast-refused us s (numberOf why) w)
+pub foretell-checked : (s places : List ℕ) (us : List ℤ) {c : Checked} {why : Refusal} → Verified s places c
+    → c ≡ Refused why → forecastAnswer (refusedForecast why) ≡ forecastOf s us
+foretell-checked s places us {why = why} v e = let w : Verified s places (Refused why) = rw e at v in
+    sym (forecast-refused us s (numberOf why) w)
 
-pub foretell-table : (s places : List ℕ) (us : List ℤ) {c : Checked} {p : ℕ} → Verified s places c → c ≡ Accepted p → (length us ≡ 3080 → ⊥) → forecastAnswer (refusedForecast TableLength) ≡ forecastOf s us
-foretell-table s places us v e h = let g = goes-on s places v e in sym (forecast-six us s (agreementOf s) (g .mains) (g .isAccepted) h)
+pub foretell-table : (s places : List ℕ) (us : List ℤ) {c : Checked} {p : ℕ} → Verified s places c → c ≡ Accepted p
+    → (length us ≡ 3080 → ⊥) → forecastAnswer (refusedForecast TableLength) ≡ forecastOf s us
+foretell-table s places us v e h = let g = goes-on s places v e in
+    sym (forecast-six us s (agreementOf s) (g .mains) (g .isAccepted) h)

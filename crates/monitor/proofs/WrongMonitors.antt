@@ -46,20 +46,25 @@ module _ (start : List ℕ → List ℤ → Answer) (starts : (s : List ℕ) (us
 
   pub eleven-at-once : ((s : List ℕ) (us : List ℤ) → (start s us) .number ≡ 11) → ⊥
   unfolding computes zeros
-  eleven-at-once wrong = let z : _≡_ {A = ℕ} 0 11 = sym (ap (λ a. a .number) (starts sample zeros)) ∙ wrong sample zeros in absurd (omega arith)
+  eleven-at-once wrong = let z : _≡_ {A = ℕ} 0 11 = sym (ap (λ a. a .number) (starts sample zeros))
+      ∙ wrong sample zeros in absurd (omega arith)
 
   pub invented-units : (n : ℕ) → ((s : List ℕ) (us : List ℤ) → unitsIn ((start s us) .table) ≡ pos n) → ⊥
   unfolding computes zeros
   invented-units n wrong =
-      let one : _≡_ {A = ℕ} 1 n = ap natAbs (sym (ap (λ a. unitsIn (a .table)) (starts sample zeros)) ∙ wrong sample zeros) in
-      let three : _≡_ {A = ℕ} 3 n = ap natAbs (sym (ap (λ a. unitsIn (a .table)) (starts p8bytes zeros)) ∙ wrong p8bytes zeros) in
+      let one : _≡_ {A = ℕ} 1 n = ap natAbs (sym (ap (λ a. unitsIn (a .table)) (starts sample zeros))
+      ∙ wrong sample zeros) in
+      let three : _≡_ {A = ℕ} 3 n = ap natAbs
+      (sym (ap (λ a. unitsIn (a .table)) (starts p8bytes zeros)) ∙ wrong p8bytes zeros) in
       absurd (omega arith)
 
-module _ (reading : List ℕ → List ℤ → List ℕ → Answer) (reads : (s : List ℕ) (us : List ℤ) (r : List ℕ) → reading s us r ≡ readingOf s us r) where
+module _ (reading : List ℕ → List ℤ → List ℕ → Answer)
+    (reads : (s : List ℕ) (us : List ℤ) (r : List ℕ) → reading s us r ≡ readingOf s us r) where
   -- P2 then P3: no monitor that meets the contract is still running
   fulfilled : stateIn ((reading sample (p2 .table) p3bytes) .table) ≡ pos 1 → ⊥
   unfolding computes zeros
-  fulfilled live = let z : _≡_ {A = ℕ} 2 1 = ap natAbs (sym (ap (λ a. stateIn (a .table)) (reads sample (p2 .table) p3bytes)) ∙ live) in absurd (omega arith)
+  fulfilled live = let z : _≡_ {A = ℕ} 2 1 = ap natAbs
+      (sym (ap (λ a. stateIn (a .table)) (reads sample (p2 .table) p3bytes)) ∙ live) in absurd (omega arith)
 
   pub live-always : ((s : List ℕ) (us : List ℤ) (r : List ℕ) → stateIn ((reading s us r) .table) ≡ pos 1) → ⊥
   live-always wrong = fulfilled (wrong sample (p2 .table) p3bytes)
@@ -69,13 +74,17 @@ module _ (reading : List ℕ → List ℤ → List ℕ → Answer) (reads : (s :
   table-left-alone wrong = fulfilled (ap stateIn (wrong sample (p2 .table) p3bytes))
 
   -- once the last reading time is no longer the start, only that time is set
-  pub works-at-the-first-reading : ((s : List ℕ) (us : List ℤ) (r : List ℕ) → (timeIn us ≡ pos (le32 s 4) → ⊥) → (reading s us r) .table ≡ set us 1 (pos (le32 r 4))) → ⊥
+  pub works-at-the-first-reading : ((s : List ℕ) (us : List ℤ) (r : List ℕ) → (timeIn us ≡ pos (le32 s 4) → ⊥)
+      → (reading s us r) .table ≡ set us 1 (pos (le32 r 4))) → ⊥
   unfolding computes zeros
   works-at-the-first-reading wrong = fulfilled (ap stateIn (wrong sample (p2 .table) p3bytes later))
     where
       later : timeIn (p2 .table) ≡ pos (le32 sample 4) → ⊥
       later e = let z : _≡_ {A = ℕ} 110 100 = ap natAbs e in absurd (omega arith)
 
-  pub eleven-at-the-first-reading : ((s : List ℕ) (us : List ℤ) (r : List ℕ) → timeIn us ≡ pos (le32 s 4) → (reading s us r) .number ≡ 11) → ⊥
+  pub eleven-at-the-first-reading : ((s : List ℕ) (us : List ℤ) (r : List ℕ) → timeIn us ≡ pos (le32 s 4)
+      → (reading s us r) .number ≡ 11) → ⊥
   unfolding computes zeros
-  eleven-at-the-first-reading wrong = let z : _≡_ {A = ℕ} 0 11 = sym (ap (λ a. a .number) (reads sample (p1 .table) p2bytes)) ∙ wrong sample (p1 .table) p2bytes refl in absurd (omega arith)
+  eleven-at-the-first-reading wrong = let z : _≡_ {A = ℕ} 0 11 = sym
+      (ap (λ a. a .number) (reads sample (p1 .table) p2bytes)) ∙ wrong sample (p1 .table) p2bytes refl in
+      absurd (omega arith)

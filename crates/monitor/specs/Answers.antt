@@ -22,7 +22,10 @@ use Rattle.rules.specs.declared.Step.the-variants.{Follow}
 use Rattle.state.specs.declared.State.{State}
 use Rattle.state.specs.declared.State.the-variants.{Damaged, Running, Fulfilled, Breached}
 use Rattle.monitor.specs.declared.Refusal.{Refusal}
-use Rattle.monitor.specs.declared.Refusal.the-variants.{AgreementLength, AgreementForm, AgreementTyping, AgreementGuards, AgreementWidth, TableLength, TableContent, ReadingForm, ReadingTyping, ReadingTime, Units}
+use Rattle.monitor.specs.declared.Refusal.the-variants.{AgreementLength, AgreementForm, AgreementTyping}
+use Rattle.monitor.specs.declared.Refusal.the-variants.{AgreementGuards, AgreementWidth, TableLength}
+use Rattle.monitor.specs.declared.Refusal.the-variants.{TableContent, ReadingForm, ReadingTyping, ReadingTime}
+use Rattle.monitor.specs.declared.Refusal.the-variants.{Units}
 use Rattle.monitor.specs.declared.Checked.{Checked}
 use Rattle.monitor.specs.declared.Checked.the-variants.{Accepted, Refused}
 use Rattle.monitor.specs.declared.Started.{Started}

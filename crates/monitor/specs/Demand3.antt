@@ -56,7 +56,8 @@ pub record Upheld (a : Agreement) (mains : List ℕ) (r : Started) (us : List �
   -- every other answer is a refusal, which alters no cell
   pub refused : (before : List Call) (one : Call) (later : List Call) → calls ≡ before ++ (one ∷ later)
       → numberIn one ≢ 0 → one .left ≡ lastTable us before
-  -- "a breach names only parties that can be blamed, at a time from the start to the reading that showed it", here `one`
+  -- "a breach names only parties that can be blamed, at a time from the start to the reading that showed it", here
+  -- `one`
   pub breached : (before : List Call) (one : Call) (later : List Call) → calls ≡ before ++ (one ∷ later)
       → (IsBreach (runBy a before .outcome) → ⊥)
       → (t : ℕ) (ps : List ℕ) → (step a (runBy a before) (one .bytes)) .run .outcome ≡ breach t ps

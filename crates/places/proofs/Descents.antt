@@ -83,11 +83,12 @@ module _ (ag : Agreement) (p : ℕ) (f : Found) where
   TypedFound = TypedSide (namesOf ag (f .params)) (f .sight) (f .clause)
 
   -- the clause itself
-  same-found : (n : ℕ) (env : List Ty) (c : Clause) {ps : List ℕ} → typeClause (namesOf ag n) env c ≡ some ps → some (record {
-    clause = c;
-    sight = env;
-    params = n;
-  }) ≡ some f → TypedFound
+  same-found : (n : ℕ) (env : List Ty) (c : Clause) {ps : List ℕ} → typeClause (namesOf ag n) env c ≡ some ps
+      → some (record {
+        clause = c;
+        sight = env;
+        params = n;
+      }) ≡ some f → TypedFound
   same-found n env c {ps} t e = subst (λ (g : Found). TypedSide (namesOf ag (g .params)) (g .sight) (g .clause))
       (some-inj e) (record { parties = ps; typed = t })
 

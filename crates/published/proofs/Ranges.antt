@@ -30,7 +30,8 @@ sub-above a b t = go (ltb a b) refl
     go false e h = let l = nltb→le a b (subst (λ z. T (not z)) (sym e) tt) in let k = leb→le t (a - b) h in omega arith
 
 sub-below : (a b m : ℕ) → subℕ a b ≡ pos m → m ≤ a
-sub-below a b m e = let h = sub-above a b m (subst (λ z. T (leZ (pos m) z)) (sym e) (le→leb m m (omega arith))) in omega arith
+sub-below a b m e = let h = sub-above a b m (subst (λ z. T (leZ (pos m) z)) (sym e) (le→leb m m (omega arith))) in
+    omega arith
 
 -- the window's first end, of a clause activated at τ, is at most τ + limit
 first-below : (τ a : ℕ) (x : ℤ) → T (inRange x) → pos τ +ℤ x ≡ pos a → a ≤ τ + limit
@@ -42,12 +43,16 @@ first-below τ a (negsuc b) h e = omega (arith, sub-below τ (suc b) a e)
 after-range : (f y : ℤ) (τ t : ℕ) (x : ℤ) → T (inRange x) → T (inRange y) → τ ≤ t → pos τ +ℤ x ≡ f
     → T (leZ (pos t) (f +ℤ y)) → T (inRange (f -ℤ pos t))
 unfolding inRange
-after-range (pos a) (pos b) τ t x hx hy le e l = le→leb (natAbs (pos a -ℤ pos t)) limit (minus-size a t limit (omega (arith, first-below τ a x hx e)) (omega (arith, leb→le t (a + b) l, leb→le b limit hy)))
-after-range (pos a) (negsuc b) τ t x hx hy le e l = le→leb (natAbs (pos a -ℤ pos t)) limit (minus-size a t limit (omega (arith, first-below τ a x hx e)) (omega (arith, sub-above a (suc b) t l)))
+after-range (pos a) (pos b) τ t x hx hy le e l = le→leb (natAbs (pos a -ℤ pos t)) limit
+    (minus-size a t limit (omega (arith, first-below τ a x hx e))
+    (omega (arith, leb→le t (a + b) l, leb→le b limit hy)))
+after-range (pos a) (negsuc b) τ t x hx hy le e l = le→leb (natAbs (pos a -ℤ pos t)) limit
+    (minus-size a t limit (omega (arith, first-below τ a x hx e)) (omega (arith, sub-above a (suc b) t l)))
 after-range (negsuc a) (pos b) τ t x hx hy le e l = go t (sub-above b (suc a) t l)
   where
     go : (t : ℕ) → t + suc a ≤ b → T (inRange (negsuc a -ℤ pos t))
-    go zero k = le→leb (natAbs (subℕ 0 (suc a))) limit (sub-size 0 (suc a) limit (omega arith) (omega (arith, leb→le b limit hy)))
+    go zero k = le→leb (natAbs (subℕ 0 (suc a))) limit
+        (sub-size 0 (suc a) limit (omega arith) (omega (arith, leb→le b limit hy)))
     go (suc t) k = le→leb (suc (suc (a + t))) limit (omega (arith, leb→le b limit hy))
 after-range (negsuc a) (negsuc b) τ t x hx hy le e l = absurd l
 
@@ -57,4 +62,7 @@ within-is f y = ap (λ z. z -ℤ f) (+ℤ-comm f y) ∙ +ℤ-negℤ-cancel y f
 
 pub rewritten-range : (x y : ℤ) (τ t : ℕ) → T (inRange x) → T (inRange y) → τ ≤ t → pos t ≤ℤ ((pos τ +ℤ x) +ℤ y)
     → T (inRange ((pos τ +ℤ x) -ℤ pos t)) × T (inRange (((pos τ +ℤ x) +ℤ y) -ℤ (pos τ +ℤ x)))
-rewritten-range x y τ t hx hy le l = (after-range (pos τ +ℤ x) y τ t x hx hy le refl (l .le), subst (λ z. T (inRange z)) (sym (within-is (pos τ +ℤ x) y)) hy)
+rewritten-range x y τ t hx hy le l = (
+  after-range (pos τ +ℤ x) y τ t x hx hy le refl (l .le),
+  subst (λ z. T (inRange z)) (sym (within-is (pos τ +ℤ x) y)) hy,
+)

@@ -30,7 +30,8 @@ module _ (D : List Template) (ε : Reading) where
     -- c[v/x, τ₂ − τ′/z]
     i-obligation-matched : {τ b : ℕ} {s : Sight} {w : Wait} {c : Clause} (d : Window)
         → Due (s .values) τ w d → Matches ε s w d
-        → Sighted τ (closed s (obligation b w c)) (clause (closed (withValues s (ε .values) (d .last -ℤ pos (ε .time))) c))
+        → Sighted τ (closed s (obligation b w c))
+        (clause (closed (withValues s (ε .values) (d .last -ℤ pos (ε .time))) c))
     -- (max(τ, τ₂), {p})
     i-obligation-late : {τ b p : ℕ} {s : Sight} {w : Wait} {c : Clause} (d : Window)
         → Due (s .values) τ w d → d .last <ℤ pos (ε .time) → Stands (s .params) b p
@@ -41,7 +42,8 @@ module _ (D : List Template) (ε : Reading) where
         → Sighted τ (closed s (obligation b w c)) (clause (closed s (obligation b (rewritten w d (ε .time)) c)))
     i-choice-matched : {τ : ℕ} {s : Sight} {w : Wait} {c₁ c₂ : Clause} (d : Window)
         → Due (s .values) τ w d → Matches ε s w d
-        → Sighted τ (closed s (choice w c₁ c₂)) (clause (closed (withValues s (ε .values) (d .last -ℤ pos (ε .time))) c₁))
+        → Sighted τ (closed s (choice w c₁ c₂))
+        (clause (closed (withValues s (ε .values) (d .last -ℤ pos (ε .time))) c₁))
     -- D, max(τ, τ₂) ⊢ c₂ –ε→ 𝐜
     i-choice-late : {τ : ℕ} {s : Sight} {w : Wait} {c₁ c₂ : Clause} {r : Residual Text} (d : Window)
         → Due (s .values) τ w d → d .last <ℤ pos (ε .time) → Sighted (laterOf τ (d .last)) (closed s c₂) r
@@ -59,6 +61,7 @@ module _ (D : List Template) (ε : Reading) where
         → Evaluates (s .values) e (bool true) → Sighted τ (closed s c₁) r → Sighted τ (closed s (if e c₁ c₂)) r
     i-internal-false : {τ : ℕ} {s : Sight} {e : Expr} {c₁ c₂ : Clause} {r : Residual Text}
         → Evaluates (s .values) e (bool false) → Sighted τ (closed s c₂) r → Sighted τ (closed s (if e c₁ c₂)) r
-    i-instantiation : {τ f : ℕ} {s : Sight} {es : List Expr} {bs ps : List ℕ} {vs : List Val} {t : Template} {r : Residual Text}
+    i-instantiation : {τ f : ℕ} {s : Sight} {es : List Expr} {bs ps : List ℕ} {vs : List Val} {t : Template}
+        {r : Residual Text}
         → EvaluateAll (s .values) es vs → StandAll (s .params) bs ps → at D f ≡ some t
         → Sighted τ (closed (sightOf ps vs) (t .body)) r → Sighted τ (closed s (instance f es bs)) r

@@ -47,11 +47,12 @@ module _ (a : Agreement) (w : run.Raw) where
       → given (typedReading a w) ≡ eqb (length ts) (length (w .numbers))
       && given (valuesOf (a .parties) ts (w .numbers))
   unfolding typedReading _>>=_
-  typed-some ts e = rw e (given-then (eqb (length ts) (length (w .numbers))) (valuesOf (a .parties) ts (w .numbers)) (λ vs. record {
-    time = w .time;
-    type = w .type;
-    values = vs .0;
-  }))
+  typed-some ts e = rw e (given-then (eqb (length ts) (length (w .numbers))) (valuesOf (a .parties) ts (w .numbers))
+      (λ vs. record {
+        time = w .time;
+        type = w .type;
+        values = vs .0;
+      }))
 
   typed-kept : (d : Reading) → typedReading a w ≡ some d → Kept w d
   unfolding typedReading

@@ -1,4 +1,5 @@
--- The contracts of the public entries, spelled out: the answer and the table left are the defined ones, whatever is lent.
+-- The contracts of the public entries, spelled out: the answer and the table left are the defined ones, whatever is
+-- lent.
 -- A contract that says less, or asks something of its caller, breaks this file.
 use mathlib.Core.Path.{_≡_}
 use contract.Lifetimes.{Lfts}
@@ -11,6 +12,7 @@ use Rattle.monitor.specs.declared.Started.{Started}
 use Rattle.monitor.specs.declared.Taken.{Taken}
 use Rattle.monitor.specs.declared.Foretold.{Foretold}
 use Rattle.monitor.specs.Answers.{checkAnswer, forecastAnswer, startAnswer, takenAnswer}
+use Rattle.monitor.proofs.Calls.{forecast-call, reading-call, start-call}
 use Rattle.monitor.proofs.check.Kinds as check-kinds
 use Rattle.monitor.proofs.check.Reads as check
 use Rattle.monitor.proofs.start.Kinds as start-kinds
@@ -20,19 +22,23 @@ use Rattle.monitor.proofs.reading.Reads as reading
 use Rattle.monitor.proofs.forecast.Kinds as forecast-kinds
 use Rattle.monitor.proofs.forecast.Reads as forecast
 
-checks : (κs : Lfts 1) (given : Dens {n = 1} κs check-kinds.ps) (r : Checked) (left : AtExit (endedOf 1 check-kinds.ps check-kinds.r) κs)
+checks : (κs : Lfts 1) (given : Dens {n = 1} κs check-kinds.ps) (r : Checked)
+    (left : AtExit (endedOf 1 check-kinds.ps check-kinds.r) κs)
     → check.Post κs given r left → checkAnswer r ≡ checkOf (given .0 .now)
 checks κs given r left meets = meets
 
-starts : (κs : Lfts 2) (given : Dens {n = 2} κs start-kinds.ps) (r : Started) (left : AtExit (endedOf 2 start-kinds.ps start-kinds.r) κs)
+starts : (κs : Lfts 2) (given : Dens {n = 2} κs start-kinds.ps) (r : Started)
+    (left : AtExit (endedOf 2 start-kinds.ps start-kinds.r) κs)
     → start.Post κs given r left → startAnswer r (left .1 .0 .now) ≡ startOf (given .0 .now) (given .1 .0 .now)
-starts κs given r left meets = meets
+starts = start-call
 
-reads : (κs : Lfts 3) (given : Dens {n = 3} κs reading-kinds.ps) (r : Taken) (left : AtExit (endedOf 3 reading-kinds.ps reading-kinds.r) κs)
+reads : (κs : Lfts 3) (given : Dens {n = 3} κs reading-kinds.ps) (r : Taken)
+    (left : AtExit (endedOf 3 reading-kinds.ps reading-kinds.r) κs)
     → reading.Post κs given r left
     → takenAnswer r (left .1 .0 .now) ≡ readingOf (given .0 .now) (given .1 .0 .now) (given .1 .1 .0 .now)
-reads κs given r left meets = meets
+reads = reading-call
 
-foretells : (κs : Lfts 2) (given : Dens {n = 2} κs forecast-kinds.ps) (r : Foretold) (left : AtExit (endedOf 2 forecast-kinds.ps forecast-kinds.r) κs)
+foretells : (κs : Lfts 2) (given : Dens {n = 2} κs forecast-kinds.ps) (r : Foretold)
+    (left : AtExit (endedOf 2 forecast-kinds.ps forecast-kinds.r) κs)
     → forecast.Post κs given r left → forecastAnswer r ≡ forecastOf (given .0 .now) (given .1 .0 .now)
-foretells κs given r left meets = meets
+foretells = forecast-call

@@ -10,7 +10,7 @@ use lib.ListN.{length}
 use Rattle.csl.specs.Parties.{subset}
 use Rattle.csl.specs.Syntax.{Agreement}
 use Rattle.csl.specs.Check.{checked, accepted}
-use Rattle.csl.specs.Outcomes.{Outcome, breach, stuck}
+use Rattle.csl.specs.Outcomes.{breach, stuck}
 use Rattle.csl.specs.Rules.{Reading}
 use Rattle.csl.specs.Run.{Run, started, step}
 use Rattle.csl.specs.Table.{tableOf, runOf}
@@ -21,7 +21,7 @@ use Rattle.monitor.specs.declared.Started.the-variants.{Begun}
 use Rattle.monitor.specs.Answers.{startAnswer}
 use Rattle.monitor.specs.Calls.{Call, Calls, lastTable, readingsIn, numberIn, numbersIn}
 use Rattle.monitor.specs.Demand3 as specs
-use Rattle.monitor.specs.Demand3.{Demand3, Begins, IsStarted, Upheld, runBy}
+use Rattle.monitor.specs.Demand3.{Demand3, Begins, Upheld, runBy}
 use Rattle.monitor.proofs.Demand3.{demand3, begins}
 
 -- what the words mean where it matters
@@ -43,7 +43,11 @@ module _ (s : List ℕ) (lent : List ℤ) (a : Agreement) (mains : List ℕ) (r 
     (begun : startAnswer r us ≡ startOf s lent) (made : Calls s us calls) where
   claim : Upheld a mains r us calls
   unfolding Demand3
-  claim = demand3 s lent a mains r us calls bytes all (record { isAccepted = acc; notSix = long; notEleven = few }) begun made
+  claim = demand3 s lent a mains r us calls bytes all (record {
+    isAccepted = acc;
+    notSix = long;
+    notEleven = few;
+  }) begun made
 
   never-stuck : (before later : List Call) → calls ≡ before ++ later → NotStuck (after a before .outcome)
   unfolding runBy
@@ -66,12 +70,14 @@ module _ (s : List ℕ) (lent : List ℤ) (a : Agreement) (mains : List ℕ) (r 
   table-is = claim .table
 
   module _ (before : List Call) (one : Call) (later : List Call) (split : calls ≡ before ++ (one ∷ later)) where
-    is-eleven : (numberIn one ≡ 11) ↔ ((d : Reading) × (fitting a (one .bytes) ≡ some d) × (after a before .lastTime ≤ d .time)
+    is-eleven : (numberIn one ≡ 11) ↔ ((d : Reading) × (fitting a (one .bytes) ≡ some d)
+        × (after a before .lastTime ≤ d .time)
         × (128 < needed (reached a (after a before .outcome) d)))
     unfolding runBy
     is-eleven = claim .eleven before one later split
 
-    is-taken : (numberIn one ≡ 0) ↔ ((d : Reading) × (fitting a (one .bytes) ≡ some d) × (after a before .lastTime ≤ d .time)
+    is-taken : (numberIn one ≡ 0) ↔ ((d : Reading) × (fitting a (one .bytes) ≡ some d)
+        × (after a before .lastTime ≤ d .time)
         × (needed (reached a (after a before .outcome) d) ≤ 128))
     unfolding runBy
     is-taken = claim .taken before one later split
@@ -81,7 +87,8 @@ module _ (s : List ℕ) (lent : List ℤ) (a : Agreement) (mains : List ℕ) (r 
 
     is-breached : (IsBreach (after a before .outcome) → ⊥)
         → (t : ℕ) (ps : List ℕ) → (step a (after a before) (one .bytes)) .run .outcome ≡ breach t ps
-        → (d : Reading) × (fitting a (one .bytes) ≡ some d) × (ps ≢ []) × T (subset ps mains) × (a .start ≤ t) × (t ≤ d .time)
+        → (d : Reading) × (fitting a (one .bytes) ≡ some d) × (ps ≢ []) × T (subset ps mains) × (a .start ≤ t)
+        × (t ≤ d .time)
     unfolding runBy
     is-breached = claim .breached before one later split
 
@@ -93,6 +100,8 @@ module _ (s : List ℕ) (lent : List ℤ) (a : Agreement) (mains : List ℕ) (r 
   begins-unbreached = claim .unbreached
 
 begun-was-started : (s : List ℕ) (lent us : List ℤ) → startAnswer Begun us ≡ startOf s lent
-    → (a : Agreement) × (mains : List ℕ) × (checked s ≡ accepted a mains) × (length lent ≡ 3080) × ((started a) .number ≡ 0)
+    → (a : Agreement) × (mains : List ℕ) × (checked s ≡ accepted a mains) × (length lent ≡ 3080)
+    × ((started a) .number ≡ 0)
 unfolding Begins
-begun-was-started s lent us e = let b = begins s lent us e in (b .0, b .1, b .2 .isAccepted, b .2 .notSix, b .2 .notEleven)
+begun-was-started s lent us e = let b = begins s lent us e in
+    (b .0, b .1, b .2 .isAccepted, b .2 .notSix, b .2 .notEleven)

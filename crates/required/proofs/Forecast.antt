@@ -1,7 +1,7 @@
 -- The forecast's claim, spelled out sentence by sentence: each is what `monitor`'s theorem says.
 use mathlib.Core.Path.{_≡_}
 use mathlib.Core.Logic.{_⊎_}
-use mathlib.Core.List.{List, [], _∷_, _++_}
+use mathlib.Core.List.{List, _∷_, _++_}
 use mathlib.Core.Option.{some}
 use Prim.Native.Nat.{ℕ, _≤_, _<_}
 use lib.Dec.{T}
@@ -13,7 +13,7 @@ use Rattle.csl.specs.Syntax.{Agreement}
 use Rattle.csl.specs.Check.{checked, accepted}
 use Rattle.csl.specs.Run.{Run}
 use Rattle.csl.specs.Table.{runOf}
-use Rattle.csl.specs.Entries.{Forecast, noBreach, breachAt, forecastOf}
+use Rattle.csl.specs.Entries.{noBreach, breachAt, forecastOf}
 use Rattle.csl.specs.Demand3.{AllBytes}
 use Rattle.csl.specs.Marks.{AllTimes, Breached, ForecastFits, breachTable, timeIn}
 use Rattle.monitor.specs.declared.Foretold.{Foretold}
@@ -27,7 +27,8 @@ unfolding Breached
 breached-is-three us e = e
 
 -- for every accepted agreement, every well-typed table and every list of accepted marks
-module _ (s : List ℕ) (a : Agreement) (mains : List ℕ) (us : List ℤ) (q : Run) (r : Foretold) (marks : List Call) (r′ : Foretold)
+module _ (s : List ℕ) (a : Agreement) (mains : List ℕ) (us : List ℤ) (q : Run) (r : Foretold) (marks : List Call)
+    (r′ : Foretold)
     (acc : checked s ≡ accepted a mains) (long : length us ≡ 3080) (typed : runOf a mains us ≡ some q)
     (told : forecastAnswer r ≡ forecastOf s us) (all : AllBytes (readingsIn marks)) (made : Calls s us marks)
     (taken : AcceptedMarks a marks) (after : forecastAnswer r′ ≡ forecastOf s (lastTable us marks)) where
@@ -39,17 +40,20 @@ module _ (s : List ℕ) (a : Agreement) (mains : List ℕ) (us : List ℤ) (q : 
   fits = claim .fits
 
   verdict : Breached us
-      → (now : ℕ) × (t : ℕ) × (b : ℕ) × (us ≡ breachTable now t b) × (forecastAnswer r ≡ breachAt t b) × (lastTable us marks ≡ us)
+      → (now : ℕ) × (t : ℕ) × (b : ℕ) × (us ≡ breachTable now t b) × (forecastAnswer r ≡ breachAt t b)
+      × (lastTable us marks ≡ us)
   verdict = claim .verdict
 
   never : forecastAnswer r ≡ noBreach → (Breached (lastTable us marks) → ⊥) × (forecastAnswer r′ ≡ noBreach)
   never = claim .never
 
-  not-yet : (t b : ℕ) → forecastAnswer r ≡ breachAt t b → (Breached us → ⊥) → AllTimes (λ time. time < t) (readingsIn marks)
+  not-yet : (t b : ℕ) → forecastAnswer r ≡ breachAt t b → (Breached us → ⊥)
+      → AllTimes (λ time. time < t) (readingsIn marks)
       → (Breached (lastTable us marks) → ⊥) × (forecastAnswer r′ ≡ forecastAnswer r)
   not-yet = claim .notYet
 
-  at-once : (t b : ℕ) → forecastAnswer r ≡ breachAt t b → (Breached us → ⊥) → AllTimes (λ time. time ≤ t) (readingsIn marks)
+  at-once : (t b : ℕ) → forecastAnswer r ≡ breachAt t b → (Breached us → ⊥)
+      → AllTimes (λ time. time ≤ t) (readingsIn marks)
       → ((Breached (lastTable us marks) → ⊥) × (forecastAnswer r′ ≡ forecastAnswer r))
       ⊎ ((c : ℕ) × (lastTable us marks ≡ breachTable t t c) × (0 < c) × T (subset (members c) (members b)))
   at-once = claim .atOnce

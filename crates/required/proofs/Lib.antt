@@ -4,3 +4,4 @@ pub mod Demand3
 pub mod Forecast
 pub mod Monitors
 pub mod Rules
+pub mod Program

@@ -1,4 +1,5 @@
--- The checklist's six wrong monitors, each shown to break the contracts, and that no two answers of an entry mean the same.
+-- The checklist's six wrong monitors, each shown to break the contracts, and that no two answers of an entry mean the
+-- same.
 use mathlib.Core.Path.{_≡_}
 use mathlib.Core.List.{List}
 use Prim.Native.Nat.{ℕ}
@@ -11,9 +12,11 @@ use Rattle.monitor.specs.declared.Started.{Started}
 use Rattle.monitor.specs.declared.Taken.{Taken}
 use Rattle.monitor.specs.declared.Foretold.{Foretold}
 use Rattle.monitor.specs.Answers.{checkAnswer, forecastAnswer, startAnswer, takenAnswer}
-use Rattle.monitor.proofs.Apart.{checkedBy, startedBy, takenBy, foretoldBy, check-told, start-told, reading-told, forecast-told}
+use Rattle.monitor.proofs.Apart.{checkedBy, startedBy, takenBy, foretoldBy, check-told, start-told, reading-told}
+use Rattle.monitor.proofs.Apart.{forecast-told}
 use Rattle.monitor.proofs.WrongMonitors.{refuses-all, eleven-at-once, invented-units}
 use Rattle.monitor.proofs.WrongMonitors.{live-always, table-left-alone, works-at-the-first-reading}
+use Rattle.monitor.proofs.WrongMonitors.{eleven-at-the-first-reading}
 
 module _ (start : List ℕ → List ℤ → Answer) (starts : (s : List ℕ) (us : List ℤ) → start s us ≡ startOf s us) where
   refusing-all : ((s : List ℕ) (us : List ℤ) → (start s us) .number ≡ 0 → ⊥) → ⊥
@@ -36,6 +39,10 @@ module _ (reading : List ℕ → List ℤ → List ℕ → Answer)
   once-only : ((s : List ℕ) (us : List ℤ) (r : List ℕ) → (getD us 1 (pos 0) ≡ pos (le32 s 4) → ⊥)
       → (reading s us r) .table ≡ set us 1 (pos (le32 r 4))) → ⊥
   once-only = works-at-the-first-reading reading reads
+
+  eleven-first : ((s : List ℕ) (us : List ℤ) (r : List ℕ) → getD us 1 (pos 0) ≡ pos (le32 s 4)
+      → (reading s us r) .number ≡ 11) → ⊥
+  eleven-first = eleven-at-the-first-reading reading reads
 
 checks-apart : (r : Checked) → checkedBy (checkAnswer r) ≡ r
 checks-apart = check-told

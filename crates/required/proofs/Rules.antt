@@ -1,23 +1,34 @@
--- The published rules: for every accepted and started agreement they derive one run over every list of readings and no other,
+-- The published rules: for every accepted and started agreement they derive one run over every list of readings and
+-- no other,
 -- and the entries' tables and forecasts are that run's.
 use mathlib.Core.Path.{_≡_}
+use mathlib.Core.Logic.{_↔_}
 use mathlib.Core.List.{List, []}
 use mathlib.Core.Option.{some}
 use Prim.Native.Nat.{ℕ, _≤_}
 use lib.IntN.{ℤ}
 use lib.ListN.{length}
-use Rattle.csl.specs.Syntax.{Agreement}
+use mathlib.Core.Bool.{false}
+use Rattle.csl.specs.Syntax.{Agreement, Clause, Expr, Template, Ty, binary, conj, truth}
+use Rattle.csl.specs.Typing.{hasType}
+use Rattle.csl.specs.Values.{Val, bool}
 use Rattle.csl.specs.Check.{accepted, checked}
-use Rattle.csl.specs.Outcomes.{Outcome, Residue, running}
-use Rattle.csl.specs.Rules.{Reading}
+use Rattle.csl.specs.Outcomes.{Outcome, Residue, Sight, running}
+use Rattle.csl.specs.Rules.{Reading, activate}
+use Rattle.csl.specs.Places.{follow, forecast}
 use Rattle.csl.specs.Run.{started}
 use Rattle.csl.specs.Table.{tableOf}
 use Rattle.csl.specs.Entries.{forecastOf, shown, startOf}
-use Rattle.csl.specs.Demand3.{AllBytes, Bytes, fitting}
+use Rattle.csl.specs.Demand3.{AllBytes, Bytes, NotStuck, fitting}
+use Rattle.soundness.proofs.Evaluation.{HaveTy}
+use Rattle.published.specs.Fig6.{Evaluates}
 use Rattle.published.specs.Fig8.{Activates, Follows, sightOf}
 use Rattle.published.specs.Fig9.{Foretells}
 use Rattle.published.specs.Runs.{Runs}
 use Rattle.published.specs.Claim.{Only, Published, PublishedClaim, tableLeft}
+use Rattle.published.proofs.Evaluations.{and-false-left, and-false-right}
+use Rattle.published.proofs.Walking.{Guarded}
+use Rattle.published.proofs.Residues.{activates-exactly, follows-exactly, foretells-exactly}
 use Rattle.published.proofs.Published.{published}
 
 module _ (bytes : List ℕ) (a : Agreement) (mains : List ℕ) (cells : List ℤ) (readings : List (List ℕ))
@@ -45,3 +56,26 @@ module _ (bytes : List ℕ) (a : Agreement) (mains : List ℕ) (cells : List ℤ
       → (ν : Outcome) × Foretells a res ν × ((q : Outcome) → Foretells a res q → q ≡ ν)
       × (forecastOf bytes (tableOf (record { lastTime = claim .time; outcome = claim .last })) ≡ shown ν)
   one-verdict = claim .ahead
+
+-- where templates are guarded, the rules derive just what the definitions compute
+activates-just : (D : List Template) → Guarded D → (c : Clause) (e : Sight) (a : ℕ) (o : Outcome)
+    → Activates D e a c o ↔ ((activate D c e a ≡ o) × NotStuck o)
+activates-just = activates-exactly
+
+follows-just : (ag : Agreement) (r : Reading) → Guarded (ag .templates) → (res : Residue) (o : Outcome)
+    → Follows ag r res o ↔ ((follow ag r res ≡ o) × NotStuck o)
+follows-just = follows-exactly
+
+foretells-just : (ag : Agreement) → Guarded (ag .templates) → (res : Residue) (o : Outcome)
+    → Foretells ag res o ↔ ((forecast ag res ≡ o) × NotStuck o)
+foretells-just = foretells-exactly
+
+-- Fig. 6's own rules for `and`: it is false as soon as one side is, the other being typed
+module _ (ps : ℕ) (ts : List Ty) (env : List Val) (typed : HaveTy ps ts env) (x y : Expr) (u : Unit {0}) where
+  false-left : hasType ps ts y truth ≡ some u → Evaluates env x (bool false)
+      → Evaluates env (binary conj x y) (bool false)
+  false-left = and-false-left ps ts env typed x y u
+
+  false-right : hasType ps ts x truth ≡ some u → Evaluates env y (bool false)
+      → Evaluates env (binary conj x y) (bool false)
+  false-right = and-false-right ps ts env typed x y u

@@ -12,10 +12,13 @@ use lib.IntN.{ℤ, pos}
 use lib.ListN.{length, getD, take, drop}
 use Rattle.csl.specs.Lists.{at}
 use Rattle.csl.specs.Parties.{member, bit, bitsFrom, bitsOf}
-use Rattle.csl.specs.Syntax.{Join, and, or, Wait, Clause, fulfilled, obligation, choice, if, join, instance, badClause, Template}
+use Rattle.csl.specs.Syntax.{Join, and, or, Wait, Clause, fulfilled, obligation, choice, if, join, instance}
+use Rattle.csl.specs.Syntax.{badClause, Template}
 use Rattle.csl.specs.Decode.{joinOf}
 use Rattle.cells.specs.Evaluate.{evalCells, isTrue}
-use Rattle.cells.specs.Reduce.{Reduced, done, breach, running, earlier, later, joined, joinBoth, joinEither, blameBits, Mode, activating, forecasting, following, Fate, waits, late, taken, fate, onTaken, walk, unfoldBelow, activate, reduce}
+use Rattle.cells.specs.Reduce.{Reduced, done, breach, running, earlier, later, joined, joinBoth, joinEither}
+use Rattle.cells.specs.Reduce.{blameBits, Mode, activating, forecasting, following, Fate, waits, late, taken, fate}
+use Rattle.cells.specs.Reduce.{onTaken, walk, unfoldBelow, activate, reduce}
 use Rattle.cells.specs.Across.{natOf, unitReduced, joinFirst, across}
 use Rattle.rules.specs.Reduces.{Is}
 use Rattle.rules.specs.Units.{bitsIn}
@@ -48,7 +51,8 @@ cond-few false x y h k = k
 
 breaches-few : (j : Join) (t b u c : ℕ) → b < 2 ^ 16 → c < 2 ^ 16 → Few (joined j (breach t b) (breach u c))
 unfolding Few joined joinBoth joinEither earlier later
-breaches-few and t b u c h k = cond-few (ltb t u) (breach t b) _ h (cond-few (ltb u t) (breach u c) _ k (or-lt 16 b c h k))
+breaches-few and t b u c h k = cond-few (ltb t u) (breach t b) _ h
+    (cond-few (ltb u t) (breach u c) _ k (or-lt 16 b c h k))
 breaches-few or t b u c h k = cond-few (ltb t u) (breach u c) (breach t b) k h
 
 joined-few : (j : Join) (l r : Reduced) → Few l → Few r → Few (joined j l r)
@@ -85,19 +89,23 @@ if-few : (b : Bool) (x y : Reduced) → Few x → Few y → Few (elim b [ true �
 if-few true x y h k = h
 if-few false x y h k = k
 
-module _ (m : Mode) (thenIs : Clause → List ℤ → List ℤ → ℕ → Reduced) (then-few : (c : Clause) (ps vs : List ℤ) (a : ℕ) → Few (thenIs c ps vs a)) where
+module _ (m : Mode) (thenIs : Clause → List ℤ → List ℤ → ℕ → Reduced)
+    (then-few : (c : Clause) (ps vs : List ℤ) (a : ℕ) → Few (thenIs c ps vs a)) where
   taken-few : (md : Mode) (t : Clause) (ps vs : List ℤ) (a : ℕ) (w : Wait) → Few (onTaken md thenIs t ps vs a w)
   unfolding onTaken
   taken-few activating t ps vs a w = done-few
   taken-few forecasting t ps vs a w = done-few
   taken-few (following u k rs) t ps vs a w = then-few t ps _ u
 
-  module _ (instantiate : ℕ → List ℤ → List ℤ → ℕ → Reduced) (instance-few : (k : ℕ) (ps vs : List ℤ) (a : ℕ) → Few (instantiate k ps vs a)) where
+  module _ (instantiate : ℕ → List ℤ → List ℤ → ℕ → Reduced)
+      (instance-few : (k : ℕ) (ps vs : List ℤ) (a : ℕ) → Few (instantiate k ps vs a)) where
     walk-few : (c : Clause) (ps vs : List ℤ) (a : ℕ) → Few (walk m thenIs instantiate c ps vs a)
     unfolding walk
     walk-few fulfilled ps vs a = done-few
-    walk-few (obligation b w t) ps vs a = fate-few (fate m vs a w) _ _ _ (running-few _) (blame-few ps b _) (taken-few m t ps vs a w)
-    walk-few (choice w t f) ps vs a = fate-few (fate m vs a w) _ _ _ (running-few _) (walk-few f ps vs _) (taken-few m t ps vs a w)
+    walk-few (obligation b w t) ps vs a = fate-few (fate m vs a w) _ _ _ (running-few _) (blame-few ps b _)
+        (taken-few m t ps vs a w)
+    walk-few (choice w t f) ps vs a = fate-few (fate m vs a w) _ _ _ (running-few _) (walk-few f ps vs _)
+        (taken-few m t ps vs a w)
     walk-few (if c t f) ps vs a = if-few (isTrue (evalCells vs c)) _ _ (walk-few t ps vs a) (walk-few f ps vs a)
     walk-few (join j t f) ps vs a = joined-few j _ _ (walk-few t ps vs a) (walk-few f ps vs a)
     walk-few (instance k es bs) ps vs a = instance-few k _ _ a
@@ -106,19 +114,23 @@ module _ (m : Mode) (thenIs : Clause → List ℤ → List ℤ → ℕ → Reduc
   unfold-few : (ts : List Template) (n k : ℕ) (ps vs : List ℤ) (a : ℕ) → Few (unfoldBelow m thenIs ts n k ps vs a)
   unfolding unfoldBelow
   unfold-few ts zero k ps vs a = done-few
-  unfold-few ts (suc n) k ps vs a = if-few (eqb k n) _ _ (body (at ts n) (λ j qs us u. unfold-few ts n j qs us u)) (unfold-few ts n k ps vs a)
+  unfold-few ts (suc n) k ps vs a = if-few (eqb k n) _ _ (body (at ts n) (λ j qs us u. unfold-few ts n j qs us u))
+      (unfold-few ts n k ps vs a)
     where
-      body : (o : Option Template) → ((j : ℕ) (qs us : List ℤ) (u : ℕ) → Few (unfoldBelow m thenIs ts n j qs us u)) → Few (elim o [ none ↦ done | some t ↦ walk m thenIs (unfoldBelow m thenIs ts n) (t .body) ps vs a ])
+      body : (o : Option Template) → ((j : ℕ) (qs us : List ℤ) (u : ℕ) → Few (unfoldBelow m thenIs ts n j qs us u))
+          → Few (elim o [ none ↦ done | some t ↦ walk m thenIs (unfoldBelow m thenIs ts n) (t .body) ps vs a ])
       body none below = done-few
       body (some t) below = walk-few (unfoldBelow m thenIs ts n) below (t .body) ps vs a
 
 active-few : (ts : List Template) (c : Clause) (ps vs : List ℤ) (a : ℕ) → Few (activate ts c ps vs a)
 unfolding activate
-active-few ts c ps vs a = walk-few activating _ (λ t qs us u. done-few) _ (unfold-few activating (λ t qs us u. done) (λ t qs us u. done-few) ts (length ts)) c ps vs a
+active-few ts c ps vs a = walk-few activating _ (λ t qs us u. done-few) _
+    (unfold-few activating (λ t qs us u. done) (λ t qs us u. done-few) ts (length ts)) c ps vs a
 
 pub reduce-few : (m : Mode) (ts : List Template) (c : Clause) (ps vs : List ℤ) (a : ℕ) → Few (reduce m ts c ps vs a)
 unfolding reduce
-reduce-few m ts c ps vs a = walk-few m (activate ts) (active-few ts) (unfoldBelow m (activate ts) ts (length ts)) (unfold-few m (activate ts) (active-few ts) ts (length ts)) c ps vs a
+reduce-few m ts c ps vs a = walk-few m (activate ts) (active-few ts) (unfoldBelow m (activate ts) ts (length ts))
+    (unfold-few m (activate ts) (active-few ts) ts (length ts)) c ps vs a
 
 -- ---- tables
 unfoldable AllFew : List Reduced → Type 0
@@ -136,11 +148,14 @@ unfolding AllFew across unitReduced
 all-few m s zero sights cs = tt
 all-few m s (suc n) sights cs = pick (ltb (natOf (getD cs 0 (pos 0))) 20) _ (all-few m s n (drop 2 sights) (drop 24 cs))
   where
-    pick : (b : Bool) (rest : List Reduced) → AllFew rest → AllFew (cond b (unitReduced m s (getD sights 0 0) (getD sights 1 0) (take 24 cs) ∷ rest) (joinFirst (joinOf (natOf (getD cs 0 (pos 0)))) rest))
+    pick : (b : Bool) (rest : List Reduced) → AllFew rest
+        → AllFew (cond b (unitReduced m s (getD sights 0 0) (getD sights 1 0) (take 24 cs) ∷ rest)
+        (joinFirst (joinOf (natOf (getD cs 0 (pos 0)))) rest))
     pick true rest h = (reduce-few m _ _ _ _ _, h)
     pick false rest h = first-few (joinOf (natOf (getD cs 0 (pos 0)))) rest h
 
-pub outcome-few : (m : Mode) (s : List ℕ) (n : ℕ) (sights : List ℕ) (cs : List ℤ) {x : Reduced} → across m s n sights cs ≡ x ∷ [] → Few x
+pub outcome-few : (m : Mode) (s : List ℕ) (n : ℕ) (sights : List ℕ) (cs : List ℤ) {x : Reduced}
+    → across m s n sights cs ≡ x ∷ [] → Few x
 unfolding AllFew
 outcome-few m s n sights cs e = (rw e at (all-few m s n sights cs)) .0
 

@@ -15,7 +15,7 @@ use mir.Val.{SFits, toZ}
 use mir.ValLaws.{toZ-pos}
 use Rattle.arith.proofs.Ints.{seen, read}
 use Rattle.arith.proofs.Linear.{ints, parts}
-use Rattle.csl.specs.Bytes.{byte, part, recordEnd}
+use Rattle.csl.specs.Bytes.{part, recordEnd}
 use Rattle.csl.specs.Parties.{member, bit, bitsFrom, bitsOf}
 use Rattle.csl.specs.Decode.{expr, arguments, argumentsEnd}
 use Rattle.cells.specs.Evaluate.{evalCells, evalsCells}
@@ -61,14 +61,17 @@ module _ (ps : List ℤ) (b : ℕ) where
 
 -- ---- the loop over blame bytes
 module _ (ps : List ℤ) (bs : List ℕ) where
-  pub blames-more : (l : List ℤ) (i : ℕ) {x : ℤ} → i < length bs → i < length l → blamedCells ps bs ≡ take i l ++ blamedCells ps (drop i bs) → x ≡ blamedCell ps (getD bs i 0)
+  pub blames-more : (l : List ℤ) (i : ℕ) {x : ℤ} → i < length bs → i < length l → blamedCells ps bs ≡ take i l
+      ++ blamedCells ps (drop i bs) → x ≡ blamedCell ps (getD bs i 0)
       → blamedCells ps bs ≡ take (i + 1) (set l i x) ++ blamedCells ps (drop (i + 1) bs)
   unfolding blamedCells
   blames-more l i {x} hb hl e q =
-      e ∙ ap (λ k. take i l ++ blamedCells ps k) (drop-cons bs i 0 hb) ∙ ap (λ k. take i l ++ (k ∷ blamedCells ps (drop (suc i) bs))) (sym q)
+      e ∙ ap (λ k. take i l ++ blamedCells ps k) (drop-cons bs i 0 hb)
+      ∙ ap (λ k. take i l ++ (k ∷ blamedCells ps (drop (suc i) bs))) (sym q)
       ∙ rw (add-one i, take-suc-set l i x hl) (sym (append-snoc (take i l) x (blamedCells ps (drop (suc i) bs))))
 
-  pub blames-all : (l : List ℤ) {i : ℕ} → i ≡ length bs → blamedCells ps bs ≡ take i l ++ blamedCells ps (drop i bs) → take (length bs) l ≡ blamedCells ps bs
+  pub blames-all : (l : List ℤ) {i : ℕ} → i ≡ length bs → blamedCells ps bs ≡ take i l ++ blamedCells ps (drop i bs)
+      → take (length bs) l ≡ blamedCells ps bs
   unfolding blamedCells
   blames-all l e h = sym (h ∙ rw (e, drop-length) (append-nil (take (length bs) l)))
 
@@ -84,14 +87,17 @@ module _ (vs : List ℤ) (d : ℕ) (s : List ℕ) (n : ℕ) where
   one-less : (i : ℕ) → i < n → n - i ≡ suc (n - (i + 1))
   one-less i h = omega arith
 
-  pub argued-more : (l : List ℤ) (i at : ℕ) → Argued l i at → i < n → i < length l → {e : ℕ} {x : ℤ} → e ≡ recordEnd s at → x ≡ evalCells vs (expr d (part s at (recordEnd s at))) → Argued (set l i x) (i + 1) e
+  pub argued-more : (l : List ℤ) (i at : ℕ) → Argued l i at → i < n → i < length l → {e : ℕ} {x : ℤ}
+      → e ≡ recordEnd s at → x ≡ evalCells vs (expr d (part s at (recordEnd s at))) → Argued (set l i x) (i + 1) e
   unfolding argumentsEnd arguments evalsCells
   argued-more l i at a h k {e} {x} ee ex = record {
     ends = a .ends ∙ rw (one-less i h, ee);
-    are = a .are ∙ rw (one-less i h, ← ex, ← ee, add-one i, take-suc-set l i x k) (sym (append-snoc (take i l) x (evalsCells vs (arguments (expr d) (n - suc i) s e))));
+    are = a .are ∙ rw (one-less i h, ← ex, ← ee, add-one i, take-suc-set l i x k)
+        (sym (append-snoc (take i l) x (evalsCells vs (arguments (expr d) (n - suc i) s e))));
   }
 
-  pub argued-all : (l : List ℤ) {i at : ℕ} → i ≡ n → Argued l i at → (at ≡ argumentsEnd n s 5) × (take n l ≡ evalsCells vs (arguments (expr d) n s 5))
+  pub argued-all : (l : List ℤ) {i at : ℕ} → i ≡ n → Argued l i at → (at ≡ argumentsEnd n s 5)
+      × (take n l ≡ evalsCells vs (arguments (expr d) n s 5))
   unfolding argumentsEnd arguments evalsCells
   argued-all l {i} {at} e a =
       let z : n - i ≡ 0 = omega arith in

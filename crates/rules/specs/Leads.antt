@@ -26,7 +26,8 @@ templatesOf ag = agreementOf ag .templates
 
 -- the rules, with instances of the templates below n
 unfoldable pub reduceBelow : Mode → List ℕ → ℕ → Clause → List ℤ → List ℤ → ℕ → cells.Reduced
-reduceBelow m ag n c ps vs a = cells.walk m (cells.activate (templatesOf ag)) (cells.unfoldBelow m (cells.activate (templatesOf ag)) (templatesOf ag) n) c ps vs a
+reduceBelow m ag n c ps vs a = cells.walk m (cells.activate (templatesOf ag))
+    (cells.unfoldBelow m (cells.activate (templatesOf ag)) (templatesOf ag) n) c ps vs a
 
 -- the clause of kind k that the record s at a place is, d being the depths that are left within it
 abbrev pub bodyIn : List ℕ → ℕ → ℕ → List ℕ → ClauseKind → Clause
@@ -48,7 +49,8 @@ pub record Acting (depth : ℕ) (s : List ℕ) : Type 0 where
   pub single : 20 ≤ kindNumber s → kindNumber s < 22 → ⊥
 
 -- what the clause c does, which stands in the record s
-module _ (e : Event) (rs : List ℤ) (ag : List ℕ) (below : ℕ) (s : List ℕ) (place : ℕ) (ps vs : List ℤ) (a depth : ℕ) (c : Clause) where
+module _ (e : Event) (rs : List ℤ) (ag : List ℕ) (below : ℕ) (s : List ℕ) (place : ℕ) (ps vs : List ℤ) (a depth : ℕ)
+    (c : Clause) where
   abbrev reduced : Clause → ℕ → cells.Reduced
   reduced x b = reduceBelow (modeAt e rs) ag below x ps vs b
 
@@ -89,7 +91,9 @@ module _ (e : Event) (rs : List ℤ) (ag : List ℕ) (below : ℕ) (s : List ℕ
       pub follows : e .step ≡ Follow
 
     pub record IsInstance (k : ℕ) : Type 0 where
-      pub is : reduced c a ≡ reduceBelow (modeAt e rs) ag k (clause (headsOf ag) 22 (bodyFrom ag k) (part ag (bodyFrom ag k) (bodyTo ag k))) (take (headAt ag k .params) (drop 16 written)) (take (length (headAt ag k .values)) written) a
+      pub is : reduced c a ≡ reduceBelow (modeAt e rs) ag k
+          (clause (headsOf ag) 22 (bodyFrom ag k) (part ag (bodyFrom ag k) (bodyTo ag k)))
+          (take (headAt ag k .params) (drop 16 written)) (take (length (headAt ag k .values)) written) a
       pub less : k < below
 
     unfoldable pub Leads : Next → Type 0
@@ -134,13 +138,15 @@ bodySite ag t k = record { below = k; place = bodyFrom ag k; a = t .a; depth = 2
 
 -- what a clause in the record s at a site does
 abbrev pub reduceAt : Event → List ℤ → List ℕ → Site → List ℕ → List ℤ → List ℤ → cells.Reduced
-reduceAt e rs ag t s ps vs = reduceBelow (modeAt e rs) ag (t .below) (clause (headsOf ag) (t .depth) (t .place) s) ps vs (t .a)
+reduceAt e rs ag t s ps vs = reduceBelow (modeAt e rs) ag (t .below) (clause (headsOf ag) (t .depth) (t .place) s) ps
+    vs (t .a)
 
 -- there is nothing to do in the record s, wherever it stands
 pub record Ended (s : List ℕ) : Type 0 where
   pub is : (e : Event) (rs : List ℤ) (ag : List ℕ) (t : Site) (ps vs : List ℤ) → reduceAt e rs ag t s ps vs ≡ cells.done
 
--- a reading that is followed activates a `then` anew, with every template in reach: its step stands before the pair that falls
+-- a reading that is followed activates a `then` anew, with every template in reach: its step stands before the pair
+-- that falls
 abbrev pub rank : Step → ℕ
 rank Activate = 0
 rank Forecast = 0

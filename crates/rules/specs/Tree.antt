@@ -1,4 +1,5 @@
--- The tree of units at the front of a table: "An `and` or `or` unit is followed by all of its left side, then all of its right".
+-- The tree of units at the front of a table: "An `and` or `or` unit is followed by all of its left side, then all of
+-- its right".
 use mathlib.Core.Path.{_≡_}
 use mathlib.Core.Bool.{true, false}
 use mathlib.Core.List.{List, [], _∷_}
@@ -22,8 +23,12 @@ treeReduced m s n sights cs = firstOf (across m s n sights cs)
 
 -- a residue's units stand at the front; `sights` has for a join first the number of its left side's units
 unfoldable pub TreeOf : ℕ → Residue → List ℕ → List ℤ → Type 0
-TreeOf size (unit k p a e) sights cs = (24 ≤ length cs) × (2 ≤ length sights) × (ltb (natOf (getD cs 0 (pos 0))) 20 ≡ true) × Waiting size (getD sights 0 0) (getD sights 1 0) (take 24 cs)
-TreeOf size (both j l r) sights cs = (24 ≤ length cs) × (2 ≤ length sights) × (ltb (natOf (getD cs 0 (pos 0))) 20 ≡ false) × (getD sights 0 0 ≡ units l) × TreeOf size l (drop 2 sights) (drop 24 cs) × TreeOf size r (drop (2 + 2 * units l) sights) (drop (24 + 24 * units l) cs)
+TreeOf size (unit k p a e) sights cs = (24 ≤ length cs) × (2 ≤ length sights)
+    × (ltb (natOf (getD cs 0 (pos 0))) 20 ≡ true) × Waiting size (getD sights 0 0) (getD sights 1 0) (take 24 cs)
+TreeOf size (both j l r) sights cs = (24 ≤ length cs) × (2 ≤ length sights)
+    × (ltb (natOf (getD cs 0 (pos 0))) 20 ≡ false) × (getD sights 0 0 ≡ units l)
+    × TreeOf size l (drop 2 sights) (drop 24 cs)
+    × TreeOf size r (drop (2 + 2 * units l) sights) (drop (24 + 24 * units l) cs)
 
 -- a tree of n units, those that wait being of an agreement of so many bytes
 pub record Tree (size : ℕ) (sights : List ℕ) (cs : List ℤ) (n : ℕ) : Type 0 where

@@ -23,11 +23,18 @@ even-mod m = omega arith
 even-div : (m : ℕ) → (0 + 2 * m) / 2 ≡ m
 even-div m = omega arith
 
-members-at : (n r q k i : ℕ) → n % 2 ≡ r → n / 2 ≡ q → membersFrom (suc k) i n ≡ (elim (eqb r 1) [ true ↦ i ∷ membersFrom k (suc i) q | false ↦ membersFrom k (suc i) q ])
+members-at : (n r q k i : ℕ) → n % 2 ≡ r → n / 2 ≡ q
+    → membersFrom (suc k) i n ≡ (elim (eqb r 1)
+    [ true ↦ i ∷ membersFrom k (suc i) q | false ↦ membersFrom k (suc i) q ])
 unfolding membersFrom
-members-at n r q k i e f = subst (λ x. membersFrom (suc k) i n ≡ (elim (eqb x 1) [ true ↦ i ∷ membersFrom k (suc i) q | false ↦ membersFrom k (suc i) q ])) e (subst (λ y. membersFrom (suc k) i n ≡ (elim (eqb (n % 2) 1) [ true ↦ i ∷ membersFrom k (suc i) y | false ↦ membersFrom k (suc i) y ])) f refl)
+members-at n r q k i e f = subst (λ x. membersFrom (suc k) i
+    n ≡ (elim (eqb x 1) [ true ↦ i ∷ membersFrom k (suc i) q | false ↦ membersFrom k (suc i) q ])) e
+    (subst (λ y. membersFrom (suc k) i n ≡ (elim (eqb (n % 2) 1)
+    [ true ↦ i ∷ membersFrom k (suc i) y | false ↦ membersFrom k (suc i) y ])) f refl)
 
-pub members-step : (b : Bool) (m k i : ℕ) → membersFrom (suc k) i (bit b + 2 * m) ≡ (elim b [ true ↦ i ∷ membersFrom k (suc i) m | false ↦ membersFrom k (suc i) m ])
+pub members-step : (b : Bool) (m k i : ℕ)
+    → membersFrom (suc k) i (bit b + 2 * m) ≡
+    (elim b [ true ↦ i ∷ membersFrom k (suc i) m | false ↦ membersFrom k (suc i) m ])
 unfolding bit
 members-step true m k i = members-at (1 + 2 * m) 1 m k i (odd-mod m) (odd-div m)
 members-step false m k i = members-at (0 + 2 * m) 0 m k i (even-mod m) (even-div m)
@@ -35,9 +42,15 @@ members-step false m k i = members-at (0 + 2 * m) 0 m k i (even-mod m) (even-div
 pub members-in : (k i : ℕ) (ps : List ℕ) (x : ℕ) → In x (membersFrom k i (bitsFrom k i ps)) → In x ps
 unfolding bitsFrom In membersFrom
 members-in zero i ps x h = absurd h
-members-in (suc k) i ps x h = go (member i ps) refl (subst (λ l. In x l) (members-step (member i ps) (bitsFrom k (suc i) ps) k i) h) (members-in k (suc i) ps x)
+members-in (suc k) i ps x h = go (member i ps) refl
+    (subst (λ l. In x l) (members-step (member i ps) (bitsFrom k (suc i) ps) k i) h) (members-in k (suc i) ps x)
   where
-    go : (b : Bool) → member i ps ≡ b → In x (elim b [ true ↦ i ∷ membersFrom k (suc i) (bitsFrom k (suc i) ps) | false ↦ membersFrom k (suc i) (bitsFrom k (suc i) ps) ]) → (In x (membersFrom k (suc i) (bitsFrom k (suc i) ps)) → In x ps) → In x ps
+    go : (b : Bool) → member i ps ≡ b → In x
+        (elim b [
+          | true ↦ i ∷ membersFrom k (suc i) (bitsFrom k (suc i) ps)
+          | false ↦ membersFrom k (suc i) (bitsFrom k (suc i) ps)
+        ])
+        → (In x (membersFrom k (suc i) (bitsFrom k (suc i) ps)) → In x ps) → In x ps
     go true e (inl q) ih = subst (λ z. In z ps) (sym q) (member→in i ps (subst T (sym e) tt))
     go true e (inr q) ih = ih q
     go false e q ih = ih q
@@ -62,7 +75,8 @@ bits-pos (suc k) i ps p h lo hi = go (member i ps) refl (λ q. bits-pos k (suc i
       where
         differs : Dec (i < p) → suc i ≤ p
         differs (yes q) = q
-        differs (no q) = let e₂ : i ≡ p = omega arith in absurd (subst T e (subst (λ z. T (member z ps)) (sym e₂) (in→member p ps h)))
+        differs (no q) = let e₂ : i ≡ p = omega arith in
+            absurd (subst T e (subst (λ z. T (member z ps)) (sym e₂) (in→member p ps h)))
 
 pub member-skip : (j k i : ℕ) (l : List ℕ) → j < i → bitsFrom k i (j ∷ l) ≡ bitsFrom k i l
 unfolding bitsFrom member
@@ -81,7 +95,10 @@ unfolding membersFrom In
 members-ge zero i n x h = absurd h
 members-ge (suc k) i n x h = go (eqb (n % 2) 1) h (members-ge k (suc i) (n / 2) x)
   where
-    go : (b : Bool) → In x (elim b [ true ↦ i ∷ membersFrom k (suc i) (n / 2) | false ↦ membersFrom k (suc i) (n / 2) ]) → (In x (membersFrom k (suc i) (n / 2)) → suc i ≤ x) → i ≤ x
+    go : (b : Bool) → In x (elim b [
+      | true ↦ i ∷ membersFrom k (suc i) (n / 2)
+      | false ↦ membersFrom k (suc i) (n / 2)
+    ]) → (In x (membersFrom k (suc i) (n / 2)) → suc i ≤ x) → i ≤ x
     go true (inl e) ih = omega arith
     go true (inr q) ih = omega (arith, ih q)
     go false q ih = omega (arith, ih q)
@@ -108,9 +125,18 @@ number-back zero i n h = omega arith
 number-back (suc k) i n h = go (eqb (n % 2) 1) refl (number-back k (suc i) (n / 2) (omega (arith, pow-suc 2 k)))
   where
     go : (b : Bool) → eqb (n % 2) 1 ≡ b → bitsFrom k (suc i) (membersFrom k (suc i) (n / 2)) ≡ n / 2
-        → bitsFrom (suc k) i (elim b [ true ↦ i ∷ membersFrom k (suc i) (n / 2) | false ↦ membersFrom k (suc i) (n / 2) ]) ≡ n
-    go true e ih = rw (member-self i (membersFrom k (suc i) (n / 2)), member-skip i k (suc i) (membersFrom k (suc i) (n / 2)) (omega arith), ih) (omega (arith, eqb→eq (n % 2) 1 (subst T (sym e) tt)))
-    go false e ih = let even : n % 2 ≡ 1 → ⊥ = λ q. subst T e (subst (λ z. T (eqb z 1)) (sym q) tt) in rw (not-member k i (n / 2), ih) (omega arith)
+        → bitsFrom (suc k) i (elim b [
+          | true ↦ i ∷ membersFrom k (suc i) (n / 2)
+          | false ↦ membersFrom k (suc i) (n / 2)
+        ]) ≡ n
+    go true e ih = rw (
+      member-self i (membersFrom k (suc i) (n / 2)),
+      member-skip i k (suc i) (membersFrom k (suc i) (n / 2)) (omega arith),
+      ih,
+    )
+        (omega (arith, eqb→eq (n % 2) 1 (subst T (sym e) tt)))
+    go false e ih = let even : n % 2 ≡ 1 → ⊥ = λ q. subst T e (subst (λ z. T (eqb z 1)) (sym q) tt) in
+        rw (not-member k i (n / 2), ih) (omega arith)
 
 pub bits-members : (n : ℕ) → n < 2 ^ 16 → bitsOf (members n) ≡ n
 unfolding bitsOf members
@@ -121,22 +147,31 @@ pub bits-back : (k i : ℕ) (ps : List ℕ) → bitsFrom k i (membersFrom k i (b
 bits-back k i ps = number-back k i (bitsFrom k i ps) (bits-lt k i ps)
 
 -- a party is a member of what its set's bits stand for
-pub in-members : (k i : ℕ) (ps : List ℕ) (x : ℕ) → In x ps → i ≤ x → x < i + k → In x (membersFrom k i (bitsFrom k i ps))
+pub in-members : (k i : ℕ) (ps : List ℕ) (x : ℕ) → In x ps → i ≤ x → x < i + k
+    → In x (membersFrom k i (bitsFrom k i ps))
 unfolding bitsFrom In
 in-members zero i ps x h lo hi = absurd (omega arith)
-in-members (suc k) i ps x h lo hi = subst (λ l. In x l) (sym (members-step (member i ps) (bitsFrom k (suc i) ps) k i)) (go (member i ps) refl (decLt i x) (λ q. in-members k (suc i) ps x h q (omega arith)))
+in-members (suc k) i ps x h lo hi = subst (λ l. In x l) (sym (members-step (member i ps) (bitsFrom k (suc i) ps) k i))
+    (go (member i ps) refl (decLt i x) (λ q. in-members k (suc i) ps x h q (omega arith)))
   where
-    go : (b : Bool) → member i ps ≡ b → Dec (i < x) → (suc i ≤ x → In x (membersFrom k (suc i) (bitsFrom k (suc i) ps))) → In x (elim b [ true ↦ i ∷ membersFrom k (suc i) (bitsFrom k (suc i) ps) | false ↦ membersFrom k (suc i) (bitsFrom k (suc i) ps) ])
+    go : (b : Bool) → member i ps ≡ b → Dec (i < x)
+        → (suc i ≤ x → In x (membersFrom k (suc i) (bitsFrom k (suc i) ps)))
+        → In x (elim b [
+          | true ↦ i ∷ membersFrom k (suc i) (bitsFrom k (suc i) ps)
+          | false ↦ membersFrom k (suc i) (bitsFrom k (suc i) ps)
+        ])
     go true e (yes q) ih = inr (ih q)
     go true e (no q) ih = inl (omega arith)
     go false e (yes q) ih = ih q
-    go false e (no q) ih = let s : i ≡ x = omega arith in absurd (subst T e (subst (λ z. T (member z ps)) (sym s) (in→member x ps h)))
+    go false e (no q) ih = let s : i ≡ x = omega arith in
+        absurd (subst T e (subst (λ z. T (member z ps)) (sym s) (in→member x ps h)))
 
 -- the same set has the same bits
 pub same-bits : (k i : ℕ) (ps qs : List ℕ) → Sub ps qs → Sub qs ps → bitsFrom k i ps ≡ bitsFrom k i qs
 unfolding bitsFrom Sub
 same-bits zero i ps qs h g = refl
-same-bits (suc k) i ps qs h g = ap₂ (λ b n. bit b + 2 * n) (go (member i ps) (member i qs) refl refl) (same-bits k (suc i) ps qs h g)
+same-bits (suc k) i ps qs h g = ap₂ (λ b n. bit b + 2 * n) (go (member i ps) (member i qs) refl refl)
+    (same-bits k (suc i) ps qs h g)
   where
     go : (b c : Bool) → member i ps ≡ b → member i qs ≡ c → b ≡ c
     go true true p q = refl

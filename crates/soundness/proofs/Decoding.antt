@@ -1,4 +1,5 @@
--- Decoding puts the waiting clauses of an agreement at places that strictly increase, so that each place is one clause's alone.
+-- Decoding puts the waiting clauses of an agreement at places that strictly increase, so that each place is one
+-- clause's alone.
 use mathlib.Core.Bool.{_&&_, Bool, cond, false, true}
 use mathlib.Core.List.{List, [], map, _∷_}
 use mathlib.Core.Option.{Option, none, some}
@@ -13,7 +14,12 @@ use lib.Seq.{take-nil}
 use Rattle.csl.specs.Lists.{all, at}
 use Rattle.csl.specs.Bytes.{byte, isRecord, kindNumber, le16, le32, part, recordEnd}
 use Rattle.csl.specs.Syntax.{Agreement, Clause, Expr, Head, Template, badClause, fulfilled}
-use Rattle.csl.specs.Decode.{ClauseKind, Piece, agreementOf, argumentsEnd, between, bodyOf, bodyPlace, choiceKind, clause, clauseBody, clauseHead, clauseKind, countsOk, decode, expr, fulfilledKind, headsOf, ifKind, instanceKind, instanceOf, isType, joinKind, listed, mainOf, mainPlace, noClause, obligationKind, pieces, piecesEnd, readingPieces, readingTypeOk, templateHead, templateOf, templateOk, templatePieces, templatesPlace, waitAt, waitEnd, wellFormed, whole}
+use Rattle.csl.specs.Decode.{ClauseKind, Piece, agreementOf, argumentsEnd, between, bodyOf, bodyPlace, choiceKind}
+use Rattle.csl.specs.Decode.{clause, clauseBody, clauseHead, clauseKind, countsOk, decode, expr, fulfilledKind}
+use Rattle.csl.specs.Decode.{headsOf, ifKind, instanceKind, instanceOf, isType, joinKind, listed, mainOf, mainPlace}
+use Rattle.csl.specs.Decode.{noClause, obligationKind, pieces, piecesEnd, readingPieces, readingTypeOk, templateHead}
+use Rattle.csl.specs.Decode.{templateOf, templateOk, templatePieces, templatesPlace, waitAt, waitEnd, wellFormed}
+use Rattle.csl.specs.Decode.{whole}
 use Rattle.soundness.proofs.Inversion.{T-left, T-right, both-true, some-inj}
 use Rattle.soundness.proofs.Places.{Ranged, ranged-le, ranged-wider}
 
@@ -53,39 +59,59 @@ either-ranged : (lo hi : ℕ) (b : Bool) (c d : Clause) → Ranged lo hi c → R
 either-ranged lo hi true c d g h = g
 either-ranged lo hi false c d g h = h
 
-instance-ranged : (lo hi : ℕ) (e : List ℕ → Expr) (s : List ℕ) (o : Option Head) → lo ≤ hi → Ranged lo hi (instanceOf e s o)
+instance-ranged : (lo hi : ℕ) (e : List ℕ → Expr) (s : List ℕ) (o : Option Head) → lo ≤ hi
+    → Ranged lo hi (instanceOf e s o)
 unfolding instanceOf Ranged
 instance-ranged lo hi e s none h = h
-instance-ranged lo hi e s (some hd) h = either-ranged lo hi (eqb (argumentsEnd (length (hd .values)) s 5 + hd .params) (length s)) _ badClause h h
+instance-ranged lo hi e s (some hd) h = either-ranged lo hi
+    (eqb (argumentsEnd (length (hd .values)) s 5 + hd .params) (length s)) _ badClause h h
 
-module _ (hs : List Head) (e : List ℕ → Expr) (inner : ℕ → List ℕ → Clause) (io : (q : ℕ) (u : List ℕ) → Ranged q (q + length u) (inner q u)) (p : ℕ) (s : List ℕ) (room : 4 ≤ length s) where
+module _ (hs : List Head) (e : List ℕ → Expr) (inner : ℕ → List ℕ → Clause)
+    (io : (q : ℕ) (u : List ℕ) → Ranged q (q + length u) (inner q u)) (p : ℕ) (s : List ℕ) (room : 4 ≤ length s) where
   -- the records within, by where they begin and end
   last-ranged : (c : ℕ) → c ≤ length s → Ranged (p + c) (p + length s) (inner (p + c) (part s c (length s)))
-  last-ranged c h = subst (λ z. Ranged (p + c) z (inner (p + c) (part s c (length s)))) (rest-end s p c h) (io (p + c) (part s c (length s)))
+  last-ranged c h = subst (λ z. Ranged (p + c) z (inner (p + c) (part s c (length s)))) (rest-end s p c h)
+      (io (p + c) (part s c (length s)))
 
   middle-ranged : (c f : ℕ) → c ≤ f → f ≤ length s → Ranged (p + c) (p + f) (inner (p + c) (part s c f))
-  middle-ranged c f h k = subst (λ z. Ranged (p + c) z (inner (p + c) (part s c f))) (middle-end s p c f h k) (io (p + c) (part s c f))
+  middle-ranged c f h k = subst (λ z. Ranged (p + c) z (inner (p + c) (part s c f))) (middle-end s p c f h k)
+      (io (p + c) (part s c f))
 
   on-from : (c : ℕ) → c ≤ length s → c ≤ recordEnd s c
   on-from c h = omega (arith, end-from s c)
 
   body-ranged : (k : ClauseKind) → Ranged p (p + length s) (clauseBody hs e inner p s k)
   unfolding clauseBody Ranged waitAt
-  body-ranged fulfilledKind = either-ranged p (p + length s) (eqb (length s) 4) fulfilled badClause (omega arith) (omega arith)
+  body-ranged fulfilledKind = either-ranged p (p + length s) (eqb (length s) 4) fulfilled badClause (omega arith)
+      (omega arith)
   body-ranged obligationKind =
       let c = waitEnd s 5 in
       (p + c, omega arith, omega (arith, wait-from s 5), last-ranged c (wait-within s 5))
   body-ranged choiceKind =
       let c = waitEnd s 4 in
-      let f = recordEnd s c in
-      (p + c, p + f, omega arith, omega (arith, wait-from s 4), middle-ranged c f (on-from c (wait-within s 4)) (end-within s c), last-ranged f (end-within s c))
+      let f = recordEnd s c in (
+        p + c,
+        p + f,
+        omega arith,
+        omega (arith, wait-from s 4),
+        middle-ranged c f (on-from c (wait-within s 4)) (end-within s c),
+        last-ranged f (end-within s c),
+      )
   body-ranged ifKind =
       let c = recordEnd s 4 in
-      let f = recordEnd s c in
-      (p + f, ranged-wider (p + c) p (p + f) (p + f) (inner (p + c) (part s c f)) (omega arith) (omega arith) (middle-ranged c f (on-from c (end-within s 4)) (end-within s c)), last-ranged f (end-within s c))
+      let f = recordEnd s c in (
+        p + f,
+        ranged-wider (p + c) p (p + f) (p + f) (inner (p + c) (part s c f)) (omega arith) (omega arith)
+            (middle-ranged c f (on-from c (end-within s 4)) (end-within s c)),
+        last-ranged f (end-within s c),
+      )
   body-ranged (joinKind j) =
-      let f = recordEnd s 4 in
-      (p + f, ranged-wider (p + 4) p (p + f) (p + f) (inner (p + 4) (part s 4 f)) (omega arith) (omega arith) (middle-ranged 4 f (on-from 4 room) (end-within s 4)), last-ranged f (end-within s 4))
+      let f = recordEnd s 4 in (
+        p + f,
+        ranged-wider (p + 4) p (p + f) (p + f) (inner (p + 4) (part s 4 f)) (omega arith) (omega arith)
+            (middle-ranged 4 f (on-from 4 room) (end-within s 4)),
+        last-ranged f (end-within s 4),
+      )
   body-ranged instanceKind = instance-ranged p (p + length s) e s (at hs (byte s 4)) (omega arith)
   body-ranged noClause = omega arith
 
@@ -95,8 +121,12 @@ unfolding clause clauseHead isRecord
 clause-ranged hs zero p s = unfold Ranged in omega arith
 clause-ranged hs (suc d) p s = go (leb 4 (length s) && eqb (le16 s 0) (length s)) refl (clause-ranged hs d)
   where
-    go : (b : Bool) → (leb 4 (length s) && eqb (le16 s 0) (length s)) ≡ b → ((q : ℕ) (u : List ℕ) → Ranged q (q + length u) (clause hs d q u)) → Ranged p (p + length s) (clauseBody hs (expr d) (clause hs d) p s (cond b (clauseKind (kindNumber s)) noClause))
-    go true h io = body-ranged hs (expr d) (clause hs d) io p s (leb→le 4 (length s) (T-left (leb 4 (length s)) _ (subst T (sym h) tt))) (clauseKind (kindNumber s))
+    go : (b : Bool) → (leb 4 (length s) && eqb (le16 s 0) (length s)) ≡ b
+        → ((q : ℕ) (u : List ℕ) → Ranged q (q + length u) (clause hs d q u))
+        → Ranged p (p + length s) (clauseBody hs (expr d) (clause hs d) p s
+        (cond b (clauseKind (kindNumber s)) noClause))
+    go true h io = body-ranged hs (expr d) (clause hs d) io p s
+        (leb→le 4 (length s) (T-left (leb 4 (length s)) _ (subst T (sym h) tt))) (clauseKind (kindNumber s))
     go false h io = unfold clauseBody Ranged in omega arith
 
 -- ---- a template's body lies within its record
@@ -112,9 +142,18 @@ body-within : (hs : List Head) (q : Piece) → Ranged (q .place) (q .place + len
 unfolding bodyOf
 body-within hs q = go (decLe (bodyPlace (q .bytes)) (length (q .bytes)))
   where
-    go : Dec (bodyPlace (q .bytes) ≤ length (q .bytes)) → Ranged (q .place) (q .place + length (q .bytes)) (clause hs 22 (q .place + bodyPlace (q .bytes)) (part (q .bytes) (bodyPlace (q .bytes)) (length (q .bytes))))
-    go (yes h) = ranged-wider (q .place + bodyPlace (q .bytes)) (q .place) _ (q .place + length (q .bytes)) _ (omega arith) (omega (arith, rest-end (q .bytes) (q .place) (bodyPlace (q .bytes)) h)) (clause-ranged hs 22 (q .place + bodyPlace (q .bytes)) (part (q .bytes) (bodyPlace (q .bytes)) (length (q .bytes))))
-    go (no h) = subst (λ u. Ranged (q .place) (q .place + length (q .bytes)) (clause hs 22 (q .place + bodyPlace (q .bytes)) u)) (sym (gone (q .bytes) (bodyPlace (q .bytes)) (omega arith))) (subst (λ c. Ranged (q .place) (q .place + length (q .bytes)) c) (sym (no-clause hs 22 (q .place + bodyPlace (q .bytes)))) (unfold Ranged in omega arith))
+    go : Dec (bodyPlace (q .bytes) ≤ length (q .bytes))
+        → Ranged (q .place) (q .place + length (q .bytes))
+        (clause hs 22 (q .place + bodyPlace (q .bytes)) (part (q .bytes) (bodyPlace (q .bytes)) (length (q .bytes))))
+    go (yes h) = ranged-wider (q .place + bodyPlace (q .bytes)) (q .place) _ (q .place + length (q .bytes)) _
+        (omega arith) (omega (arith, rest-end (q .bytes) (q .place) (bodyPlace (q .bytes)) h))
+        (clause-ranged hs 22 (q .place + bodyPlace (q .bytes))
+        (part (q .bytes) (bodyPlace (q .bytes)) (length (q .bytes))))
+    go (no h) = subst (λ u. Ranged (q .place) (q .place + length (q .bytes))
+        (clause hs 22 (q .place + bodyPlace (q .bytes)) u))
+        (sym (gone (q .bytes) (bodyPlace (q .bytes)) (omega arith)))
+        (subst (λ c. Ranged (q .place) (q .place + length (q .bytes)) c)
+        (sym (no-clause hs 22 (q .place + bodyPlace (q .bytes)))) (unfold Ranged in omega arith))
 
 -- ---- templates in order
 unfoldable pub TRanged : ℕ → ℕ → List Template → Type 0
@@ -128,15 +167,19 @@ tranged-le lo hi (t ∷ ts) h = omega (arith, ranged-le lo (h .0) (t .body) (h .
 
 head-params : (s : List ℕ) → T (templateOk s) → (templateHead s) .params ≤ 4
 unfolding templateOk templateHead
-head-params s t = leb→le (byte s (5 + byte s 4)) 4 (T-right (isRecord s && eqb (kindNumber s) 3 && leb (byte s 4) 8 && leb (bodyPlace s) (length s) && all isType (part s 5 (5 + byte s 4))) _ t)
+head-params s t = leb→le (byte s (5 + byte s 4)) 4
+    (T-right (isRecord s && eqb (kindNumber s) 3 && leb (byte s 4) 8 && leb (bodyPlace s) (length s)
+    && all isType (part s 5 (5 + byte s 4))) _ t)
 
-templates-ranged : (hs : List Head) (s : List ℕ) (n i : ℕ) → T (all (λ q. templateOk (q .bytes)) (pieces n s i)) → i ≤ length s → TRanged i (piecesEnd n s i) (map (templateOf hs) (pieces n s i))
+templates-ranged : (hs : List Head) (s : List ℕ) (n i : ℕ) → T (all (λ q. templateOk (q .bytes)) (pieces n s i))
+    → i ≤ length s → TRanged i (piecesEnd n s i) (map (templateOf hs) (pieces n s i))
 unfolding pieces piecesEnd all templateOf TRanged
 templates-ranged hs s zero i t l = omega arith
 templates-ranged hs s (suc n) i t l =
     let q : Piece = record { place = i; bytes = part s i (recordEnd s i) } in (
       recordEnd s i,
-      subst (λ z. Ranged i z (bodyOf hs q)) (omega (arith, end-from s i, part-length s i (recordEnd s i) (end-within s i))) (body-within hs q),
+      subst (λ z. Ranged i z (bodyOf hs q)) (omega
+          (arith, end-from s i, part-length s i (recordEnd s i) (end-within s i))) (body-within hs q),
       templates-ranged hs s n (recordEnd s i) (T-right (templateOk (part s i (recordEnd s i))) _ t) (end-within s i),
       head-params (part s i (recordEnd s i)) (T-left (templateOk (part s i (recordEnd s i))) _ t),
     )
@@ -152,11 +195,13 @@ some-within s zero i l = absurd (omega arith)
 some-within s (suc n) i l = pieces-within s n (recordEnd s i) (end-within s i)
 
 -- ---- what decoding gives
-pub decode-is : {C : Type 0} (s : List ℕ) (a : Agreement) → decode s ≡ some a → (T (wellFormed s) → agreementOf s ≡ a → C) → C
+pub decode-is : {C : Type 0} (s : List ℕ) (a : Agreement) → decode s ≡ some a
+    → (T (wellFormed s) → agreementOf s ≡ a → C) → C
 unfolding decode
 decode-is {C = C} s a e k = go (wellFormed s) refl e
   where
-    go : (b : Bool) → wellFormed s ≡ b → _≡_ {A = Option Agreement} (elim b [ true ↦ some (agreementOf s) | false ↦ none ]) (some a) → C
+    go : (b : Bool) → wellFormed s ≡ b → _≡_ {A = Option Agreement}
+        (elim b [ true ↦ some (agreementOf s) | false ↦ none ]) (some a) → C
     go true p q = k (subst T (sym p) tt) (some-inj q)
     go false p q = let z : _≡_ {A = ℕ} 0 1 = cc in absurd (omega arith)
 
@@ -197,7 +242,16 @@ well-formed s t =
     both-true a (p && r && n) t₄ λ h₁ t₅.
     both-true (p && r) n t₅ λ t₆ h₄.
     both-true p r t₆ λ h₂ h₃.
-    record { kind = h₁; parties = h₂; readings = h₃; templates = h₄; readingsOk = h₅; templatesOk = h₆; main = h₇; bodies = h₈ }
+    record {
+      kind = h₁;
+      parties = h₂;
+      readings = h₃;
+      templates = h₄;
+      readingsOk = h₅;
+      templatesOk = h₆;
+      main = h₇;
+      bodies = h₈;
+    }
 
 -- What decoding gives: at most 16 parties, and templates and main clause one behind another in the bytes.
 pub decoded : (s : List ℕ) (a : Agreement) → decode s ≡ some a → Decoded s a
@@ -206,12 +260,15 @@ decoded s a e = decode-is s a e λ t same.
     let w = well-formed s t in
     let i = templatesPlace s in
     let m = mainPlace s in
-    let in-s : i ≤ length s = some-within s (byte s 9) 11 (leb→le 1 (byte s 9) (T-left (leb 1 (byte s 9)) _ (w .readings))) in
+    let in-s : i ≤ length s = some-within s (byte s 9) 11
+    (leb→le 1 (byte s 9) (T-left (leb 1 (byte s 9)) _ (w .readings))) in
     subst (λ z. Decoded s z) same (record {
       start = refl;
       few = leb→le (byte s 8) 16 (T-right (leb 1 (byte s 8)) _ (w .parties));
       lo = i;
       mid = m;
       templates = templates-ranged (headsOf s) s (byte s 10) i (w .templatesOk) in-s;
-      main = subst (λ z. Ranged m z (mainOf s)) (omega (arith, part-length s m (length s) (omega arith), pieces-within s (byte s 10) i in-s)) (clause-ranged (headsOf s) 23 m (part s m (length s)));
+      main = subst (λ z. Ranged m z (mainOf s))
+          (omega (arith, part-length s m (length s) (omega arith), pieces-within s (byte s 10) i in-s))
+          (clause-ranged (headsOf s) 23 m (part s m (length s)));
     })

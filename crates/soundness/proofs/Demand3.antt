@@ -1,5 +1,7 @@
--- What demand 3 rests on: a run of an accepted, started agreement keeps to the invariant through every list of readings,
--- and what it does with one more reading, whatever its bytes. Main theorems: `start-inv`, `after-inv`, `step-taken`, `step-eleven`, `step-shows`.
+-- What demand 3 rests on: a run of an accepted, started agreement keeps to the invariant through every list of
+-- readings,
+-- and what it does with one more reading, whatever its bytes. Main theorems: `start-inv`, `after-inv`, `step-taken`,
+-- `step-eleven`, `step-shows`.
 use mathlib.Core.Bool.{Bool, false, not, true}
 use mathlib.Core.List.{List, [], _∷_}
 use mathlib.Core.Logic.{inl, inr, _↔_, _≢_, _⊎_}
@@ -10,7 +12,8 @@ use native.Mathlib.Omega.{arith}
 use lib.Dec.{T, nltb→le}
 use Rattle.csl.specs.Lists.{_>>=_, all, at}
 use Rattle.csl.specs.Parties.{subset}
-use Rattle.csl.specs.Syntax.{Agreement, Clause, Join, Template, and, badClause, choice, fulfilled, if, instance, join, number, obligation, or}
+use Rattle.csl.specs.Syntax.{Agreement, Clause, Join, Template, and, badClause, choice, fulfilled, if, instance, join}
+use Rattle.csl.specs.Syntax.{number, obligation, or}
 use Rattle.csl.specs.Check.{accepted, checked}
 use Rattle.csl.specs.Values.{Val, evalBool, evals}
 use Rattle.csl.specs.Outcomes.{Outcome, Sight, breach, done, joinBoth, joinEither, joined, orStuck, running, stuck}
@@ -25,7 +28,9 @@ use Rattle.soundness.proofs.Good.{Good, good-sub}
 use Rattle.soundness.proofs.Walks.{blamed-constant, stands-blamed}
 use Rattle.soundness.proofs.Activation.{activate-good}
 use Rattle.soundness.proofs.Readings.{start-lt}
-use Rattle.soundness.proofs.Runs.{Case, InvOf, Since, after, breach-ok, cases, early, few-mains, final, isFair, isPassed, many, misfit, not-stuck, reached-good, runAt, step-inv, stepped, tooMany-is}
+use Rattle.soundness.proofs.Runs.{Case, InvOf, Since, after, breach-ok, cases, early, few-mains, final, isFair}
+use Rattle.soundness.proofs.Runs.{isPassed, many, misfit, not-stuck, reached-good, runAt, step-inv, stepped}
+use Rattle.soundness.proofs.Runs.{tooMany-is}
 
 -- ---- one more reading
 module _ (a : Agreement) (now : ℕ) (o : Outcome) (r : List ℕ) where
@@ -42,7 +47,8 @@ module _ (a : Agreement) (now : ℕ) (o : Outcome) (r : List ℕ) where
   -- a reading is one reading
   fits-only : (P : ℕ → Type 0) (d : Reading) → fitting a r ≡ some d → Fits P
       → (now ≤ d .time) × P (needed (reached a o d))
-  fits-only P d f h = subst (λ x. (now ≤ x .time) × P (needed (reached a o x))) (same-reading (h .0) d (h .1) f) (h .2, h .3)
+  fits-only P d f h = subst (λ x. (now ≤ x .time) × P (needed (reached a o x))) (same-reading (h .0) d (h .1) f)
+      (h .2, h .3)
 
   no-reading : {C : Type 0} (d : Reading) → fitting a r ≡ none → fitting a r ≡ some d → C
   no-reading d e f = let z : _≡_ {A = ℕ} 0 1 = cc in absurd (omega arith)
@@ -59,7 +65,10 @@ module _ (a : Agreement) (now : ℕ) (o : Outcome) (r : List ℕ) where
 
   -- 0 if and only if it fits, is not earlier and needs at most 128 units
   pub step-taken : Case a now o r → (next .number ≡ 0) ↔ Fits (λ n. n ≤ 128)
-  step-taken (misfit n w f e) = (λ z. absurd (eight-or-nine n 0 w (numbered 0 n _ e z) (inl refl)), λ h. no-reading (h .0) f (h .1))
+  step-taken (misfit n w f e) = (
+    λ z. absurd (eight-or-nine n 0 w (numbered 0 n _ e z) (inl refl)),
+    λ h. no-reading (h .0) f (h .1),
+  )
   step-taken (early d f lt e) = (
     λ z. let q : _≡_ {A = ℕ} 10 0 = numbered 0 10 _ e z in absurd (omega arith),
     λ h. let t = fits-only (λ n. n ≤ 128) d f h in absurd (omega (arith, t .0)),
@@ -73,7 +82,10 @@ module _ (a : Agreement) (now : ℕ) (o : Outcome) (r : List ℕ) where
 
   -- 11 if and only if it fits, is not earlier and needs more
   pub step-eleven : Case a now o r → (next .number ≡ 11) ↔ Fits (λ n. 128 < n)
-  step-eleven (misfit n w f e) = (λ z. absurd (eight-or-nine n 11 w (numbered 11 n _ e z) (inr refl)), λ h. no-reading (h .0) f (h .1))
+  step-eleven (misfit n w f e) = (
+    λ z. absurd (eight-or-nine n 11 w (numbered 11 n _ e z) (inr refl)),
+    λ h. no-reading (h .0) f (h .1),
+  )
   step-eleven (early d f lt e) = (
     λ z. let q : _≡_ {A = ℕ} 10 11 = numbered 11 10 _ e z in absurd (omega arith),
     λ h. let t = fits-only (λ n. 128 < n) d f h in absurd (omega (arith, t .0)),
@@ -134,27 +146,36 @@ unfolding _>>=_ orStuck Unbreached IsBreach
 unbreached-bind none f h = λ b. b
 unbreached-bind (some x) f h = h x
 
-module _ (un : ℕ → List Val → List ℕ → ℕ → Outcome) (uq : (k : ℕ) (vs : List Val) (ps : List ℕ) (a : ℕ) → Unbreached (un k vs ps a)) where
+module _ (un : ℕ → List Val → List ℕ → ℕ → Outcome)
+    (uq : (k : ℕ) (vs : List Val) (ps : List ℕ) (a : ℕ) → Unbreached (un k vs ps a)) where
   walk-unbreached : (c : Clause) (e : Sight) (a : ℕ) → Unbreached (walk activating un c e a)
   unfolding walk activating orStuck Unbreached IsBreach
   walk-unbreached fulfilled e a = λ b. b
   walk-unbreached (obligation b w t) e a = λ b. b
   walk-unbreached (choice w t f) e a = λ b. b
-  walk-unbreached (if x t f) e a = unbreached-bind (evalBool (e .values) x) _ (side (walk-unbreached t e a) (walk-unbreached f e a))
+  walk-unbreached (if x t f) e a = unbreached-bind (evalBool (e .values) x) _
+      (side (walk-unbreached t e a) (walk-unbreached f e a))
     where
       side : Unbreached (walk activating un t e a) → Unbreached (walk activating un f e a) → (b : Bool)
-          → Unbreached (orStuck (elim b [ true ↦ some (walk activating un t e a) | false ↦ some (walk activating un f e a) ]))
+          → Unbreached (orStuck (elim b [
+            | true ↦ some (walk activating un t e a)
+            | false ↦ some (walk activating un f e a)
+          ]))
       side h g true = h
       side h g false = g
-  walk-unbreached (join j t f) e a = joined-unbreached j (walk activating un t e a) (walk activating un f e a) (walk-unbreached t e a) (walk-unbreached f e a)
-  walk-unbreached (instance k es bs) e a = unbreached-bind (evals (e .values) es) _ λ vs. unbreached-bind (blamedAll (e .params) bs) _ λ ps. uq k vs ps a
+  walk-unbreached (join j t f) e a = joined-unbreached j (walk activating un t e a) (walk activating un f e a)
+      (walk-unbreached t e a) (walk-unbreached f e a)
+  walk-unbreached (instance k es bs) e a = unbreached-bind (evals (e .values) es) _ λ vs. unbreached-bind
+      (blamedAll (e .params) bs) _ λ ps. uq k vs ps a
   walk-unbreached badClause e a = λ b. b
 
 walkIn-unbreached : (ts : List Template) (n : ℕ) (c : Clause) (e : Sight) (a : ℕ)
     → Unbreached (walkIn activating ts n c e a)
 unfolding walkIn Unbreached IsBreach orStuck
 walkIn-unbreached ts zero = walk-unbreached _ (λ k vs ps a b. b)
-walkIn-unbreached ts (suc n) = walk-unbreached _ (λ k vs ps a. unbreached-bind (at ts k) _ (λ t. walkIn-unbreached ts n (t .body) (record { params = ps; values = vs }) a))
+walkIn-unbreached ts (suc n) = walk-unbreached _
+    (λ k vs ps a. unbreached-bind (at ts k) _
+    (λ t. walkIn-unbreached ts n (t .body) (record { params = ps; values = vs }) a))
 
 -- ---- a checked agreement
 module _ (bytes : List ℕ) (a : Agreement) (mains : List ℕ) (ck : checked bytes ≡ accepted a mains) where
@@ -166,7 +187,8 @@ module _ (bytes : List ℕ) (a : Agreement) (mains : List ℕ) (ck : checked byt
       → (step a q r) .run .outcome ≡ breach t ps
       → (d : Reading) × (fitting a r ≡ some d) × (ps ≢ []) × T (subset ps mains) × (a .start ≤ t) × (t ≤ d .time)
   unfolding IsBreach
-  step-shows q r i nb t ps b = go (cases a (q .lastTime) (q .outcome) r (not-stuck a mains (q .lastTime) (q .outcome) (i .good)))
+  step-shows q r i nb t ps b = go (cases a (q .lastTime) (q .outcome) r
+      (not-stuck a mains (q .lastTime) (q .outcome) (i .good)))
     where
       unmoved : (n : ℕ) → step a q r ≡ stepped n q → ⊥
       unmoved n e = nb (subst IsBreach (sym (sym (ap (λ s. s .run .outcome) e) ∙ b)) tt)
@@ -178,7 +200,9 @@ module _ (bytes : List ℕ) (a : Agreement) (mains : List ℕ) (ck : checked byt
       go (many d f le nd e) = absurd (unmoved 11 e)
       go (after d f le nd nb′ ok lt e) =
           let reaches : reached a (q .outcome) d ≡ breach t ps = sym (ap (λ s. s .run .outcome) e) ∙ b in
-          let k = breach-ok a mains (d .time) t ps (subst (Good a (Since a (d .time)) mains) reaches (reached-good bytes a mains ck (q .lastTime) (q .outcome) d le ok nb i)) in
+          let k = breach-ok a mains (d .time) t ps
+          (subst (Good a (Since a (d .time)) mains) reaches
+          (reached-good bytes a mains ck (q .lastTime) (q .outcome) d le ok nb i)) in
           (d, f, k .0, k .1, k .2, k .3)
       go (final d f le ib nd e) = absurd (nb ib)
 
@@ -188,12 +212,17 @@ module _ (bytes : List ℕ) (a : Agreement) (mains : List ℕ) (ck : checked byt
 
   mains-stand : Sub (standFor [] mains) mains
   unfolding Sub
-  mains-stand x i = let r = stand-in [] mains x i in subst (λ z. In z mains) (sym (r .2 ∙ stands-blamed [] (r .0) (r .0) (blamed-constant [] (r .0) (omega (arith, few-mains bytes a mains ck (r .0) (r .1)))))) (r .1)
+  mains-stand x i = let r = stand-in [] mains x i in
+      subst (λ z. In z mains) (sym (r .2 ∙ stands-blamed [] (r .0) (r .0)
+      (blamed-constant [] (r .0) (omega (arith, few-mains bytes a mains ck (r .0) (r .1)))))) (r .1)
 
   first-good : Good a (Since a (a .start)) mains first
   unfolding first HaveTy all
   first-good = good-sub a (Since a (a .start)) (standFor [] mains) mains first mains-stand
-      (activate-good a mains (isFair bytes a mains ck) (Since a (a .start)) (a .main) 0 [] (record { params = []; values = [] }) (a .start) mains (record { count = refl; fewParams = omega arith; range = tt; values = tt }) (omega arith, omega arith) ((isFair bytes a mains ck) .main) ((isFair bytes a mains ck) .mainPlaced))
+      (activate-good a mains (isFair bytes a mains ck) (Since a (a .start)) (a .main) 0 []
+      (record { params = []; values = [] }) (a .start) mains
+      (record { count = refl; fewParams = omega arith; range = tt; values = tt }) (omega arith, omega arith)
+      ((isFair bytes a mains ck) .main) ((isFair bytes a mains ck) .mainPlaced))
 
   choose : Bool → Stepped
   choose b = elim b [ true ↦ stepped 11 (runAt (a .start) first) | false ↦ stepped 0 (runAt (a .start) first) ]
@@ -204,7 +233,12 @@ module _ (bytes : List ℕ) (a : Agreement) (mains : List ℕ) (ck : checked byt
     where
       go : (b : Bool) → tooMany first ≡ b → (choose b) .number ≡ 0 → Sound ((choose b) .run)
       go true e q = absurd (omega arith)
-      go false e q = record { from = omega arith; fits = start-lt bytes a hb ((isPassed bytes a mains ck) .decodes); good = first-good; small = nltb→le 128 (needed first) (subst (λ b. T (not b)) (sym e ∙ tooMany-is first) tt) }
+      go false e q = record {
+        from = omega arith;
+        fits = start-lt bytes a hb ((isPassed bytes a mains ck) .decodes);
+        good = first-good;
+        small = nltb→le 128 (needed first) (subst (λ b. T (not b)) (sym e ∙ tooMany-is first) tt);
+      }
 
   pub start-unbreached : IsBreach ((started a) .run .outcome) → ⊥
   unfolding started kept first choose activate during Unbreached
@@ -218,4 +252,5 @@ module _ (bytes : List ℕ) (a : Agreement) (mains : List ℕ) (ck : checked byt
   pub after-inv : (q : Run) (rs : List (List ℕ)) → AllBytes rs → Sound q → Sound (runAfter a q rs)
   unfolding runAfter AllBytes
   after-inv q [] h i = i
-  after-inv q (r ∷ rs) h i = after-inv ((step a q r) .run) rs (h .1) (step-inv bytes a mains ck (q .lastTime) (q .outcome) r (h .0) i)
+  after-inv q (r ∷ rs) h i = after-inv ((step a q r) .run) rs (h .1)
+      (step-inv bytes a mains ck (q .lastTime) (q .outcome) r (h .0) i)

@@ -14,10 +14,12 @@ use lib.Signed.{ltZ}
 use Rattle.csl.specs.Lists.{_>>=_, at}
 use Rattle.csl.specs.Numbers.{laterOf}
 use Rattle.csl.specs.Parties.{sameSet, subset}
-use Rattle.csl.specs.Syntax.{Agreement, Clause, Join, Template, Ty, Wait, and, badClause, choice, fulfilled, if, instance, join, obligation, or}
+use Rattle.csl.specs.Syntax.{Agreement, Clause, Join, Template, Ty, Wait, and, badClause, choice, fulfilled, if}
+use Rattle.csl.specs.Syntax.{instance, join, obligation, or}
 use Rattle.csl.specs.Typing.{blameOk, namesOf, readingOfType, thenSight, typeClause, typeWait}
 use Rattle.csl.specs.Values.{Val, evalBool, evals, who}
-use Rattle.csl.specs.Outcomes.{Outcome, Residue, Sight, both, breach, done, earlier, joinBoth, joinEither, joined, later, orStuck, running, stuck, unit}
+use Rattle.csl.specs.Outcomes.{Outcome, Residue, Sight, both, breach, done, earlier, joinBoth, joinEither, joined}
+use Rattle.csl.specs.Outcomes.{later, orStuck, running, stuck, unit}
 use Rattle.csl.specs.Rules.{Reading, Window, blamed, blamedAll, during, forecasting, taken, walk, walkIn, wants, window}
 use Rattle.csl.specs.Places.{across, clauseAt, forecast}
 use Rattle.csl.specs.Table.{standFor}
@@ -52,25 +54,34 @@ abbrev pub byTimes : ℕ → ℕ → Outcome → Outcome → Outcome → Outcome
 byTimes t u x y z = pick (ltb t u) (ltb u t) x y z
 
 -- of two outcomes that the same times decide
-pub times-both : (t u : ℕ) (x y z x′ y′ z′ : Outcome) (P : Outcome → Outcome → Type 0) → (t < u → P x x′) → (u < t → P y y′) → (t ≡ u → P z z′) → P (byTimes t u x y z) (byTimes t u x′ y′ z′)
+pub times-both : (t u : ℕ) (x y z x′ y′ z′ : Outcome) (P : Outcome → Outcome → Type 0) → (t < u → P x x′)
+    → (u < t → P y y′) → (t ≡ u → P z z′) → P (byTimes t u x y z) (byTimes t u x′ y′ z′)
 times-both t u x y z x′ y′ z′ P f g h = go (ltb t u) (ltb u t) refl refl
   where
     go : (a b : Bool) → ltb t u ≡ a → ltb u t ≡ b → P (pick a b x y z) (pick a b x′ y′ z′)
     go true b p q = f (ltb→lt t u (subst T (sym p) tt))
     go false true p q = g (ltb→lt u t (subst T (sym q) tt))
-    go false false p q = h (omega (arith, nltb→le t u (subst (λ c. T (not c)) (sym p) tt), nltb→le u t (subst (λ c. T (not c)) (sym q) tt)))
+    go false false p q = h (omega (
+      arith,
+      nltb→le t u (subst (λ c. T (not c)) (sym p) tt),
+      nltb→le u t (subst (λ c. T (not c)) (sym q) tt),
+    ))
 
-pub times : (t u : ℕ) (x y z : Outcome) (P : Outcome → Type 0) → (t < u → P x) → (u < t → P y) → (t ≡ u → P z) → P (byTimes t u x y z)
+pub times : (t u : ℕ) (x y z : Outcome) (P : Outcome → Type 0) → (t < u → P x) → (u < t → P y) → (t ≡ u → P z)
+    → P (byTimes t u x y z)
 times t u x y z P = times-both t u x y z x y z (λ o _. P o)
 
 earlier-from : (k t u : ℕ) (ps qs : List ℕ) → k ≤ t → k ≤ u → NotBefore k (earlier t ps u qs)
 unfolding earlier NotBefore
-earlier-from k t u ps qs h g = times t u (breach t ps) (breach u qs) (breach t (ps ++ qs)) (NotBefore k) (λ _. h) (λ _. g) (λ _. h)
+earlier-from k t u ps qs h g = times t u (breach t ps) (breach u qs) (breach t (ps ++ qs)) (NotBefore k) (λ _. h)
+    (λ _. g) (λ _. h)
 
 -- `or` gives the later of two breaches: it is before no time that either is not before
 later-from-either : (k t u : ℕ) (ps qs : List ℕ) → (k ≤ t) ⊎ (k ≤ u) → NotBefore k (later t ps u qs)
 unfolding later NotBefore
-later-from-either k t u ps qs h = times t u (breach u qs) (breach t ps) _ (NotBefore k) (λ lt. up u (omega arith) (omega arith) h) (λ lt. up t (omega arith) (omega arith) h) (λ e. same (sameSet ps qs) (up t (omega arith) (omega arith) h))
+later-from-either k t u ps qs h = times t u (breach u qs) (breach t ps) _ (NotBefore k)
+    (λ lt. up u (omega arith) (omega arith) h) (λ lt. up t (omega arith) (omega arith) h)
+    (λ e. same (sameSet ps qs) (up t (omega arith) (omega arith) h))
   where
     up : (y : ℕ) → t ≤ y → u ≤ y → (k ≤ t) ⊎ (k ≤ u) → k ≤ y
     up y p q (inl e) = omega arith
@@ -125,7 +136,8 @@ pub joined-done : (j : Join) (l r : Outcome) → Done l → Done r → Done (joi
 unfolding joined joinBoth joinEither Done earlier later
 joined-done and done r h g = g
 joined-done and (breach t ps) done h g = tt
-joined-done and (breach t ps) (breach u qs) h g = times t u (breach t ps) (breach u qs) (breach t (ps ++ qs)) Done (λ _. tt) (λ _. tt) (λ _. tt)
+joined-done and (breach t ps) (breach u qs) h g = times t u (breach t ps) (breach u qs) (breach t (ps ++ qs)) Done
+    (λ _. tt) (λ _. tt) (λ _. tt)
 joined-done and (breach t ps) (running r) h g = tt
 joined-done and (breach t ps) stuck h g = tt
 joined-done and (running l) r h g = absurd h
@@ -135,7 +147,8 @@ joined-done or done (breach u qs) h g = tt
 joined-done or done (running r) h g = tt
 joined-done or done stuck h g = tt
 joined-done or (breach t ps) done h g = tt
-joined-done or (breach t ps) (breach u qs) h g = times t u (breach u qs) (breach t ps) _ Done (λ _. tt) (λ _. tt) (λ _. same (sameSet ps qs))
+joined-done or (breach t ps) (breach u qs) h g = times t u (breach u qs) (breach t ps) _ Done (λ _. tt) (λ _. tt)
+    (λ _. same (sameSet ps qs))
   where
     same : (b : Bool) → Done (elim b [ true ↦ breach t ps | false ↦ stuck ])
     same true = tt
@@ -161,36 +174,48 @@ stuck-right or stuck = refl
 abbrev pub Coming : ℕ → Outcome → Type 0
 Coming k o = NotBefore k o × Done o
 
-pub coming-bind : {A : Type 0} (k : ℕ) (m : Option A) (f : A → Option Outcome) → ((x : A) → Coming k (orStuck (f x))) → Coming k (orStuck (m >>= f))
+pub coming-bind : {A : Type 0} (k : ℕ) (m : Option A) (f : A → Option Outcome) → ((x : A) → Coming k (orStuck (f x)))
+    → Coming k (orStuck (m >>= f))
 unfolding _>>=_ orStuck NotBefore Done
 coming-bind k none f h = (tt, tt)
 coming-bind k (some x) f h = h x
 
-module _ (un : ℕ → List Val → List ℕ → ℕ → Outcome) (uc : (k : ℕ) (vs : List Val) (ps : List ℕ) (a : ℕ) → Coming a (un k vs ps a)) where
+module _ (un : ℕ → List Val → List ℕ → ℕ → Outcome)
+    (uc : (k : ℕ) (vs : List Val) (ps : List ℕ) (a : ℕ) → Coming a (un k vs ps a)) where
   pub walk-coming : (c : Clause) (e : Sight) (a : ℕ) → Coming a (walk forecasting un c e a)
   unfolding walk forecasting orStuck NotBefore Done
   walk-coming fulfilled e a = (tt, tt)
-  walk-coming (obligation b w t) e a = coming-bind a (window e a w) _ λ v. coming-bind a (blamed (e .params) b) _ λ p. (later-from a (v .last), tt)
+  walk-coming (obligation b w t) e a = coming-bind a (window e a w) _ λ v. coming-bind a (blamed (e .params) b) _ λ p.
+      (later-from a (v .last), tt)
   walk-coming (choice w t f) e a = coming-bind a (window e a w) _ λ v.
       let u = laterOf a (v .last) in
       let ih = walk-coming f e u in
       (not-before-mono a u (walk forecasting un f e u) (later-from a (v .last)) (ih .0), ih .1)
   walk-coming (if x t f) e a = coming-bind a (evalBool (e .values) x) _ (side (walk-coming t e a) (walk-coming f e a))
     where
-      side : Coming a (walk forecasting un t e a) → Coming a (walk forecasting un f e a) → (b : Bool) → Coming a (orStuck (elim b [ true ↦ some (walk forecasting un t e a) | false ↦ some (walk forecasting un f e a) ]))
+      side : Coming a (walk forecasting un t e a) → Coming a (walk forecasting un f e a) → (b : Bool)
+          → Coming a (orStuck (elim b [
+            | true ↦ some (walk forecasting un t e a)
+            | false ↦ some (walk forecasting un f e a)
+          ]))
       side h g true = h
       side h g false = g
   walk-coming (join j t f) e a =
       let h = walk-coming t e a in
-      let g = walk-coming f e a in
-      (joined-from a j (walk forecasting un t e a) (walk forecasting un f e a) (h .0) (g .0), joined-done j (walk forecasting un t e a) (walk forecasting un f e a) (h .1) (g .1))
-  walk-coming (instance k es bs) e a = coming-bind a (evals (e .values) es) _ λ vs. coming-bind a (blamedAll (e .params) bs) _ λ ps. uc k vs ps a
+      let g = walk-coming f e a in (
+        joined-from a j (walk forecasting un t e a) (walk forecasting un f e a) (h .0) (g .0),
+        joined-done j (walk forecasting un t e a) (walk forecasting un f e a) (h .1) (g .1),
+      )
+  walk-coming (instance k es bs) e a = coming-bind a (evals (e .values) es) _ λ vs. coming-bind a
+      (blamedAll (e .params) bs) _ λ ps. uc k vs ps a
   walk-coming badClause e a = (tt, tt)
 
-pub walkIn-coming : (ts : List Template) (n : ℕ) (c : Clause) (e : Sight) (a : ℕ) → Coming a (walkIn forecasting ts n c e a)
+pub walkIn-coming : (ts : List Template) (n : ℕ) (c : Clause) (e : Sight) (a : ℕ)
+    → Coming a (walkIn forecasting ts n c e a)
 unfolding walkIn NotBefore Done orStuck
 walkIn-coming ts zero = walk-coming _ (λ k vs ps a. (tt, tt))
-walkIn-coming ts (suc n) = walk-coming _ (λ k vs ps a. coming-bind a (at ts k) _ (λ t. walkIn-coming ts n (t .body) (record { params = ps; values = vs }) a))
+walkIn-coming ts (suc n) = walk-coming _
+    (λ k vs ps a. coming-bind a (at ts k) _ (λ t. walkIn-coming ts n (t .body) (record { params = ps; values = vs }) a))
 
 -- ---- a mark is never taken
 pub later-beyond : (a t : ℕ) (l : ℤ) → T (not (ltZ l (pos t))) → t ≤ laterOf a l
@@ -199,7 +224,8 @@ later-beyond a t (pos n) h = omega (arith, nltb→le n t h)
 later-beyond a t (negsuc n) h = absurd h
 
 module _ (ag : Agreement) (r : Reading) (mark : r .type ≡ 0) where
-  unwanted : (w : Wait) (v : Window) (vs : List Ty) → readingOfType (ag .readings) (w .wanted) ≡ some vs → wants w v r ≡ false
+  unwanted : (w : Wait) (v : Window) (vs : List Ty) → readingOfType (ag .readings) (w .wanted) ≡ some vs
+      → wants w v r ≡ false
   unfolding wants readingOfType
   unwanted w v vs e = go (eqb (w .wanted) (r .type)) refl
     where
@@ -211,7 +237,8 @@ module _ (ag : Agreement) (r : Reading) (mark : r .type ≡ 0) where
       go true q = absurd (none-at (w .wanted) (eqb→eq (w .wanted) (r .type) (subst T (sym q) tt) ∙ mark) e)
       go false q = refl
 
-  pub untaken : (n : ℕ) (env : List Ty) (e : Sight) (w : Wait) (v : Window) (t : Clause) (o : Outcome) (vs : List Ty) → typeWait (namesOf ag n) env w ≡ some vs → taken (ag .templates) r e w v t o ≡ o
+  pub untaken : (n : ℕ) (env : List Ty) (e : Sight) (w : Wait) (v : Window) (t : Clause) (o : Outcome) (vs : List Ty)
+      → typeWait (namesOf ag n) env w ≡ some vs → taken (ag .templates) r e w v t o ≡ o
   unfolding taken
   untaken n env e w v t o vs tw = from-wait ag n env w vs tw λ u₁ u₂ u₃ rt tc ta ti. rw (unwanted w v vs rt, taken) refl
 
@@ -220,14 +247,18 @@ module _ (ag : Agreement) (mains : List ℕ) (fair : Fair ag mains) where
   abbrev From : ℕ → Type 0
   From t = ag .start ≤ t
 
-  window-good : {C : Type 0} (n : ℕ) (env : List Ty) (e : Sight) (a : ℕ) (w : Wait) (vs : List Ty) → SightOk ag n env e → typeWait (namesOf ag n) env w ≡ some vs → ((v : Window) → window e a w ≡ some v → C) → C
+  window-good : {C : Type 0} (n : ℕ) (env : List Ty) (e : Sight) (a : ℕ) (w : Wait) (vs : List Ty)
+      → SightOk ag n env e → typeWait (namesOf ag n) env w ≡ some vs → ((v : Window) → window e a w ≡ some v → C) → C
   window-good n env e a w vs ok tw k =
       from-wait ag n env w vs tw λ u₁ u₂ u₃ rt tc ta ti.
       num-typed (ag .parties) env (e .values) (ok .values) (w .after) u₂ ta λ x ex rx.
       num-typed (ag .parties) env (e .values) (ok .values) (w .within) u₃ ti λ y ey ry.
       k (record { first = pos a +ℤ x; last = (pos a +ℤ x) +ℤ y }) (window-is e a w x y ex ey)
 
-  forecasting-obligation : (n : ℕ) (env : List Ty) (b : ℕ) (w : Wait) (t : Clause) (e : Sight) (a : ℕ) (bs : List ℕ) → SightOk ag n env e → From a → typeClause (namesOf ag n) env (obligation b w t) ≡ some bs → Placed ag n env (obligation b w t) → Good ag From (standFor (e .params) bs) (forecasting .onObligation e a b w t)
+  forecasting-obligation : (n : ℕ) (env : List Ty) (b : ℕ) (w : Wait) (t : Clause) (e : Sight) (a : ℕ) (bs : List ℕ)
+      → SightOk ag n env e → From a → typeClause (namesOf ag n) env (obligation b w t) ≡ some bs
+      → Placed ag n env (obligation b w t) → Good ag From (standFor (e .params) bs)
+      (forecasting .onObligation e a b w t)
   unfolding forecasting orStuck typeClause
   forecasting-obligation n env b w t e a bs ok fa ty pl =
       from-need (blameOk (namesOf ag n) b) _ bs ty λ bo q₁.
@@ -236,11 +267,17 @@ module _ (ag : Agreement) (mains : List ℕ) (fair : Fair ag mains) where
       window-good n env e a w vs ok tw λ v wv.
       good-bind ag (fair .few) (heads-declared ag mains fair) From (standFor (e .params) bs) (window e a w) _ v wv
       (blamed-ok ag n env e ok (fair .few) b bo λ who eq st lt.
-      good-bind ag (fair .few) (heads-declared ag mains fair) From (standFor (e .params) bs) (blamed (e .params) b) _ who eq
-      (breach-good ag From (e .params) b who (laterOf a (v .last)) ps bs st (some-inj q₃) (omega (arith, later-from a (v .last), fa))))
+      good-bind ag (fair .few) (heads-declared ag mains fair) From (standFor (e .params) bs) (blamed (e .params) b) _
+      who eq
+      (breach-good ag From (e .params) b who (laterOf a (v .last)) ps bs st (some-inj q₃)
+      (omega (arith, later-from a (v .last), fa))))
 
-  forecasting-choice : (n : ℕ) (env : List Ty) (w : Wait) (t f : Clause) (e : Sight) (a : ℕ) (bs : List ℕ) (g : ℕ → Outcome) → SightOk ag n env e → From a → typeClause (namesOf ag n) env (choice w t f) ≡ some bs → Placed ag n env (choice w t f)
-      → ((qs : List ℕ) (u : ℕ) → typeClause (namesOf ag n) env f ≡ some qs → From u → Good ag From (standFor (e .params) qs) (g u)) → Good ag From (standFor (e .params) bs) (forecasting .onChoice e a w t g)
+  forecasting-choice : (n : ℕ) (env : List Ty) (w : Wait) (t f : Clause) (e : Sight) (a : ℕ) (bs : List ℕ)
+      (g : ℕ → Outcome) → SightOk ag n env e → From a → typeClause (namesOf ag n) env (choice w t f) ≡ some bs
+      → Placed ag n env (choice w t f)
+      → ((qs : List ℕ) (u : ℕ) → typeClause (namesOf ag n) env f ≡ some qs → From u
+      → Good ag From (standFor (e .params) qs) (g u))
+      → Good ag From (standFor (e .params) bs) (forecasting .onChoice e a w t g)
   unfolding forecasting orStuck typeClause Sub
   forecasting-choice n env w t f e a bs g ok fa ty pl h =
       from-bind (typeWait (namesOf ag n) env w) _ bs ty λ vs tw q₂.
@@ -248,21 +285,25 @@ module _ (ag : Agreement) (mains : List ℕ) (fair : Fair ag mains) where
       from-bind (typeClause (namesOf ag n) env f) _ bs q₃ λ qs p′ q₄.
       window-good n env e a w vs ok tw λ v wv.
       good-bind ag (fair .few) (heads-declared ag mains fair) From (standFor (e .params) bs) (window e a w) _ v wv
-      (good-sub ag From (standFor (e .params) qs) (standFor (e .params) bs) (g (laterOf a (v .last))) (stand-sub (e .params) qs bs (subst (λ l. Sub qs l) (some-inj q₄) (λ z k. in-right z ps qs k)))
+      (good-sub ag From (standFor (e .params) qs) (standFor (e .params) bs) (g (laterOf a (v .last)))
+      (stand-sub (e .params) qs bs (subst (λ l. Sub qs l) (some-inj q₄) (λ z k. in-right z ps qs k)))
       (h qs (laterOf a (v .last)) p′ (omega (arith, later-from a (v .last), fa))))
 
   pub forecasting-good : StepGood ag (fair .few) (heads-declared ag mains fair) From forecasting
   forecasting-good = record { obligation = forecasting-obligation; choice = forecasting-choice }
 
   -- a forecast of a well-typed residue is never stuck, and blames only that residue's parties
-  pub forecast-good : (now : ℕ) (res : Residue) (ps : List ℕ) → Ok ag (λ t. (ag .start ≤ t) × (t ≤ now)) res ps → Good ag From ps (forecast ag res)
+  pub forecast-good : (now : ℕ) (res : Residue) (ps : List ℕ) → Ok ag (λ t. (ag .start ≤ t) × (t ≤ now)) res ps
+      → Good ag From ps (forecast ag res)
   unfolding forecast
-  forecast-good now = across-good ag mains fair (λ t. (ag .start ≤ t) × (t ≤ now)) From (λ t h. h .0) forecasting forecasting-good
+  forecast-good now = across-good ag mains fair (λ t. (ag .start ≤ t) × (t ≤ now)) From (λ t h. h .0) forecasting
+      forecasting-good
 
   -- and leaves nothing running
   forecast-done : (res : Residue) → Done (forecast ag res)
   unfolding forecast across during orStuck
-  forecast-done (unit s p a e) = (coming-bind a (clauseAt ag p) _ (λ c. walkIn-coming (ag .templates) (length (ag .templates)) (c .clause) e a)) .1
+  forecast-done (unit s p a e) = (coming-bind a (clauseAt ag p) _
+      (λ c. walkIn-coming (ag .templates) (length (ag .templates)) (c .clause) e a)) .1
   forecast-done (both j l r) = joined-done j (forecast ag l) (forecast ag r) (forecast-done l) (forecast-done r)
 
 -- none, or a breach that names a party at least, only the main clause's, at a time not before the start
@@ -272,12 +313,18 @@ ForecastOk a mains (breach t ps) = (ps ≢ []) × T (subset ps mains) × (a .sta
 ForecastOk a mains (running r) = ⊥
 ForecastOk a mains stuck = ⊥
 
-pub forecast-ok : (ag : Agreement) (mains : List ℕ) (fair : Fair ag mains) (now : ℕ) (res : Residue) (ps : List ℕ) → Ok ag (λ t. (ag .start ≤ t) × (t ≤ now)) res ps → Sub ps mains → ForecastOk ag mains (forecast ag res)
+pub forecast-ok : (ag : Agreement) (mains : List ℕ) (fair : Fair ag mains) (now : ℕ) (res : Residue) (ps : List ℕ)
+    → Ok ag (λ t. (ag .start ≤ t) × (t ≤ now)) res ps → Sub ps mains → ForecastOk ag mains (forecast ag res)
 unfolding Good ForecastOk Done In
-forecast-ok ag mains fair now res ps ok sub = go (forecast ag res) (forecast-good ag mains fair now res ps ok) (forecast-done ag mains fair res)
+forecast-ok ag mains fair now res ps ok sub = go (forecast ag res) (forecast-good ag mains fair now res ps ok)
+    (forecast-done ag mains fair res)
   where
     go : (f : Outcome) → Good ag (λ t. ag .start ≤ t) ps f → Done f → ForecastOk ag mains f
     go done g d = tt
-    go (breach u qs) g d = ((λ e. subst (λ l. In (g .0) l) e (g .1)), sub→subset qs mains (sub-trans qs ps mains (g .2) sub), g .3)
+    go (breach u qs) g d = (
+      (λ e. subst (λ l. In (g .0) l) e (g .1)),
+      sub→subset qs mains (sub-trans qs ps mains (g .2) sub),
+      g .3,
+    )
     go (running s) g d = d
     go stuck g d = g

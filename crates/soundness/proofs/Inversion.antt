@@ -9,18 +9,14 @@ use lib.Dec.{T}
 use Rattle.csl.specs.Lists.{_>>=_, need}
 
 module _ {A B : Type 0} where
-  pub bind-some : (m : Option A) (f : A → Option B) (y : B) → m >>= f ≡ some y → (x : A) × (m ≡ some x) × (f x ≡ some y)
-  unfolding _>>=_
-  bind-some none f y e = let z : _≡_ {A = ℕ} 0 1 = cc in absurd (omega arith)
-  bind-some (some a) f y e = (a, refl, e)
-
   pub some-bind : (m : Option A) (f : A → Option B) (x : A) → m ≡ some x → m >>= f ≡ f x
   unfolding _>>=_
   some-bind m f x e = rw e refl
 
 -- the same, handing on what is found
 module _ {A B C : Type 0} where
-  pub from-bind : (m : Option A) (f : A → Option B) (y : B) → m >>= f ≡ some y → ((x : A) → m ≡ some x → f x ≡ some y → C) → C
+  pub from-bind : (m : Option A) (f : A → Option B) (y : B) → m >>= f ≡ some y
+      → ((x : A) → m ≡ some x → f x ≡ some y → C) → C
   unfolding _>>=_
   from-bind none f y e k = let z : _≡_ {A = ℕ} 0 1 = cc in absurd (omega arith)
   from-bind (some a) f y e k = k a refl e

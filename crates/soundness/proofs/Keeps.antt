@@ -14,18 +14,24 @@ use lib.Signed.{ltZ}
 use Rattle.csl.specs.Lists.{_>>=_, at}
 use Rattle.csl.specs.Numbers.{laterOf}
 use Rattle.csl.specs.Parties.{sameSet, subset}
-use Rattle.csl.specs.Syntax.{Agreement, Clause, Join, Template, Ty, and, badClause, choice, fulfilled, if, instance, join, obligation, or, truth}
+use Rattle.csl.specs.Syntax.{Agreement, Clause, Join, Template, Ty, and, badClause, choice, fulfilled, if, instance}
+use Rattle.csl.specs.Syntax.{join, obligation, or, truth}
 use Rattle.csl.specs.Typing.{blameOk, hasType, namesOf, thenSight, typeClause, typeWait}
 use Rattle.csl.specs.Values.{Val, evalBool, evals}
-use Rattle.csl.specs.Outcomes.{Outcome, Residue, Sight, Sort, anObligation, aChoice, both, breach, done, earlier, joinBoth, joinEither, joined, later, orStuck, running, stuck, unit}
-use Rattle.csl.specs.Rules.{Reading, Window, blamed, blamedAll, during, following, forecasting, late, walk, walkIn, window}
+use Rattle.csl.specs.Outcomes.{Outcome, Residue, Sight, Sort, anObligation, aChoice, both, breach, done, earlier}
+use Rattle.csl.specs.Outcomes.{joinBoth, joinEither, joined, later, orStuck, running, stuck, unit}
+use Rattle.csl.specs.Rules.{Reading, Window, blamed, blamedAll, during, following, forecasting, late, walk, walkIn}
+use Rattle.csl.specs.Rules.{window}
 use Rattle.csl.specs.Places.{Found, across, clauseAt, follow, forecast}
 use Rattle.soundness.proofs.Inversion.{T-both, T-left, T-right, from-bind, from-need, some-bind, some-inj}
-use Rattle.soundness.proofs.Members.{Sub, in-left, in-right, sub-both, sub-refl, sub-trans, sub→subset, subset→sub}
+use Rattle.soundness.proofs.Members.{Sub, in-left, in-right, sub-both, sub-refl, sub-trans, sub→subset}
+use Rattle.soundness.proofs.Members.{subset→sub}
 use Rattle.soundness.proofs.Times.{later-to}
 use Rattle.soundness.proofs.Good.{Ok, Placed}
 use Rattle.soundness.proofs.Walks.{Fair}
-use Rattle.soundness.proofs.Forecasts.{Coming, Done, NotBefore, both-from, coming-bind, later-beyond, not-before-mono, stuck-right, times, times-both, untaken, walk-coming, walkIn-coming}
+use Rattle.soundness.proofs.Forecasts.{Coming, Done, NotBefore, both-from, coming-bind, later-beyond}
+use Rattle.soundness.proofs.Forecasts.{not-before-mono, stuck-right, times, times-both, untaken, walk-coming}
+use Rattle.soundness.proofs.Forecasts.{walkIn-coming}
 
 -- ---- two forecasts say the same: none, or a breach at one time by the same set of parties
 unfoldable pub SameForecast : Outcome → Outcome → Type 0
@@ -83,8 +89,16 @@ module _ (ag : Agreement) (now : ℕ) where
   unfolding SameForecast joinBoth earlier
   same-both done g x y h k = rw h k
   same-both (breach t ps) done x y h k = rw (h .1, k) (h .0, refl, h .2, h .3)
-  same-both (breach t ps) (breach u qs) x y h k = rw (h .1, k .1) (times-both t u (breach t ps) (breach u qs) (breach t (ps ++ qs)) (breach t (h .0)) (breach u (k .0)) (breach t (h .0 ++ k .0)) SameForecast
-      (λ _. (h .0, refl, h .2, h .3)) (λ _. (k .0, refl, k .2, k .3)) (λ _. (h .0 ++ k .0, refl, sub-both ps qs (h .0) (k .0) (h .2) (k .2), sub-both (h .0) (k .0) ps qs (h .3) (k .3))))
+  same-both (breach t ps) (breach u qs) x y h k = rw (h .1, k .1)
+      (times-both t u (breach t ps) (breach u qs) (breach t (ps ++ qs)) (breach t (h .0)) (breach u (k .0))
+      (breach t (h .0 ++ k .0)) SameForecast
+      (λ _. (h .0, refl, h .2, h .3)) (λ _. (k .0, refl, k .2, k .3))
+      (λ _. (
+        h .0 ++ k .0,
+        refl,
+        sub-both ps qs (h .0) (k .0) (h .2) (k .2),
+        sub-both (h .0) (k .0) ps qs (h .3) (k .3),
+      )))
   same-both (breach t ps) (running r) x y h k = absurd k
   same-both (breach t ps) stuck x y h k = absurd k
   same-both (running l) g x y h k = absurd h
@@ -118,10 +132,19 @@ module _ (ag : Agreement) (now : ℕ) where
   either-waits done stuck l r n m h k = absurd k
   either-waits (breach t ps) done l r n m h k = waits done (both or l r) tt (rw (h .1, k) refl)
   either-waits (breach t ps) (breach u qs) l r n m h k =
-      times-both t u (breach u qs) (breach t ps) _ (breach u (k .0)) (breach t (h .0)) _ (λ f g. forecast ag (both or l r) ≡ g → Kept f (running (both or l r)))
+      times-both t u (breach u qs) (breach t ps) _ (breach u (k .0)) (breach t (h .0)) _
+      (λ f g. forecast ag (both or l r) ≡ g → Kept f (running (both or l r)))
       (λ _ e. waits (breach u qs) (both or l r) m (k .0, e, k .2, k .3))
       (λ _ e. waits (breach t ps) (both or l r) n (h .0, e, h .2, h .3))
-      (λ _ e. if-same ps qs t (λ s. let z = from-same ps qs s in waits (breach t ps) (both or l r) n (h .0, e ∙ is-same t (h .0) (k .0) (same-set (h .0) (k .0) (sub-trans (h .0) ps (k .0) (h .3) (sub-trans ps qs (k .0) (z .0) (k .2))) (sub-trans (k .0) qs (h .0) (k .3) (sub-trans qs ps (h .0) (z .1) (h .2)))), h .2, h .3)))
+      (λ _ e. if-same ps qs t (λ s. let z = from-same ps qs s in
+      waits (breach t ps) (both or l r) n (
+        h .0,
+        e ∙ is-same t (h .0) (k .0) (same-set (h .0) (k .0)
+            (sub-trans (h .0) ps (k .0) (h .3) (sub-trans ps qs (k .0) (z .0) (k .2)))
+            (sub-trans (k .0) qs (h .0) (k .3) (sub-trans qs ps (h .0) (z .1) (h .2)))),
+        h .2,
+        h .3,
+      )))
       (rw (h .1, k .1) refl)
   either-waits (breach t ps) (running g) l r n m h k = absurd k
   either-waits (breach t ps) stuck l r n m h k = absurd k
@@ -133,10 +156,12 @@ module _ (ag : Agreement) (now : ℕ) where
       → t ≤ now → Sub qs ps → (t < now → qs ≡ ps) → Kept (joinBoth f (breach t ps)) (breach t qs)
   unfolding NotBefore SameForecast joinBoth earlier Sub
   both-first done l t ps qs n h le sub eq = breaks t ps qs le sub eq
-  both-first (breach u us) l t ps qs n h le sub eq = times u t (breach u us) (breach t ps) (breach u (us ++ ps)) (λ f. Kept f (breach t qs))
+  both-first (breach u us) l t ps qs n h le sub eq = times u t (breach u us) (breach t ps) (breach u (us ++ ps))
+      (λ f. Kept f (breach t qs))
       (λ lt. absurd (omega arith))
       (λ lt. breaks t ps qs le sub eq)
-      (λ e. subst (λ v. Kept (breach v (us ++ ps)) (breach t qs)) (sym e) (breaks t (us ++ ps) qs le (λ x i. in-right x us ps (sub x i)) (λ lt. absurd (omega arith))))
+      (λ e. subst (λ v. Kept (breach v (us ++ ps)) (breach t qs)) (sym e)
+      (breaks t (us ++ ps) qs le (λ x i. in-right x us ps (sub x i)) (λ lt. absurd (omega arith))))
   both-first (running f) l t ps qs n h le sub eq = absurd h
   both-first stuck l t ps qs n h le sub eq = absurd h
 
@@ -144,7 +169,8 @@ module _ (ag : Agreement) (now : ℕ) where
       → t ≤ now → Sub qs ps → (t < now → qs ≡ ps) → Kept (joinBoth (breach t ps) g) (breach t qs)
   unfolding NotBefore SameForecast joinBoth earlier Sub
   both-second done r t ps qs n h le sub eq = breaks t ps qs le sub eq
-  both-second (breach u us) r t ps qs n h le sub eq = times t u (breach t ps) (breach u us) (breach t (ps ++ us)) (λ f. Kept f (breach t qs))
+  both-second (breach u us) r t ps qs n h le sub eq = times t u (breach t ps) (breach u us) (breach t (ps ++ us))
+      (λ f. Kept f (breach t qs))
       (λ lt. breaks t ps qs le sub eq)
       (λ lt. absurd (omega arith))
       (λ e. breaks t (ps ++ us) qs le (λ x i. in-left x ps us (sub x i)) (λ lt. absurd (omega arith)))
@@ -169,7 +195,13 @@ module _ (ag : Agreement) (now : ℕ) where
   either-second (breach u us) r t ps n h le = times t u (breach u us) (breach t ps) _ (λ f. Kept f (running r))
       (λ lt. waits (breach u us) r n h)
       (λ lt. absurd (omega arith))
-      (λ e. if-same ps us t (λ s. let z = from-same ps us s in waits (breach t ps) r (omega arith) (h .0, h .1 ∙ ap (λ v. breach v (h .0)) (sym e), sub-trans ps us (h .0) (z .0) (h .2), sub-trans (h .0) us ps (h .3) (z .1))))
+      (λ e. if-same ps us t (λ s. let z = from-same ps us s in
+      waits (breach t ps) r (omega arith) (
+        h .0,
+        h .1 ∙ ap (λ v. breach v (h .0)) (sym e),
+        sub-trans ps us (h .0) (z .0) (h .2),
+        sub-trans (h .0) us ps (h .3) (z .1),
+      )))
   either-second (running g) r t ps n h le = absurd h
   either-second stuck r t ps n h le = absurd h
 
@@ -177,15 +209,18 @@ module _ (ag : Agreement) (now : ℕ) where
   both-break : (t u : ℕ) (ps qs rs ss : List ℕ) → t ≤ now → Sub qs ps → (t < now → qs ≡ ps) → u ≤ now → Sub ss rs
       → (u < now → ss ≡ rs) → Kept (earlier t ps u rs) (earlier t qs u ss)
   unfolding earlier
-  both-break t u ps qs rs ss le sub eq le′ sub′ eq′ = times-both t u (breach t ps) (breach u rs) (breach t (ps ++ rs)) (breach t qs) (breach u ss) (breach t (qs ++ ss)) Kept
+  both-break t u ps qs rs ss le sub eq le′ sub′ eq′ = times-both t u (breach t ps) (breach u rs) (breach t (ps ++ rs))
+      (breach t qs) (breach u ss) (breach t (qs ++ ss)) Kept
       (λ _. breaks t ps qs le sub eq)
       (λ _. breaks u rs ss le′ sub′ eq′)
-      (λ e. breaks t (ps ++ rs) (qs ++ ss) le (sub-both qs ss ps rs sub sub′) (λ lt. ap₂ _++_ (eq lt) (eq′ (omega arith))))
+      (λ e. breaks t (ps ++ rs) (qs ++ ss) le (sub-both qs ss ps rs sub sub′)
+      (λ lt. ap₂ _++_ (eq lt) (eq′ (omega arith))))
 
   either-break : (t u : ℕ) (ps qs rs ss : List ℕ) → t ≤ now → Sub qs ps → (t < now → qs ≡ ps) → u ≤ now → Sub ss rs
       → (u < now → ss ≡ rs) → Kept (later t ps u rs) (later t qs u ss)
   unfolding later
-  either-break t u ps qs rs ss le sub eq le′ sub′ eq′ = times-both t u (breach u rs) (breach t ps) (atOneTime t ps rs) (breach u ss) (breach t qs) (atOneTime t qs ss) Kept
+  either-break t u ps qs rs ss le sub eq le′ sub′ eq′ = times-both t u (breach u rs) (breach t ps) (atOneTime t ps rs)
+      (breach u ss) (breach t qs) (atOneTime t qs ss) Kept
       (λ _. breaks u rs ss le′ sub′ eq′)
       (λ _. breaks t ps qs le sub eq)
       (λ e. if-same ps rs t (λ _. one (sameSet qs ss)))
@@ -198,31 +233,39 @@ module _ (ag : Agreement) (now : ℕ) where
   pub joined-kept : (j : Join) (f g l r : Outcome) → Kept f l → Kept g r → Kept (joined j f g) (joined j l r)
   unfolding joined joinBoth joinEither forecast across
   joined-kept and f g l r fulfils k = k
-  joined-kept and f g l r (waits f′ l′ n h) fulfils = subst (λ x. Kept x (running l′)) (sym (none-beside f′)) (waits f′ l′ n h)
-  joined-kept and f g l r (waits f′ l′ n h) (waits g′ r′ m k) = waits (joinBoth f′ g′) (both and l′ r′) (both-from now f′ g′ n m) (same-both f′ g′ (forecast ag l′) (forecast ag r′) h k)
+  joined-kept and f g l r (waits f′ l′ n h) fulfils = subst (λ x. Kept x (running l′)) (sym (none-beside f′))
+      (waits f′ l′ n h)
+  joined-kept and f g l r (waits f′ l′ n h) (waits g′ r′ m k) = waits (joinBoth f′ g′) (both and l′ r′)
+      (both-from now f′ g′ n m) (same-both f′ g′ (forecast ag l′) (forecast ag r′) h k)
   joined-kept and f g l r (waits f′ l′ n h) (breaks t ps qs le sub eq) = both-first f′ l′ t ps qs n h le sub eq
-  joined-kept and f g l r (waits f′ l′ n h) (stuckBefore o) = subst (λ x. Kept x (joinBoth (running l′) o)) (sym (stuck-right and f′)) (stuckBefore _)
+  joined-kept and f g l r (waits f′ l′ n h) (stuckBefore o) = subst (λ x. Kept x (joinBoth (running l′) o))
+      (sym (stuck-right and f′)) (stuckBefore _)
   joined-kept and f g l r (waits f′ l′ n h) (stuckAfter g′) = stuckAfter _
   joined-kept and f g l r (breaks t ps qs le sub eq) fulfils = breaks t ps qs le sub eq
   joined-kept and f g l r (breaks t ps qs le sub eq) (waits g′ r′ m k) = both-second g′ r′ t ps qs m k le sub eq
-  joined-kept and f g l r (breaks t ps qs le sub eq) (breaks u rs ss le′ sub′ eq′) = both-break t u ps qs rs ss le sub eq le′ sub′ eq′
+  joined-kept and f g l r (breaks t ps qs le sub eq) (breaks u rs ss le′ sub′ eq′) = both-break t u ps qs rs ss le sub
+      eq le′ sub′ eq′
   joined-kept and f g l r (breaks t ps qs le sub eq) (stuckBefore o) = stuckBefore _
   joined-kept and f g l r (breaks t ps qs le sub eq) (stuckAfter g′) = stuckAfter _
   joined-kept and f g l r (stuckBefore o) k = stuckBefore _
   joined-kept and f g l r (stuckAfter f′) k = stuckAfter _
   joined-kept or f g l r fulfils fulfils = fulfils
-  joined-kept or f g l r fulfils (waits g′ r′ m k) = subst (λ x. Kept x done) (sym (fulfilled-left g′ (forecast ag r′) k)) fulfils
+  joined-kept or f g l r fulfils (waits g′ r′ m k) = subst (λ x. Kept x done)
+      (sym (fulfilled-left g′ (forecast ag r′) k)) fulfils
   joined-kept or f g l r fulfils (breaks u rs ss le sub eq) = fulfils
   joined-kept or f g l r fulfils (stuckBefore o) = stuckBefore _
   joined-kept or f g l r fulfils (stuckAfter g′) = stuckAfter _
-  joined-kept or f g l r (waits f′ l′ n h) fulfils = subst (λ x. Kept x done) (sym (fulfilled-right f′ (forecast ag l′) h)) fulfils
+  joined-kept or f g l r (waits f′ l′ n h) fulfils = subst (λ x. Kept x done)
+      (sym (fulfilled-right f′ (forecast ag l′) h)) fulfils
   joined-kept or f g l r (waits f′ l′ n h) (waits g′ r′ m k) = either-waits f′ g′ l′ r′ n m h k
   joined-kept or f g l r (waits f′ l′ n h) (breaks t ps qs le sub eq) = either-first f′ l′ t ps n h le
-  joined-kept or f g l r (waits f′ l′ n h) (stuckBefore o) = subst (λ x. Kept x (joinEither (running l′) o)) (sym (stuck-right or f′)) (stuckBefore _)
+  joined-kept or f g l r (waits f′ l′ n h) (stuckBefore o) = subst (λ x. Kept x (joinEither (running l′) o))
+      (sym (stuck-right or f′)) (stuckBefore _)
   joined-kept or f g l r (waits f′ l′ n h) (stuckAfter g′) = stuckAfter _
   joined-kept or f g l r (breaks t ps qs le sub eq) fulfils = fulfils
   joined-kept or f g l r (breaks t ps qs le sub eq) (waits g′ r′ m k) = either-second g′ r′ t ps m k le
-  joined-kept or f g l r (breaks t ps qs le sub eq) (breaks u rs ss le′ sub′ eq′) = either-break t u ps qs rs ss le sub eq le′ sub′ eq′
+  joined-kept or f g l r (breaks t ps qs le sub eq) (breaks u rs ss le′ sub′ eq′) = either-break t u ps qs rs ss le
+      sub eq le′ sub′ eq′
   joined-kept or f g l r (breaks t ps qs le sub eq) (stuckBefore o) = stuckBefore _
   joined-kept or f g l r (breaks t ps qs le sub eq) (stuckAfter g′) = stuckAfter _
   joined-kept or f g l r (stuckBefore o) k = stuckBefore _
@@ -236,7 +279,8 @@ module _ (ag : Agreement) (now : ℕ) where
   kept-bind (some x) f g h = h x refl
 
   kept-side : (b : Bool) (f f′ o o′ : Outcome) → Kept f o → Kept f′ o′
-      → Kept (orStuck (elim b [ true ↦ some f | false ↦ some f′ ])) (orStuck (elim b [ true ↦ some o | false ↦ some o′ ]))
+      → Kept (orStuck (elim b [ true ↦ some f | false ↦ some f′ ]))
+      (orStuck (elim b [ true ↦ some o | false ↦ some o′ ]))
   unfolding orStuck
   kept-side true f f′ o o′ h g = h
   kept-side false f f′ o o′ h g = g
@@ -259,7 +303,8 @@ unfolding _>>=_ orStuck
 deeper-bind none f g h = inl refl
 deeper-bind (some x) f g h = h x
 
-module _ (un vn : ℕ → List Val → List ℕ → ℕ → Outcome) (uv : (k : ℕ) (vs : List Val) (ps : List ℕ) (a : ℕ) → SameOrStuck (un k vs ps a) (vn k vs ps a)) where
+module _ (un vn : ℕ → List Val → List ℕ → ℕ → Outcome)
+    (uv : (k : ℕ) (vs : List Val) (ps : List ℕ) (a : ℕ) → SameOrStuck (un k vs ps a) (vn k vs ps a)) where
   walk-deeper : (c : Clause) (e : Sight) (a : ℕ) → SameOrStuck (walk forecasting un c e a) (walk forecasting vn c e a)
   unfolding walk forecasting orStuck
   walk-deeper fulfilled e a = inr refl
@@ -270,11 +315,16 @@ module _ (un vn : ℕ → List Val → List ℕ → ℕ → Outcome) (uv : (k : 
       side : SameOrStuck (walk forecasting un t e a) (walk forecasting vn t e a)
           → SameOrStuck (walk forecasting un f e a) (walk forecasting vn f e a)
           → (b : Bool)
-          → SameOrStuck (orStuck (elim b [ true ↦ some (walk forecasting un t e a) | false ↦ some (walk forecasting un f e a) ])) (orStuck (elim b [ true ↦ some (walk forecasting vn t e a) | false ↦ some (walk forecasting vn f e a) ]))
+          → SameOrStuck (orStuck (elim b [
+            | true ↦ some (walk forecasting un t e a)
+            | false ↦ some (walk forecasting un f e a)
+          ]))
+          (orStuck (elim b [ true ↦ some (walk forecasting vn t e a) | false ↦ some (walk forecasting vn f e a) ]))
       side h g true = h
       side h g false = g
   walk-deeper (join j t f) e a = joined-deeper j _ _ _ _ (walk-deeper t e a) (walk-deeper f e a)
-  walk-deeper (instance k es bs) e a = deeper-bind (evals (e .values) es) _ _ λ vs. deeper-bind (blamedAll (e .params) bs) _ _ λ ps. uv k vs ps a
+  walk-deeper (instance k es bs) e a = deeper-bind (evals (e .values) es) _ _ λ vs. deeper-bind
+      (blamedAll (e .params) bs) _ _ λ ps. uv k vs ps a
   walk-deeper badClause e a = inr refl
 
 walkIn-deeper : (ts : List Template) (m n : ℕ) → m ≤ n → (c : Clause) (e : Sight) (a : ℕ)
@@ -283,7 +333,9 @@ unfolding walkIn orStuck
 walkIn-deeper ts zero zero le = walk-deeper _ _ (λ k vs ps a. inl refl)
 walkIn-deeper ts zero (suc n) le = walk-deeper _ _ (λ k vs ps a. inl refl)
 walkIn-deeper ts (suc m) zero le = absurd (omega arith)
-walkIn-deeper ts (suc m) (suc n) le = walk-deeper _ _ (λ k vs ps a. deeper-bind (at ts k) _ _ λ t. walkIn-deeper ts m n (omega arith) (t .body) (record { params = ps; values = vs }) a)
+walkIn-deeper ts (suc m) (suc n) le = walk-deeper _ _
+    (λ k vs ps a. deeper-bind (at ts k) _ _ λ t. walkIn-deeper ts m n (omega arith) (t .body)
+    (record { params = ps; values = vs }) a)
 
 -- ---- both walks at once: a mark r
 module _ (ag : Agreement) (r : Reading) (mark : r .type ≡ 0) where
@@ -312,7 +364,11 @@ module _ (ag : Agreement) (r : Reading) (mark : r .type ≡ 0) where
           → KeptAt (orStuck f) (orStuck (elim b [ true ↦ x | false ↦ some y ]))
       go true q = h (subst T (sym q) tt)
       go false q = subst (λ o. KeptAt (orStuck f) o) (sym e)
-          (waiting-kept (orStuck f) res (not-before-mono (r .time) (laterOf a (v .last)) (orStuck f) (later-beyond a (r .time) (v .last) (subst (λ b. T (not b)) (sym q) tt)) (c .0), c .1) same)
+          (waiting-kept (orStuck f) res (
+            not-before-mono (r .time) (laterOf a (v .last)) (orStuck f)
+                (later-beyond a (r .time) (v .last) (subst (λ b. T (not b)) (sym q) tt)) (c .0),
+            c .1,
+          ) same)
 
   -- the forecast of a unit is that of the clause at its place
   unit-forecast : (k : Sort) (p a : ℕ) (e : Sight) (x : Found) → clauseAt ag p ≡ some x
@@ -323,11 +379,14 @@ module _ (ag : Agreement) (r : Reading) (mark : r .type ≡ 0) where
   module _ (un mn : ℕ → List Val → List ℕ → ℕ → Outcome)
       (uc : (k : ℕ) (vs : List Val) (ps : List ℕ) (a : ℕ) → Coming a (un k vs ps a))
       (ut : (k : ℕ) (vs : List Val) (ps : List ℕ) (a : ℕ) → a ≤ r .time → KeptAt (un k vs ps a) (mn k vs ps a))
-      (deep : (c : Clause) (e : Sight) (a : ℕ) → SameOrStuck (walk forecasting un c e a) (during forecasting (ag .templates) c e a)) where
+      (deep : (c : Clause) (e : Sight) (a : ℕ)
+      → SameOrStuck (walk forecasting un c e a) (during forecasting (ag .templates) c e a)) where
     -- the forecast that a clause has, once its window is known, is its unit's
     on-unit : (c : Clause) (k : Sort) (p a : ℕ) (e : Sight) (x : Found) (f : Outcome) → clauseAt ag p ≡ some x
         → x .clause ≡ c → walk forecasting un c e a ≡ f → SameOrStuck f (forecast ag (unit k p a e))
-    on-unit c k p a e x f is same ef = subst (λ g. SameOrStuck g (forecast ag (unit k p a e))) ef (subst (SameOrStuck (walk forecasting un c e a)) (ap (λ c. during forecasting (ag .templates) c e a) (sym same) ∙ unit-forecast k p a e x is) (deep c e a))
+    on-unit c k p a e x f is same ef = subst (λ g. SameOrStuck g (forecast ag (unit k p a e))) ef
+        (subst (SameOrStuck (walk forecasting un c e a))
+        (ap (λ c. during forecasting (ag .templates) c e a) (sym same) ∙ unit-forecast k p a e x is) (deep c e a))
 
     walk-kept : (c : Clause) (n : ℕ) (env : List Ty) (e : Sight) (a : ℕ) (bs : List ℕ) → a ≤ r .time
         → typeClause (namesOf ag n) env c ≡ some bs → Placed ag n env c
@@ -339,28 +398,36 @@ module _ (ag : Agreement) (r : Reading) (mark : r .type ≡ 0) where
         from-bind (typeWait (namesOf ag n) env w) _ bs q₁ λ vs tw q₂.
         kept-bind ag (r .time) (window e a w) _ _ λ v ev.
         let f : Option Outcome = blamed (e .params) b >>= λ p. some (breach (laterOf a (v .last)) (p ∷ [])) in
-        let c : Coming (laterOf a (v .last)) (orStuck f) = coming-bind (laterOf a (v .last)) (blamed (e .params) b) _ (λ p. (omega arith, tt)) in
+        let c : Coming (laterOf a (v .last)) (orStuck f) = coming-bind (laterOf a (v .last)) (blamed (e .params) b) _
+        (λ p. (omega arith, tt)) in
         kept-late a v f f _ (unit anObligation (w .place) a e) (untaken ag r mark n env e w v t _ vs tw) c
-        (on-unit (obligation b w t) anObligation (w .place) a e _ (orStuck f) (pl .0) refl (ap orStuck (some-bind (window e a w) _ v ev)))
-        (λ l. kept-bind ag (r .time) (blamed (e .params) b) _ _ λ p _. breaks (laterOf a (v .last)) (p ∷ []) (p ∷ []) (later-to a (r .time) (v .last) le (unfold late in l)) (sub-refl (p ∷ [])) (λ _. refl))
+        (on-unit (obligation b w t) anObligation (w .place) a e _ (orStuck f) (pl .0) refl
+        (ap orStuck (some-bind (window e a w) _ v ev)))
+        (λ l. kept-bind ag (r .time) (blamed (e .params) b) _ _ λ p _. breaks (laterOf a (v .last)) (p ∷ []) (p ∷ [])
+        (later-to a (r .time) (v .last) le (unfold late in l)) (sub-refl (p ∷ [])) (λ _. refl))
     walk-kept (choice w t f) n env e a bs le ty pl =
         from-bind (typeWait (namesOf ag n) env w) _ bs ty λ vs tw q₂.
         from-bind (typeClause (namesOf ag n) (thenSight env vs) t) _ bs q₂ λ ps p q₃.
         from-bind (typeClause (namesOf ag n) env f) _ bs q₃ λ qs p′ q₄.
         kept-bind ag (r .time) (window e a w) _ _ λ v ev.
         let u = laterOf a (v .last) in
-        kept-late a v (some (walk forecasting un f e u)) _ _ (unit aChoice (w .place) a e) (untaken ag r mark n env e w v t _ vs tw) (walk-coming un uc f e u)
-        (on-unit (choice w t f) aChoice (w .place) a e _ (walk forecasting un f e u) (pl .0) refl (ap orStuck (some-bind (window e a w) _ v ev)))
+        kept-late a v (some (walk forecasting un f e u)) _ _ (unit aChoice (w .place) a e)
+        (untaken ag r mark n env e w v t _ vs tw) (walk-coming un uc f e u)
+        (on-unit (choice w t f) aChoice (w .place) a e _ (walk forecasting un f e u) (pl .0) refl
+        (ap orStuck (some-bind (window e a w) _ v ev)))
         (λ l. walk-kept f n env e u qs (later-to a (r .time) (v .last) le (unfold late in l)) p′ (pl .2))
     walk-kept (if x t f) n env e a bs le ty pl =
         from-bind (hasType (ag .parties) env x truth) _ bs ty λ u tx q₀.
         from-bind (typeClause (namesOf ag n) env t) _ bs q₀ λ ps p q.
         from-bind (typeClause (namesOf ag n) env f) _ bs q λ qs p′ q′.
-        kept-bind ag (r .time) (evalBool (e .values) x) _ _ (λ b _. kept-side ag (r .time) b _ _ _ _ (walk-kept t n env e a ps le p (pl .0)) (walk-kept f n env e a qs le p′ (pl .1)))
+        kept-bind ag (r .time) (evalBool (e .values) x) _ _
+        (λ b _. kept-side ag (r .time) b _ _ _ _ (walk-kept t n env e a ps le p (pl .0))
+        (walk-kept f n env e a qs le p′ (pl .1)))
     walk-kept (join j t f) n env e a bs le ty pl =
         from-bind (typeClause (namesOf ag n) env t) _ bs ty λ ps p q.
         from-bind (typeClause (namesOf ag n) env f) _ bs q λ qs p′ q′.
-        joined-kept ag (r .time) j _ _ _ _ (walk-kept t n env e a ps le p (pl .0)) (walk-kept f n env e a qs le p′ (pl .1))
+        joined-kept ag (r .time) j _ _ _ _ (walk-kept t n env e a ps le p (pl .0))
+        (walk-kept f n env e a qs le p′ (pl .1))
     walk-kept (instance k es cs) n env e a bs le ty pl =
         kept-bind ag (r .time) (evals (e .values) es) _ _ λ vs _.
         kept-bind ag (r .time) (blamedAll (e .params) cs) _ _ λ ps _. ut k vs ps a le
@@ -370,13 +437,17 @@ module _ (ag : Agreement) (mains : List ℕ) (fair : Fair ag mains) (r : Reading
   walkIn-kept : (m : ℕ) → m ≤ length (ag .templates)
       → (c : Clause) (n : ℕ) (env : List Ty) (e : Sight) (a : ℕ) (bs : List ℕ) → a ≤ r .time
       → typeClause (namesOf ag n) env c ≡ some bs → Placed ag n env c
-      → Kept ag (r .time) (walkIn forecasting (ag .templates) m c e a) (walkIn (following (ag .templates) r) (ag .templates) m c e a)
+      → Kept ag (r .time) (walkIn forecasting (ag .templates) m c e a)
+      (walkIn (following (ag .templates) r) (ag .templates) m c e a)
   unfolding walkIn NotBefore Done orStuck during
-  walkIn-kept zero few = walk-kept ag r mark _ _ (λ k vs ps a. (tt, tt)) (λ k vs ps a le. stuckBefore stuck) (walkIn-deeper (ag .templates) zero (length (ag .templates)) few)
+  walkIn-kept zero few = walk-kept ag r mark _ _ (λ k vs ps a. (tt, tt)) (λ k vs ps a le. stuckBefore stuck)
+      (walkIn-deeper (ag .templates) zero (length (ag .templates)) few)
   walkIn-kept (suc m) few = walk-kept ag r mark _ _
-      (λ k vs ps a. coming-bind a (at (ag .templates) k) _ (λ t. walkIn-coming (ag .templates) m (t .body) (record { params = ps; values = vs }) a))
+      (λ k vs ps a. coming-bind a (at (ag .templates) k) _
+      (λ t. walkIn-coming (ag .templates) m (t .body) (record { params = ps; values = vs }) a))
       (λ k vs ps a le. kept-bind ag (r .time) (at (ag .templates) k) _ _ λ t pt. let ft = fair .templates k t pt in
-      walkIn-kept m (omega arith) (t .body) (t .head .params) (t .head .values) (record { params = ps; values = vs }) a (ft .blames) le (ft .typed) (ft .placed))
+      walkIn-kept m (omega arith) (t .body) (t .head .params) (t .head .values) (record { params = ps; values = vs })
+      a (ft .blames) le (ft .typed) (ft .placed))
       (walkIn-deeper (ag .templates) (suc m) (length (ag .templates)) few)
 
   -- of a residue whose units all wait since T at the latest
@@ -386,6 +457,9 @@ module _ (ag : Agreement) (mains : List ℕ) (fair : Fair ag mains) (r : Reading
   forecast-kept now le (unit s p a e) ps ok =
       kept-bind ag (r .time) (clauseAt ag p) _ _ λ c pc.
       let same : ok .found ≡ c = some-inj (sym (ok .isAt) ∙ pc) in
-      subst (λ c. Kept ag (r .time) (during forecasting (ag .templates) (c .clause) e a) (during (following (ag .templates) r) (ag .templates) (c .clause) e a)) same
-      (walkIn-kept (length (ag .templates)) (omega arith) (ok .found .clause) (ok .found .params) (ok .found .sight) e a (ok .blames) (omega (arith, ok .when .1)) (ok .typed) (ok .placed))
-  forecast-kept now le (both j l m) ps ok = joined-kept ag (r .time) j (forecast ag l) (forecast ag m) (follow ag r l) (follow ag r m) (forecast-kept now le l (ok .0) (ok .2)) (forecast-kept now le m (ok .1) (ok .3))
+      subst (λ c. Kept ag (r .time) (during forecasting (ag .templates) (c .clause) e a)
+      (during (following (ag .templates) r) (ag .templates) (c .clause) e a)) same
+      (walkIn-kept (length (ag .templates)) (omega arith) (ok .found .clause) (ok .found .params) (ok .found .sight) e
+      a (ok .blames) (omega (arith, ok .when .1)) (ok .typed) (ok .placed))
+  forecast-kept now le (both j l m) ps ok = joined-kept ag (r .time) j (forecast ag l) (forecast ag m) (follow ag r l)
+      (follow ag r m) (forecast-kept now le l (ok .0) (ok .2)) (forecast-kept now le m (ok .1) (ok .3))

@@ -94,7 +94,8 @@ unfolding In memberCount
 count-some x [] h = absurd h
 count-some x (y ∷ ys) h = go (member y ys) refl (λ i. count-some y ys i)
   where
-    go : (b : Bool) → member y ys ≡ b → (In y ys → 1 ≤ memberCount ys) → 1 ≤ cond b (memberCount ys) (suc (memberCount ys))
+    go : (b : Bool) → member y ys ≡ b → (In y ys → 1 ≤ memberCount ys)
+        → 1 ≤ cond b (memberCount ys) (suc (memberCount ys))
     go true e ih = ih (member→in y ys (subst T (sym e) tt))
     go false e ih = omega arith
 
@@ -111,7 +112,8 @@ few→one (z ∷ zs) t = go (member z zs) refl (leb→le _ 1 t) (λ u. few→one
     only x l (inl p) = p
     only x l (inr i) = absurd (omega (arith, count-some x zs i))
 
-    go : (b : Bool) → member z zs ≡ b → cond b (memberCount zs) (suc (memberCount zs)) ≤ 1 → (memberCount zs ≤ 1 → One zs) → One (z ∷ zs)
+    go : (b : Bool) → member z zs ≡ b → cond b (memberCount zs) (suc (memberCount zs)) ≤ 1
+        → (memberCount zs ≤ 1 → One zs) → One (z ∷ zs)
     go true e l ih x y h k = ih l x y (stays x e h) (stays y e k)
     go false e l ih x y h k = only x (omega arith) h ∙ sym (only y (omega arith) k)
 
@@ -134,7 +136,8 @@ joinOk-sub and ps qs h t = tt
 joinOk-sub or ps qs h t = one→few ps (λ x y k l. few→one qs t x y (h x k) (h y l))
 
 -- ---- the parties that blame bytes stand for
-pub stand-in : (params : List ℕ) (bs : List ℕ) (x : ℕ) → In x (standFor params bs) → (b : ℕ) × In b bs × (x ≡ standsFor params b)
+pub stand-in : (params : List ℕ) (bs : List ℕ) (x : ℕ) → In x (standFor params bs) → (b : ℕ) × In b bs
+    × (x ≡ standsFor params b)
 unfolding In standFor
 stand-in params [] x h = absurd h
 stand-in params (b ∷ bs) x (inl e) = (b, inl refl, e)
@@ -146,18 +149,21 @@ in-stand params [] b h = absurd h
 in-stand params (c ∷ bs) b (inl e) = inl (ap (standsFor params) e)
 in-stand params (c ∷ bs) b (inr h) = inr (in-stand params bs b h)
 
-pub stand-++ : (params : List ℕ) (bs cs : List ℕ) → standFor params (bs ++ cs) ≡ standFor params bs ++ standFor params cs
+pub stand-++ : (params : List ℕ) (bs cs : List ℕ) → standFor params (bs ++ cs) ≡ standFor params bs
+    ++ standFor params cs
 unfolding standFor
 stand-++ params [] cs = refl
 stand-++ params (b ∷ bs) cs = ap (λ l. standsFor params b ∷ l) (stand-++ params bs cs)
 
 pub stand-sub : (params : List ℕ) (bs cs : List ℕ) → Sub bs cs → Sub (standFor params bs) (standFor params cs)
 unfolding Sub
-stand-sub params bs cs h x k = let r = stand-in params bs x k in subst (λ z. In z (standFor params cs)) (sym (r .2)) (in-stand params cs (r .0) (h (r .0) (r .1)))
+stand-sub params bs cs h x k = let r = stand-in params bs x k in
+    subst (λ z. In z (standFor params cs)) (sym (r .2)) (in-stand params cs (r .0) (h (r .0) (r .1)))
 
 pub stand-one : (params : List ℕ) (bs : List ℕ) → One bs → One (standFor params bs)
 unfolding One
-stand-one params bs h x y k l = let a = stand-in params bs x k in let b = stand-in params bs y l in a .2 ∙ ap (standsFor params) (h (a .0) (b .0) (a .1) (b .1)) ∙ sym (b .2)
+stand-one params bs h x y k l = let a = stand-in params bs x k in let b = stand-in params bs y l in
+    a .2 ∙ ap (standsFor params) (h (a .0) (b .0) (a .1) (b .1)) ∙ sym (b .2)
 
 pub stand-joinOk : (j : Join) (params : List ℕ) (bs : List ℕ) → T (joinOk j bs) → T (joinOk j (standFor params bs))
 unfolding joinOk

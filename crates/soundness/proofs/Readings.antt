@@ -33,9 +33,11 @@ value-typed : (ps : ℕ) (t : Ty) (z : ℤ) (v : Val) → valueOf ps t z ≡ som
 unfolding valueOf HasTy
 value-typed ps number z v e = from-need (inRange z) _ v e λ t b. subst (λ w. HasTy ps number w) (some-inj b) t
 value-typed ps truth z v e = from-bind (asNat z) _ v e λ n a b. truths ps n v b
-value-typed ps party z v e = from-bind (asNat z) _ v e λ n a b. from-need (ltb n ps) _ v b λ t c. subst (λ w. HasTy ps party w) (some-inj c) t
+value-typed ps party z v e = from-bind (asNat z) _ v e λ n a b. from-need (ltb n ps) _ v b λ t c. subst
+    (λ w. HasTy ps party w) (some-inj c) t
 
-pub values-typed : (ps : ℕ) (ts : List Ty) (zs : List ℤ) (r : List Val × List ℤ) → valuesOf ps ts zs ≡ some r → HaveTy ps ts (r .0)
+pub values-typed : (ps : ℕ) (ts : List Ty) (zs : List ℤ) (r : List Val × List ℤ) → valuesOf ps ts zs ≡ some r
+    → HaveTy ps ts (r .0)
 unfolding valuesOf HaveTy
 values-typed ps [] zs r e = subst (λ z. HaveTy ps [] (z .0)) (some-inj e) tt
 values-typed ps (t ∷ ts) [] r e = let z : _≡_ {A = ℕ} 0 1 = cc in absurd (omega arith)
@@ -44,22 +46,26 @@ values-typed ps (t ∷ ts) (z ∷ zs) r e =
     from-bind (valuesOf ps ts zs) _ r b₁ λ q a₂ b₂.
     subst (λ w. HaveTy ps (t ∷ ts) (w .0)) (some-inj b₂) (value-typed ps t z v a₁, values-typed ps ts zs q a₂)
 
-wanted-same : (a : Agreement) (k : ℕ) (ts us : List Ty) → valuesWanted a k ≡ some ts → readingOfType (a .readings) k ≡ some us → ts ≡ us
+wanted-same : (a : Agreement) (k : ℕ) (ts us : List Ty) → valuesWanted a k ≡ some ts
+    → readingOfType (a .readings) k ≡ some us → ts ≡ us
 unfolding valuesWanted readingOfType
 wanted-same a zero ts us p q = let z : _≡_ {A = ℕ} 0 1 = cc in absurd (omega arith)
 wanted-same a (suc k) ts us p q = some-inj (sym p ∙ q)
 
 -- a reading that 9 does not refuse has values of the types its clause will see
-pub reading-ok : (a : Agreement) (w : Raw) (d : Reading) → typedReading a w ≡ some d → ReadingOk a d × (d .time ≡ w .time)
+pub reading-ok : (a : Agreement) (w : Raw) (d : Reading) → typedReading a w ≡ some d → ReadingOk a d
+    × (d .time ≡ w .time)
 unfolding typedReading ReadingOk
 reading-ok a w d e =
     from-bind (valuesWanted a (w .type)) _ d e λ ts a₁ b₁.
     from-need (eqb (length ts) (length (w .numbers))) _ d b₁ λ t b₂.
     from-bind (valuesOf (a .parties) ts (w .numbers)) _ d b₂ λ vs a₃ b₃.
-    subst (λ z. ((us : List Ty) → readingOfType (a .readings) (z .type) ≡ some us → HaveTy (a .parties) us (z .values)) × (z .time ≡ w .time)) (some-inj b₃)
+    subst (λ z. ((us : List Ty) → readingOfType (a .readings) (z .type) ≡ some us
+    → HaveTy (a .parties) us (z .values)) × (z .time ≡ w .time)) (some-inj b₃)
     (kind (w .type) ts (vs .0) a₁ (values-typed (a .parties) ts (w .numbers) vs a₃), refl)
   where
-    kind : (k : ℕ) (ts : List Ty) (vs : List Val) → valuesWanted a k ≡ some ts → HaveTy (a .parties) ts vs → (us : List Ty) → readingOfType (a .readings) k ≡ some us → HaveTy (a .parties) us vs
+    kind : (k : ℕ) (ts : List Ty) (vs : List Val) → valuesWanted a k ≡ some ts → HaveTy (a .parties) ts vs
+        → (us : List Ty) → readingOfType (a .readings) k ≡ some us → HaveTy (a .parties) us vs
     kind k ts vs p h us q = subst (λ z. HaveTy (a .parties) z vs) (wanted-same a k ts us p q) h
 
 -- ---- bytes are below 256, so a time of four bytes is below 2^32
@@ -71,7 +77,13 @@ byte-below (x ∷ xs) (suc i) h = byte-below xs i (T-right (ltb x 256) _ h)
 
 pub time-below : (s : List ℕ) (i : ℕ) → Bytes s → le32 s i < 2 ^ 32
 unfolding le32 le16
-time-below s i h = omega (arith, byte-below s i h, byte-below s (i + 1) h, byte-below s (i + 2) h, byte-below s (i + 2 + 1) h)
+time-below s i h = omega (
+  arith,
+  byte-below s i h,
+  byte-below s (i + 1) h,
+  byte-below s (i + 2) h,
+  byte-below s (i + 2 + 1) h,
+)
 
 pub raw-time : (bytes : List ℕ) (w : Raw) → Bytes bytes → rawReading bytes ≡ some w → w .time < 2 ^ 32
 unfolding rawReading

@@ -44,10 +44,12 @@ sum-le (pos a) (negsuc b) t m h k e = omega (arith, nltb→le t a h, sub-le a (s
 sum-le (negsuc a) (pos b) t m h k e = omega (arith, leb→le b limit k, sub-le b (suc a) m e)
 sum-le (negsuc a) (negsuc b) t m h k e = absurd (pos-ne-negsuc m _ (sym e))
 
-pub remaining-range : (f y : ℤ) (t : ℕ) → T (not (ltZ (pos t) f)) → T (not (ltZ (f +ℤ y) (pos t))) → T (inRange y) → T (inRange ((f +ℤ y) -ℤ pos t))
+pub remaining-range : (f y : ℤ) (t : ℕ) → T (not (ltZ (pos t) f)) → T (not (ltZ (f +ℤ y) (pos t))) → T (inRange y)
+    → T (inRange ((f +ℤ y) -ℤ pos t))
 unfolding inRange
 remaining-range f y t h l k = go (f +ℤ y) refl l
   where
     go : (z : ℤ) → f +ℤ y ≡ z → T (not (ltZ z (pos t))) → T (inRange (z -ℤ pos t))
-    go (pos m) e l′ = let b = nltb→le m t l′ in subst (λ x. T (inRange x)) (sym (minus-pos m t b)) (le→leb (m - t) limit (omega (arith, sum-le f y t m h k e)))
+    go (pos m) e l′ = let b = nltb→le m t l′ in
+        subst (λ x. T (inRange x)) (sym (minus-pos m t b)) (le→leb (m - t) limit (omega (arith, sum-le f y t m h k e)))
     go (negsuc m) e l′ = absurd l′

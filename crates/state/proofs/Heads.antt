@@ -1,16 +1,15 @@
 -- csl's reader of a table's head: what a run read needs, and what gives one.
-use mathlib.Core.Path.{_≡_, refl, sym, ap, ap₂, subst, _∙_}
-use mathlib.Core.Bool.{Bool, true, false, cond, not, _&&_, true≢false}
-use mathlib.Core.List.{List, [], _∷_, _++_}
-use mathlib.Core.Option.{Option, none, some}
-use Prim.Native.Nat.{ℕ, zero, suc, _+_, _-_, _*_, _^_, _≤_, _<_}
+use mathlib.Core.Path.{_≡_, refl, sym, ap, subst, _∙_}
+use mathlib.Core.Bool.{_&&_}
+use mathlib.Core.List.{List, [], _∷_}
+use mathlib.Core.Option.{some}
+use Prim.Native.Nat.{ℕ, zero, suc, _-_, _^_, _≤_, _<_}
 use native.Mathlib.Omega.{arith}
-use lib.Dec.{T, leb, ltb, eqb, leb→le, le→leb, ltb→lt, lt→ltb, eqb→eq}
+use lib.Dec.{T, leb, ltb, leb→le, le→leb, ltb→lt, lt→ltb}
 use lib.IntN.{ℤ, pos, negsuc}
 use lib.ListN.{length, getD, take, drop}
-use Rattle.csl.specs.Lists.{_>>=_, need, all, at, split}
+use Rattle.csl.specs.Lists.{_>>=_, all, at, split}
 use Rattle.csl.specs.Bytes.{le32}
-use Rattle.csl.specs.Syntax.{Agreement}
 use Rattle.csl.specs.Decode.{agreementOf}
 use Rattle.csl.specs.Values.{asNat}
 use Rattle.csl.specs.Outcomes.{Outcome}
@@ -22,7 +21,8 @@ use Rattle.units.proofs.Waits.{none-is}
 use Rattle.state.specs.Shown.{runIn}
 
 -- ---- the eight cells of the head
-pub eight : (P : List ℤ → Type 0) → ((a b c d e f g h : ℤ) (zs : List ℤ) → P (a ∷ b ∷ c ∷ d ∷ e ∷ f ∷ g ∷ h ∷ zs)) → (zs : List ℤ) → 8 ≤ length zs → P zs
+pub eight : (P : List ℤ → Type 0) → ((a b c d e f g h : ℤ) (zs : List ℤ) → P (a ∷ b ∷ c ∷ d ∷ e ∷ f ∷ g ∷ h ∷ zs))
+    → (zs : List ℤ) → 8 ≤ length zs → P zs
 eight P k [] l = absurd (omega arith)
 eight P k (a ∷ []) l = absurd (omega arith)
 eight P k (a ∷ b ∷ []) l = absurd (omega arith)
@@ -46,7 +46,8 @@ nats-at (z ∷ zs) ns i n e f =
     from-bind (asNats zs) _ ns e₁ λ ms b e₂.
     go i m ms a b (subst (λ (l : List ℕ). at l i ≡ some n) (sym (some-inj e₂)) f) (λ j h. nats-at zs ms j n b h)
   where
-    go : (i m : ℕ) (ms : List ℕ) → asNat z ≡ some m → asNats zs ≡ some ms → at (m ∷ ms) i ≡ some n → ((j : ℕ) → at ms j ≡ some n → getD zs j (pos 0) ≡ pos n) → getD (z ∷ zs) i (pos 0) ≡ pos n
+    go : (i m : ℕ) (ms : List ℕ) → asNat z ≡ some m → asNats zs ≡ some ms → at (m ∷ ms) i ≡ some n
+        → ((j : ℕ) → at ms j ≡ some n → getD zs j (pos 0) ≡ pos n) → getD (z ∷ zs) i (pos 0) ≡ pos n
     go zero m ms a b g ih = nat-is z m a ∙ ap pos (some-inj g)
     go (suc i) m ms a b g ih = ih i g
 
@@ -80,7 +81,8 @@ module _ (A : List ℕ) where
       from-bind (at ns 3) _ hn p₅ λ n₃ a₃ p₆.
       from-bind (at ns 4) _ hn p₆ λ n₄ a₄ p₇.
       let same = some-inj p₇ in
-      let cell : (i n : ℕ) → at ns i ≡ some n → getD (a ∷ b ∷ c ∷ d ∷ e ∷ []) i (pos 0) ≡ pos n = λ i n k. nats-at (a ∷ b ∷ c ∷ d ∷ e ∷ []) ns i n five k in
+      let cell : (i n : ℕ) → at ns i ≡ some n
+      → getD (a ∷ b ∷ c ∷ d ∷ e ∷ []) i (pos 0) ≡ pos n = λ i n k. nats-at (a ∷ b ∷ c ∷ d ∷ e ∷ []) ns i n five k in
       both-true (leb (le32 A 4) (hn .now)) (ltb (hn .now) (2 ^ 32)) t λ lo hi.
       record {
         head = hn;
@@ -102,11 +104,17 @@ module _ (A : List ℕ) where
   run-is = eight (λ cells. (q : Run) → RunFacts A cells q → runIn A cells ≡ some q) λ a b c d e f g h zs q r.
       let hn = r .head in
       let ns = hn .state ∷ hn .now ∷ hn .time ∷ hn .parties ∷ hn .used ∷ [] in
-      let nats : asNats (a ∷ b ∷ c ∷ d ∷ e ∷ []) ≡ some ns = five a b c d e hn (r .isState) (r .isNow) (r .isTime) (r .isParties) (r .isUsed) in
-      some-bind (headNumbers (a ∷ b ∷ c ∷ d ∷ e ∷ f ∷ g ∷ h ∷ [])) _ hn (passes (all isZero (f ∷ g ∷ h ∷ [])) _ (r .zeros) ∙ some-bind (asNats (a ∷ b ∷ c ∷ d ∷ e ∷ [])) _ ns nats)
-      ∙ passes (leb (le32 A 4) (hn .now) && ltb (hn .now) (2 ^ 32)) _ (T-both (leb (le32 A 4) (hn .now)) _ (le→leb (le32 A 4) (hn .now) (r .from)) (lt→ltb (hn .now) (2 ^ 32) (r .to)))
+      let nats : asNats (a ∷ b ∷ c ∷ d ∷ e ∷ []) ≡ some ns = five a b c d e hn (r .isState) (r .isNow) (r .isTime)
+      (r .isParties) (r .isUsed) in
+      some-bind (headNumbers (a ∷ b ∷ c ∷ d ∷ e ∷ f ∷ g ∷ h ∷ [])) _ hn
+      (passes (all isZero (f ∷ g ∷ h ∷ [])) _ (r .zeros) ∙ some-bind (asNats (a ∷ b ∷ c ∷ d ∷ e ∷ [])) _ ns nats)
+      ∙ passes (leb (le32 A 4) (hn .now) && ltb (hn .now) (2 ^ 32)) _
+      (T-both (leb (le32 A 4) (hn .now)) _ (le→leb (le32 A 4) (hn .now) (r .from))
+      (lt→ltb (hn .now) (2 ^ 32) (r .to)))
       ∙ some-bind (readState (agreementOf A) (mainsOf A) hn zs (hn .state)) _ (r .outcome) (r .reads)
       ∙ ap some (sym (r .is))
     where
-      five : (a b c d e : ℤ) (hn : HeadNumbers) → a ≡ pos (hn .state) → b ≡ pos (hn .now) → c ≡ pos (hn .time) → d ≡ pos (hn .parties) → e ≡ pos (hn .used) → asNats (a ∷ b ∷ c ∷ d ∷ e ∷ []) ≡ some (hn .state ∷ hn .now ∷ hn .time ∷ hn .parties ∷ hn .used ∷ [])
+      five : (a b c d e : ℤ) (hn : HeadNumbers) → a ≡ pos (hn .state) → b ≡ pos (hn .now) → c ≡ pos (hn .time)
+          → d ≡ pos (hn .parties) → e ≡ pos (hn .used)
+          → asNats (a ∷ b ∷ c ∷ d ∷ e ∷ []) ≡ some (hn .state ∷ hn .now ∷ hn .time ∷ hn .parties ∷ hn .used ∷ [])
       five a b c d e hn p q r s t = rw (p, q, r, s, t) (unfold asNats asNat _>>=_ in refl)

@@ -24,7 +24,8 @@ pub record RunShows (o : Option Run) (cells : List ℤ) (out : Outcome) : Type 0
   pub is : o ≡ some (record { lastTime = now; outcome = out })
   pub cell : getD cells 1 (pos 0) ≡ pos now
 
--- running with n units; the sights hold two numbers for each unit: its party parameters and its values in sight, or for a join the units of its left side and 0
+-- running with n units; the sights hold two numbers for each unit: its party parameters and its values in sight, or
+-- for a join the units of its left side and 0
 pub record RunningAs (o : Option Run) (cells : List ℤ) (sights : List ℕ) (n : ℕ) : Type 0 where
   pub residue : Residue
   pub shows : RunShows o cells (running residue)

@@ -1,4 +1,5 @@
--- The tree of units at the front of the cells: "An `and` or `or` unit is followed by all of its left side, then all of its right".
+-- The tree of units at the front of the cells: "An `and` or `or` unit is followed by all of its left side, then all
+-- of its right".
 use mathlib.Core.Path.{_≡_}
 use mathlib.Core.Bool.{true}
 use mathlib.Core.List.{List}
@@ -32,7 +33,8 @@ pub record JoinsFirst (j : Join) (cells : List ℤ) : Type 0 where
 -- the units at the front show the residue
 unfoldable pub ReadsAs : Agreement → Residue → List ℤ → Type 0
 ReadsAs ag (unit s p a e) cells = WaitsFirst ag (unit s p a e) cells
-ReadsAs ag (both j l r) cells = JoinsFirst j cells × ReadsAs ag l (drop 24 cells) × ReadsAs ag r (drop (24 + 24 * units l) cells)
+ReadsAs ag (both j l r) cells = JoinsFirst j cells × ReadsAs ag l (drop 24 cells)
+    × ReadsAs ag r (drop (24 + 24 * units l) cells)
 
 -- k of n units at the front show a residue with these parties; two numbers stand for each in `sights`
 pub record TreeAs (a : List ℕ) (now n : ℕ) (cells : List ℤ) (sights : List ℕ) (k bits : ℕ) : Type 0 where
@@ -45,7 +47,8 @@ pub record TreeAs (a : List ℕ) (now n : ℕ) (cells : List ℤ) (sights : List
 
 -- damaged: no residue of at most n units that is as it should be stands at the front
 unfoldable pub WalkIs : List ℕ → ℕ → ℕ → List ℤ → List ℕ → Walk → Type 0
-WalkIs a now n cells sights Damaged = (r : Residue) → ReadsAs (agreementOf a) r cells → units r ≤ n → residueParties (agreementOf a) (mainsOf a) now r ≡ none
+WalkIs a now n cells sights Damaged = (r : Residue) → ReadsAs (agreementOf a) r cells → units r ≤ n
+    → residueParties (agreementOf a) (mainsOf a) now r ≡ none
 WalkIs a now n cells sights (Tree k bits) = TreeAs a now n cells sights k bits
 
 -- a join's two sides, of k and m units, were read

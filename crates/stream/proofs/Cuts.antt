@@ -1,14 +1,15 @@
--- The records of an input, one after another: what `next_record` says of the bytes at hand holds of the whole input, whatever comes after them.
-use mathlib.Core.Path.{_≡_, refl, sym, ap, ap₂, _∙_, subst}
+-- The records of an input, one after another: what `next_record` says of the bytes at hand holds of the whole input,
+-- whatever comes after them.
+use mathlib.Core.Path.{_≡_, refl, sym, ap, _∙_, subst}
 use mathlib.Core.Bool.{Bool, true, false}
 use mathlib.Core.List.{List, [], _∷_, _++_, append-nil}
-use Prim.Native.Nat.{ℕ, zero, suc, _+_, _-_, _≤_, _<_, max}
+use Prim.Native.Nat.{ℕ, zero, suc, _+_, _-_, _≤_, _<_}
 use native.Mathlib.Omega.{arith}
 use borrow.Author.Tests.{leb-true, leb-false, le-leb, lt-leb}
 use lib.Dec.{leb}
 use lib.ListN.{length, take, drop, length-append, length-drop, drop-of-length-le, List·getD-append}
 use lib.Seq.{take-all, take-length, drop-length, take-append-le, drop-append-le}
-use Rattle.csl.specs.Bytes.{byte, le16}
+use Rattle.csl.specs.Bytes.{le16}
 use Rattle.stream.specs.Records.{sizeOf, isWhole, recordsIn, recordsOf}
 use Rattle.stream.specs.Next.{nextBy, nextOf}
 use Rattle.stream.specs.declared.Next.{Next}
@@ -30,7 +31,8 @@ enough (suc f) (suc g) [] h k = refl
 enough (suc f) (suc g) (b ∷ s) h k =
     let n = length-drop (sizeOf (b ∷ s)) (b ∷ s) in
     let two = size-two (b ∷ s) in
-    ap (λ rs. take (sizeOf (b ∷ s)) (b ∷ s) ∷ rs) (enough f g (drop (sizeOf (b ∷ s)) (b ∷ s)) (omega arith) (omega arith))
+    ap (λ rs. take (sizeOf (b ∷ s)) (b ∷ s) ∷ rs)
+    (enough f g (drop (sizeOf (b ∷ s)) (b ∷ s)) (omega arith) (omega arith))
 
 pub first-record : (s : List ℕ) → 0 < length s → recordsOf s ≡ take (sizeOf s) s ∷ recordsOf (drop (sizeOf s) s)
 unfolding recordsIn recordsOf
@@ -38,7 +40,9 @@ first-record [] h = absurd (omega arith)
 first-record (b ∷ s) h =
     let n = length-drop (sizeOf (b ∷ s)) (b ∷ s) in
     let two = size-two (b ∷ s) in
-    ap (λ rs. take (sizeOf (b ∷ s)) (b ∷ s) ∷ rs) (enough (length s) (length (drop (sizeOf (b ∷ s)) (b ∷ s))) (drop (sizeOf (b ∷ s)) (b ∷ s)) (omega arith) (omega arith))
+    ap (λ rs. take (sizeOf (b ∷ s)) (b ∷ s) ∷ rs)
+    (enough (length s) (length (drop (sizeOf (b ∷ s)) (b ∷ s))) (drop (sizeOf (b ∷ s)) (b ∷ s)) (omega arith)
+    (omega arith))
 
 pub no-records : recordsOf [] ≡ []
 unfolding recordsIn recordsOf
@@ -57,7 +61,8 @@ whole-fits s e = leb-true (sizeOf s) (length s) e
 pub record Cut (s : List ℕ) (ended : Bool) (k : ℕ) : Type 0 where
   pub some : 0 < k
   pub within : k ≤ length s
-  pub is : (more : List ℕ) → (ended ≡ true → more ≡ []) → recordsOf (s ++ more) ≡ take k s ∷ recordsOf (drop k s ++ more)
+  pub is : (more : List ℕ) → (ended ≡ true → more ≡ []) → recordsOf (s ++ more) ≡ take k s
+      ∷ recordsOf (drop k s ++ more)
 
 whole-cut : (s : List ℕ) (ended : Bool) → isWhole s ≡ true → Cut s ended (sizeOf s)
 whole-cut s ended e =
@@ -68,7 +73,12 @@ whole-cut s ended e =
       within = fits;
       is = λ more _.
           let n = length-append s more in
-          first-record (s ++ more) (omega arith) ∙ rw (size-more s more (omega arith), take-append-le (sizeOf s) s more fits, drop-append-le (sizeOf s) s more fits);
+          first-record (s ++ more) (omega arith)
+          ∙ rw (
+            size-more s more (omega arith),
+            take-append-le (sizeOf s) s more fits,
+            drop-append-le (sizeOf s) s more fits,
+          );
     }
 
 last-cut : (s : List ℕ) (k : ℕ) → isWhole s ≡ false → length s ≡ suc k → Cut s true (suc k)
@@ -78,7 +88,11 @@ last-cut s k e n =
     record {
       some = omega arith;
       within = omega arith;
-      is = λ more h. rw (h refl, sym n, append-nil, drop-length s, take-length s) (first-record s (omega arith) ∙ rw (take-all (sizeOf s) s (omega arith), drop-of-length-le s {i = sizeOf s} (omega arith)));
+      is = λ more h. rw (h refl, sym n, append-nil, drop-length s, take-length s)
+          (first-record s (omega arith) ∙ rw (
+            take-all (sizeOf s) s (omega arith),
+            drop-of-length-le s {i = sizeOf s} (omega arith),
+          ));
     }
 
 -- ---- what an answer says
@@ -96,10 +110,33 @@ known s ended = go (isWhole s) refl ended (length s) refl
     nil (b ∷ t) e = absurd (omega arith)
 
     go : (w : Bool) → isWhole s ≡ w → (e : Bool) (n : ℕ) → length s ≡ n → Known s e (nextBy w e (sizeOf s) n)
-    go true h e n l = record { cut = λ k q. let z : sizeOf s ≡ k = cc in subst (Cut s e) z (whole-cut s e h); wait = λ q. let z : _≡_ {A = ℕ} 0 1 = cc in absurd (omega arith); end = λ q. let z : _≡_ {A = ℕ} 0 1 = cc in absurd (omega arith) }
-    go false h false n l = record { cut = λ k q. let z : _≡_ {A = ℕ} 0 1 = cc in absurd (omega arith); wait = λ q. (h, refl); end = λ q. let z : _≡_ {A = ℕ} 0 1 = cc in absurd (omega arith) }
-    go false h true zero l = record { cut = λ k q. let z : _≡_ {A = ℕ} 0 1 = cc in absurd (omega arith); wait = λ q. let z : _≡_ {A = ℕ} 0 1 = cc in absurd (omega arith); end = λ q. (nil s l, refl) }
-    go false h true (suc j) l = record { cut = λ k q. let z : suc j ≡ k = cc in subst (Cut s true) z (last-cut s j h l); wait = λ q. let z : _≡_ {A = ℕ} 0 1 = cc in absurd (omega arith); end = λ q. let z : _≡_ {A = ℕ} 0 1 = cc in absurd (omega arith) }
+    go true h e n l = record {
+      cut = λ k q. let z : sizeOf s ≡ k = cc in
+          subst (Cut s e) z (whole-cut s e h);
+      wait = λ q. let z : _≡_ {A = ℕ} 0 1 = cc in
+          absurd (omega arith);
+      end = λ q. let z : _≡_ {A = ℕ} 0 1 = cc in absurd (omega arith);
+    }
+    go false h false n l = record {
+      cut = λ k q. let z : _≡_ {A = ℕ} 0 1 = cc in
+          absurd (omega arith);
+      wait = λ q. (h, refl);
+      end = λ q. let z : _≡_ {A = ℕ} 0 1 = cc in absurd (omega arith);
+    }
+    go false h true zero l = record {
+      cut = λ k q. let z : _≡_ {A = ℕ} 0 1 = cc in
+          absurd (omega arith);
+      wait = λ q. let z : _≡_ {A = ℕ} 0 1 = cc in
+          absurd (omega arith);
+      end = λ q. (nil s l, refl);
+    }
+    go false h true (suc j) l = record {
+      cut = λ k q. let z : suc j ≡ k = cc in
+          subst (Cut s true) z (last-cut s j h l);
+      wait = λ q. let z : _≡_ {A = ℕ} 0 1 = cc in
+          absurd (omega arith);
+      end = λ q. let z : _≡_ {A = ℕ} 0 1 = cc in absurd (omega arith);
+    }
 
 -- ---- the answers that `next_record` gives, by its tests
 module _ (s : List ℕ) (ended : Bool) {k : ℕ} (size : k ≡ sizeOf s) where
@@ -113,11 +150,13 @@ module _ (s : List ℕ) (ended : Bool) {k : ℕ} (size : k ≡ sizeOf s) where
 
   pub next-end : length s < k → ended ≡ true → length s ≡ 0 → End ≡ nextOf s ended
   unfolding nextOf nextBy isWhole
-  next-end h e n = let w : leb (sizeOf s) (length s) ≡ false = lt-leb (sizeOf s) (length s) (omega arith) in rw (w, e, n)
+  next-end h e n = let w : leb (sizeOf s) (length s) ≡ false = lt-leb (sizeOf s) (length s) (omega arith) in
+      rw (w, e, n)
 
   pub next-cut : length s < k → ended ≡ true → (length s ≡ 0 → ⊥) → Record (length s) ≡ nextOf s ended
   unfolding nextOf nextBy isWhole
-  next-cut h e n = let w : leb (sizeOf s) (length s) ≡ false = lt-leb (sizeOf s) (length s) (omega arith) in rw (w, e) (there (length s) n)
+  next-cut h e n = let w : leb (sizeOf s) (length s) ≡ false = lt-leb (sizeOf s) (length s) (omega arith) in
+      rw (w, e) (there (length s) n)
     where
       there : (m : ℕ) → (m ≡ 0 → ⊥) → Record m ≡ nextBy false true (sizeOf s) m
       there zero f = absurd (f refl)

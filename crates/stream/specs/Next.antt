@@ -9,7 +9,8 @@ use Rattle.stream.specs.declared.Next.the-variants.{Record, Wait, End}
 use Rattle.stream.specs.declared.Got.{Got}
 use Rattle.stream.specs.declared.Got.the-variants.{Bytes, Over, Failed}
 
--- whether all of the first record is there, whether the input has ended; the record's size, and how many bytes are at hand
+-- whether all of the first record is there, whether the input has ended; the record's size, and how many bytes are at
+-- hand
 unfoldable pub nextBy : Bool → Bool → ℕ → ℕ → Next
 nextBy true ended size there = Record size
 nextBy false false size there = Wait

@@ -1,4 +1,5 @@
--- Paper 01, "Pond trials": "Each record is taken by its length field; one cut short by the end of input is refused with 1 or 8.
+-- Paper 01, "Pond trials": "Each record is taken by its length field; one cut short by the end of input is refused
+-- with 1 or 8.
 -- Input that ends after a whole record ends the run without a line."
 use mathlib.Core.Bool.{Bool}
 use mathlib.Core.List.{List, [], _∷_}

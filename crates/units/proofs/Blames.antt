@@ -102,7 +102,8 @@ module _ (s params : List ℕ) where
   unfolding standFor
   blamed-more {i = i} {q = q} l e f g h t =
       let longer : take i s ++ (byte s i ∷ []) ≡ take (i + 1) s = rw (add-one i) (sym (take-suc s i 0 l)) in
-      let own : standFor params (byte s i ∷ []) ≡ q ∷ [] = ap (λ (y : ℕ). y ∷ []) (sym (f ∙ ap (standsFor params) e)) in (
+      let own : standFor params (byte s i ∷ []) ≡ q
+      ∷ [] = ap (λ (y : ℕ). y ∷ []) (sym (f ∙ ap (standsFor params) e)) in (
         omega arith,
         joined-bits (standFor params (take i s)) (q ∷ []) (t .1) g h
             ∙ ap bitsOf (ap (λ (y : List ℕ). standFor params (take i s) ++ y) (sym own)
@@ -166,16 +167,20 @@ module _ (A : List ℕ) (d p : ℕ) (s : List ℕ) (t : T (whole (clauseIn A d p
             → T (whole (cond a (choice (waitAt (expr (d - 1)) p s 4) (Inner x z) (Inner z (length s)))
             (cond b (if (expr (d - 1) (part s 4 (recordEnd s 4))) (Inner x z) (Inner z (length s)))
             (join (joinOf m) (Inner x z) (Inner z (length s)))))) → Sides x z
-        go true b o h = unfold whole blamesOf in T-both (wholeWait (waitAt (expr (d - 1)) p s 4) && whole (Inner x z)) _ h λ h₁ g. T-both (wholeWait (waitAt (expr (d - 1)) p s 4)) _ h₁ λ _ f. record {
-          left = f;
-          right = g;
-          blames = sym (ap (blamesOf (headsOf A)) o);
-        }
-        go false true o h = unfold whole blamesOf in T-both (wholeExpr (expr (d - 1) (part s 4 (recordEnd s 4))) && whole (Inner x z)) _ h λ h₁ g. T-both (wholeExpr (expr (d - 1) (part s 4 (recordEnd s 4)))) _ h₁ λ _ f. record {
-          left = f;
-          right = g;
-          blames = sym (ap (blamesOf (headsOf A)) o);
-        }
+        go true b o h = unfold whole blamesOf in
+            T-both (wholeWait (waitAt (expr (d - 1)) p s 4) && whole (Inner x z)) _ h λ h₁ g. T-both
+            (wholeWait (waitAt (expr (d - 1)) p s 4)) _ h₁ λ _ f. record {
+              left = f;
+              right = g;
+              blames = sym (ap (blamesOf (headsOf A)) o);
+            }
+        go false true o h = unfold whole blamesOf in
+            T-both (wholeExpr (expr (d - 1) (part s 4 (recordEnd s 4))) && whole (Inner x z)) _ h λ h₁ g. T-both
+            (wholeExpr (expr (d - 1) (part s 4 (recordEnd s 4)))) _ h₁ λ _ f. record {
+              left = f;
+              right = g;
+              blames = sym (ap (blamesOf (headsOf A)) o);
+            }
         go false false o h = unfold whole blamesOf in T-both (whole (Inner x z)) _ h λ f g. record {
           left = f;
           right = g;

@@ -149,7 +149,8 @@ values-are ps (t ∷ ts) (z ∷ zs) e =
     let i = values-are ps ts zs (and-right (valueOk ps t z) _ e) in
     record {
       values = v .0 ∷ i .values;
-      are = some-bind (valueOf ps t z) _ (v .0) (v .1) ∙ some-bind (valuesOf ps ts zs) _ (i .values, drop (length ts) zs) (i .are);
+      are = some-bind (valueOf ps t z) _ (v .0) (v .1)
+          ∙ some-bind (valuesOf ps ts zs) _ (i .values, drop (length ts) zs) (i .are);
       count = ap suc (i .count);
       few = omega (arith, i .few);
     }

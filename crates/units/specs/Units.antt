@@ -64,7 +64,8 @@ LocatedIs a place n types zs (Of bits m c) = HasBits a place n types zs bits m c
 unfoldable pub sortOf : ℕ → Sort
 sortOf k = cond (eqb k 17) anObligation aChoice
 
--- ---- how many party parameters and values each unit has, in the order of the cells; at a join how many units its left side has, and 0
+-- ---- how many party parameters and values each unit has, in the order of the cells; at a join how many units its
+-- left side has, and 0
 unfoldable pub sightNumbers : Residue → List ℕ
 sightNumbers (unit s p a e) = length (e .params) ∷ length (e .values) ∷ []
 sightNumbers (both j l r) = units l ∷ 0 ∷ (sightNumbers l ++ sightNumbers r)

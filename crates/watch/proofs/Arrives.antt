@@ -2,7 +2,7 @@
 use mathlib.Core.Path.{_≡_, sym, _∙_, subst}
 use mathlib.Core.Bool.{Bool}
 use mathlib.Core.List.{List}
-use Prim.Native.Nat.{ℕ, _+_, _-_, _≤_, _<_}
+use Prim.Native.Nat.{ℕ, _+_, _-_, _≤_}
 use native.Mathlib.Omega.{arith}
 use lib.ListN.{length, drop, length-drop}
 use Rattle.csl.specs.Bytes.{part}
@@ -18,7 +18,8 @@ pub came : (at room : ℕ) {r : Got} {n : ℕ} → Comes at room r → r ≡ Byt
 came at room c e = subst (Comes at room) e c
 
 -- the bytes left of the first `size` of a buffer
-pub left-length : (buf : List ℕ) (size from : ℕ) → size ≤ length buf → length (drop from (part buf 0 size)) ≡ size - from
+pub left-length : (buf : List ℕ) (size from : ℕ) → size ≤ length buf
+    → length (drop from (part buf 0 size)) ≡ size - from
 left-length buf size from h = omega (arith, length-drop from (part buf 0 size), length-part buf 0 size h)
 
 -- a record that was found lies within the bytes at hand

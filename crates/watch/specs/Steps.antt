@@ -27,7 +27,8 @@ pub record Begins (s : List ℕ) (cells cells₂ : List ℤ) (out out₂ : List 
   pub room : t .at ≤ lineRoom
 
 -- ---- a reading b at line n, put at `at`: only 8 ends the run
-pub record Follows (s : List ℕ) (cells cells₂ : List ℤ) (n : ℕ) (b : List ℕ) (out : List ℕ) (at : ℕ) (out₂ : List ℕ) (t : Told) : Type 0 where
+pub record Follows (s : List ℕ) (cells cells₂ : List ℤ) (n : ℕ) (b : List ℕ) (out : List ℕ) (at : ℕ) (out₂ : List ℕ)
+    (t : Told) : Type 0 where
   pub line : Put (readingLine s n b (readingOf s cells b)) out at out₂ (t .at)
   pub table : cells₂ ≡ (readingOf s cells b) .table
   pub goes : t .go ≡ not (eqb ((readingOf s cells b) .number) 8)
@@ -47,11 +48,16 @@ left Over s cells n rest = []
 abbrev pub Comes : Bool → List ℕ → Type 0
 Comes ended more = ended ≡ true → more ≡ []
 
--- ---- readings taken from `input`, of which `from` bytes were taken before: whatever comes after the input, what is put
+-- ---- readings taken from `input`, of which `from` bytes were taken before: whatever comes after the input, what is
+-- put
 -- and what is left to write, together, stay the same; and where more input is waited for, no whole record is left
-pub record Turns (s : List ℕ) (cells cells₂ : List ℤ) (n : ℕ) (input : List ℕ) (ended : Bool) (from : ℕ) (out : List ℕ) (at : ℕ) (out₂ : List ℕ) (t : Turn) : Type 0 where
-  pub same : (more : List ℕ) → Comes ended more → take at out ++ left Ready s cells n (drop from input ++ more) ≡ take (t .at) out₂ ++ left (t .stage) s cells₂ (t .line) (drop (t .from) input ++ more)
-  pub waits : t .stage ≡ Waiting → (isWhole (drop (t .from) input) ≡ false) × (ended ≡ false) × (length (drop (t .from) input) < 65_535)
+pub record Turns (s : List ℕ) (cells cells₂ : List ℤ) (n : ℕ) (input : List ℕ) (ended : Bool) (from : ℕ)
+    (out : List ℕ) (at : ℕ) (out₂ : List ℕ) (t : Turn) : Type 0 where
+  pub same : (more : List ℕ) → Comes ended more → take at out
+      ++ left Ready s cells n (drop from input ++ more) ≡ take (t .at) out₂
+      ++ left (t .stage) s cells₂ (t .line) (drop (t .from) input ++ more)
+  pub waits : t .stage ≡ Waiting → (isWhole (drop (t .from) input) ≡ false) × (ended ≡ false)
+      × (length (drop (t .from) input) < 65_535)
   pub within : (from ≤ t .from) × (t .from ≤ length input)
   pub numbered : t .line + from ≤ n + t .from
   pub fits : t .at ≤ length out

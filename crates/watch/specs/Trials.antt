@@ -51,14 +51,28 @@ firstThree rest =
 
 -- the paper's transcript: "3 160 DONE"
 unfoldable pub transcript : Trial
-transcript = record { input = sample ++ readings; written = firstThree (sp (51 ∷ []) (sp (49 ∷ 54 ∷ 48 ∷ []) (end done []))) }
+transcript = record {
+  input = sample ++ readings;
+  written = firstThree
+      (sp (51 ∷ []) (sp (49 ∷ 54 ∷ 48 ∷ []) (end done [])));
+}
 
 -- the last reading cut short: "3 - REFUSED 8", and nothing after a reading refused with 8
 unfoldable pub cutShort : Trial
-cutShort = record { input = take 102 (sample ++ readings); written = firstThree (sp (51 ∷ []) (sp dash (sp refused (end (56 ∷ []) [])))) }
+cutShort = record {
+  input = take 102 (sample ++ readings);
+  written = firstThree
+      (sp (51 ∷ []) (sp dash (sp refused (end (56 ∷ []) []))));
+}
 
 unfoldable pub nothingAfterEight : Trial
-nothingAfterEight = record { input = sample ++ (5 ∷ 0 ∷ 64 ∷ 0 ∷ 0 ∷ reading 110 (pos 240)); written = sp (48 ∷ []) (sp (49 ∷ 48 ∷ 48 ∷ []) (sp live (sp (49 ∷ 54 ∷ 48 ∷ []) (end (49 ∷ []) (sp (49 ∷ []) (sp dash (sp refused (end (56 ∷ []) [])))))))) }
+nothingAfterEight = record {
+  input = sample
+      ++ (5 ∷ 0 ∷ 64 ∷ 0 ∷ 0 ∷ reading 110 (pos 240));
+  written = sp (48 ∷ [])
+      (sp (49 ∷ 48 ∷ 48 ∷ []) (sp live (sp (49 ∷ 54 ∷ 48 ∷ [])
+      (end (49 ∷ []) (sp (49 ∷ []) (sp dash (sp refused (end (56 ∷ []) []))))))));
+}
 
 -- no input, and an agreement cut short: "0 - REFUSED 1"; nothing after a refused start
 unfoldable pub startRefused : List ℕ
@@ -76,12 +90,18 @@ noLength = record { input = 0 ∷ 0 ∷ (sample ++ readings); written = startRef
 
 -- "1 161 BREACH 160 1"
 unfoldable pub breaches : Trial
-breaches = record { input = sample ++ mark 161; written = sp (48 ∷ []) (sp (49 ∷ 48 ∷ 48 ∷ []) (sp live (sp (49 ∷ 54 ∷ 48 ∷ []) (end (49 ∷ []) (sp (49 ∷ []) (sp (49 ∷ 54 ∷ 49 ∷ []) (sp breach (sp (49 ∷ 54 ∷ 48 ∷ []) (end (49 ∷ []) []))))))))) }
+breaches = record {
+  input = sample ++ mark 161;
+  written = sp (48 ∷ [])
+      (sp (49 ∷ 48 ∷ 48 ∷ []) (sp live (sp (49 ∷ 54 ∷ 48 ∷ [])
+      (end (49 ∷ []) (sp (49 ∷ []) (sp (49 ∷ 54 ∷ 49 ∷ []) (sp breach (sp (49 ∷ 54 ∷ 48 ∷ []) (end (49 ∷ []) [])))))))));
+}
 
 unfoldable pub trials : List Trial
 trials = transcript ∷ cutShort ∷ nothingAfterEight ∷ empty ∷ oneByte ∷ noLength ∷ breaches ∷ []
 
 pub trials-pass : map (λ t. watched (t .input)) trials ≡ map (λ t. t .written) trials
-unfolding Csl.computes Text.computes Lines.computes Records.computes Watched.computes live done breach refused dash sp end
+unfolding Csl.computes Text.computes Lines.computes Records.computes Watched.computes live done breach refused dash sp
+    end
     readings firstThree transcript cutShort nothingAfterEight startRefused empty oneByte noLength breaches trials
 trials-pass = refl

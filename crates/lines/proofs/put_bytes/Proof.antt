@@ -12,7 +12,8 @@ use Rattle.lines.proofs.put_bytes.Reads as reads
 use Rattle.lines.proofs.put_bytes.Lts as lts
 
 abbrev Inv-loop : tie.InvT-loop
-Inv-loop out₀ at s i₀ i-end out i = (i-end ≡ length s) × (i ≤ i-end) × (length out ≡ length out₀) × (take (at + i) out ≡ take at out₀ ++ take i s)
+Inv-loop out₀ at s i₀ i-end out i = (i-end ≡ length s) × (i ≤ i-end) × (length out ≡ length out₀)
+    × (take (at + i) out ≡ take at out₀ ++ take i s)
 
 abbrev μ-loop : tie.MeasureT-loop
 μ-loop out₀ at s i₀ i-end out i = i-end - i
@@ -37,9 +38,15 @@ loop-less c = search needs
 
 loop-again : tie.Need-loop-again Inv-loop μ-loop
 loop-again c =
-    let begun = c .before .before .before .args in
-    let turn = c .before .before .loop in
-    (search needs, search needs, simp length-set (search needs), one-more (begun .s .now) (begun .out .now) (turn .out) (begun .at) (turn .i) (search needs) (search needs) (turn .inv .3))
+    let at-start = c .before .before .before in
+    let begun = at-start .args in
+    let turn = c .before .before .loop in (
+      search needs,
+      search needs,
+      simp length-set (search needs),
+      one-more (begun .s .now) (begun .out .now)
+          (turn .out) (begun .at) (turn .i) (search needs) (search needs) (turn .inv .3),
+    )
 
 add-result : tie.Need-add-result Inv-loop μ-loop
 add-result c = search needs
@@ -49,7 +56,8 @@ same-length c = search needs
 
 returns : tie.Need-returns Inv-loop μ-loop
 returns c =
-    let begun = c .before .before .args in
+    let at-start = c .before .before in
+    let begun = at-start .args in
     let turn = c .before .loop in
     all-put (begun .s .now) (begun .out .now) (turn .out) (begun .at) (turn .i) (omega arith) (turn .inv .3)
 

@@ -25,7 +25,10 @@ slice-aggregate-put-bytes c = search needs
 
 -- src/lib.rt:28:5
 put-bytes-requires : tie.Need-put-bytes-requires
-put-bytes-requires c κs = let call = c .before .before .decimal in omega (arith, call .ensures .0 .1, few _ _ (c .before .before .before .before .before .fits .n .fits) (call .ensures .1 .0))
+put-bytes-requires c κs =
+    let at-start = c .before .before .before .before .before in
+    let call = c .before .before .decimal in
+    omega (arith, call .ensures .0 .1, few _ _ (at-start .fits .n .fits) (call .ensures .1 .0))
 
 -- src/lib.rt:22:1
 same-length : tie.Need-same-length
@@ -34,9 +37,14 @@ same-length c = search needs
 -- src/lib.rt:22:1
 returns : tie.Need-returns
 returns c =
-    let call = c .before .before .before .before .before .decimal in
-    let put = c .before .before .put-bytes .ensures in
-    (same-put (call .ensures .1 .1 ∙ fewest _ _ (call .ensures .1 .0)) put, omega (arith, put .place, call .ensures .0 .1, few _ _ (c .before .before .before .before .before .before .before .before .fits .n .fits) (call .ensures .1 .0)))
+    let at-decimal = c .before .before .before .before .before in
+    let at-start = at-decimal .before .before .before in
+    let call = at-decimal .decimal in
+    let put = c .before .before .put-bytes .ensures in (
+      same-put (call .ensures .1 .1 ∙ fewest _ _ (call .ensures .1 .0)) put,
+      omega
+          (arith, put .place, call .ensures .0 .1, few _ _ (at-start .fits .n .fits) (call .ensures .1 .0)),
+    )
 
 pub put-decimal-spec : {M : Type 1} → statement M
 put-decimal-spec =

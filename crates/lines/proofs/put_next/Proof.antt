@@ -26,7 +26,9 @@ same-length c = search needs
 
 -- src/lib.rt:32:1
 returns : tie.Need-returns
-returns c = (then (c .before .before .before .before .before .before .put-bytes .ensures) (c .before .before .put-decimal .ensures .0), search needs)
+returns c =
+    let at-put-bytes = c .before .before .before .before .before .before in
+    (then (at-put-bytes .put-bytes .ensures) (c .before .before .put-decimal .ensures .0), search needs)
 
 pub put-next-spec : {M : Type 1} → statement M
 put-next-spec =

@@ -38,8 +38,11 @@ same-length c = search needs
 returns : tie.Need-returns
 unfolding fields refusalFields
 returns c =
-    let number = c .before .before .before .before .before .before .before in
-    (then (number .before .before .before .before .put-bytes .ensures) (then (number .put-next .ensures .0) (c .before .before .put-bytes2 .ensures)), search needs)
+    let number = c .before .before .before .before .before .before .before in (
+      then (number .before .before .before .before .put-bytes .ensures)
+          (then (number .put-next .ensures .0) (c .before .before .put-bytes2 .ensures)),
+      search needs,
+    )
 
 pub put-refusal-spec : {M : Type 1} → statement M
 put-refusal-spec =

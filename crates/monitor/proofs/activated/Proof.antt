@@ -5,10 +5,21 @@ use Rattle.monitor.proofs.activated.Statement.{statement}
 use Rattle.monitor.proofs.activated.Tie as tie
 
 activate-requires : tie.Need-activate-requires
-activate-requires c κs = (main-ready _ (c .before .before .before .byte .ensures .0) (c .before .before .unsigned32 .ensures .0) (c .before .before .before .before .before .before .before .before .pre .0) (c .before .before .unsigned32 .ensures .1), main-fits _ (c .before .before .before .byte .ensures .0) (c .before .before .unsigned32 .ensures .0) (c .before .before .before .before .before .main-place .ensures .1) (c .before .before .before .before .before .before .before .before .pre .1) (c .before .before .before .before .before .before .before .before .pre .2))
+activate-requires c κs =
+    let unsigned32 = c .before .before .unsigned32 in
+    let at-byte = c .before .before .before in
+    let at-start = at-byte .before .before .before .before .before in (
+      main-ready _ (at-byte .byte .ensures .0) (unsigned32 .ensures .0) (at-start .pre .0) (unsigned32 .ensures .1),
+      main-fits _ (at-byte .byte .ensures .0) (unsigned32 .ensures .0)
+          (at-byte .before .before .main-place .ensures .1) (at-start .pre .1) (at-start .pre .2),
+    )
 
 returns : tie.Need-returns
-returns c = main-is _ (c .before .before .before .before .before .byte .ensures .0) (c .before .before .before .before .unsigned32 .ensures .0) _ _ (c .before .before .before .before .before .before .before .main-place .ensures .0) (c .before .activate .ensures)
+returns c =
+    let at-unsigned32 = c .before .before .before .before in
+    let at-main-place = at-unsigned32 .before .before .before in
+    main-is _ (at-unsigned32 .before .byte .ensures .0) (at-unsigned32 .unsigned32 .ensures .0) _ _
+    (at-main-place .main-place .ensures .0) (c .before .activate .ensures)
 
 pub activated-spec : {M : Type 1} → statement M
 activated-spec = tie.close (tie.spec

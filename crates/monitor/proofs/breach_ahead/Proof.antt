@@ -9,9 +9,11 @@ use Rattle.monitor.proofs.breach_ahead.Tie as tie
 
 across-requires : tie.Need-across-requires
 across-requires c κs =
-    let at-start = c .before .before .before .before .before .before in
-    let goes = at-start .pre .0 .goes in
-    ((goes .indexed, omega arith, omega arith, omega arith, omega (arith, short goes)), units-ready (at-start .pre .0) (at-start .pre .1))
+    let at-start = c .before .before .before .before .before .before in let goes = at-start .pre .0 .goes in (
+      (goes .indexed, omega arith, omega arith, omega arith, omega (arith, short goes)),
+      units-ready
+          (at-start .pre .0) (at-start .pre .1),
+    )
 
 returns : tie.Need-returns
 returns c =
@@ -21,15 +23,16 @@ returns c =
 
 minutes-requires : tie.Need-minutes-requires
 minutes-requires c κs =
-    let after-call = c .before .before .before .before in
-    let at-start = after-call .before .before .before .before .before .before .before in
-    ahead-time (at-start .pre .0) (at-start .pre .1) _ _ (after-call .across .ensures) (c .known-told .given .0 .1) (c .before .due .given .1)
+    let after-call = c .before .before .before .before in let at-start =
+    after-call .before .before .before .before .before .before .before in ahead-time (at-start .pre .0)
+    (at-start .pre .1) _ _ (after-call .across .ensures) (c .known-told .given .0 .1) (c .before .due .given .1)
 
 returns-2 : tie.Need-returns-2
 returns-2 c =
-    let after-call = c .before .before .before .before .before in
-    let at-start = after-call .before .before .before .before .before .before .before in
-    ahead-breach (at-start .pre .0) (at-start .pre .1) _ _ (after-call .across .ensures) (c .before .known-told .given .0 .1) (c .before .before .due .given .1) (c .minutes .ensures)
+    let after-call = c .before .before .before .before .before in let at-start =
+    after-call .before .before .before .before .before .before .before in ahead-breach (at-start .pre .0)
+    (at-start .pre .1) _ _ (after-call .across .ensures) (c .before .known-told .given .0 .1)
+    (c .before .before .due .given .1) (c .minutes .ensures)
 
 returns-3 : tie.Need-returns-3
 returns-3 c =

@@ -27,8 +27,9 @@ returns-3 c =
 
 returns-4 : tie.Need-returns-4
 returns-4 c =
-    let at-start = c .before .before .before .before .before .before .before in
-    foretell-breach (at-start .pre .0) (at-start .pre .1) (c .before .known-told2 .given .0 .1) (c .before .before .state2 .given .1) (c .minutes .ensures)
+    let at-start = c .before .before .before .before .before .before .before in foretell-breach (at-start .pre .0)
+    (at-start .pre .1) (c .before .known-told2 .given .0 .1) (c .before .before .state2 .given .1)
+    (c .minutes .ensures)
 
 pub foretell-spec : {M : Type 1} → statement M
 foretell-spec = tie.close (tie.spec

@@ -6,16 +6,24 @@ use Rattle.monitor.proofs.reading.Statement.{statement}
 use Rattle.monitor.proofs.reading.Tie as tie
 
 returns : tie.Need-returns
-returns c = read-table _ _ _ _ (c .before .before .before .before .before .verify .ensures) (c .before .before .parties .given .1) (c .if1 .taken)
+returns c =
+    let at-verify = c .before .before .before .before .before in
+    read-table _ _ _ _ (at-verify .verify .ensures) (c .before .before .parties .given .1) (c .if1 .taken)
 
 state-of-requires : tie.Need-state-of-requires
-state-of-requires c κs = let g = state-asked _ _ (c .before .before .before .before .before .before .before .before .verify .ensures) (c .before .before .before .before .before .parties .given .1) in (g .0, g .1, g .2, c .before .before .before .if1 .left, omega arith)
+state-of-requires c κs =
+    let at-if1 = c .before .before .before in
+    let at-verify = at-if1 .before .before .before .before .before in
+    let g = state-asked _ _ (at-verify .verify .ensures) (at-if1 .before .before .parties .given .1) in
+    (g .0, g .1, g .2, at-if1 .if1 .left, omega arith)
 
 read-on-requires : tie.Need-read-on-requires
 read-on-requires c κs = (search (opened, needs), search needs)
 
 returns-2 : tie.Need-returns-2
-returns-2 c = read-checked _ _ _ _ (c .before .before .before .before .verify .ensures) (c .before .why .given .1)
+returns-2 c =
+    let at-verify = c .before .before .before .before in
+    read-checked _ _ _ _ (at-verify .verify .ensures) (c .before .why .given .1)
 
 pub reading-spec : {M : Type 1} → statement M
 reading-spec = tie.close (tie.spec

@@ -5,16 +5,29 @@ use Rattle.monitor.proofs.step.Statement.{statement}
 use Rattle.monitor.proofs.step.Tie as tie
 
 follow-requires : tie.Need-follow-requires
-follow-requires c κs = (c .before .before .before .before .before .before .before .pre .0, (shown-running (c .before .before .before .before .before .before .before .pre .0) (c .before .before .before .before .before .before .before .pre .1 .0) (c .before .before .state .given .1), c .before .before .before .before .before .before .before .pre .1 .1))
+follow-requires c κs =
+    let at-start = c .before .before .before .before .before .before .before in (
+      at-start .pre .0,
+      (
+        shown-running (at-start .pre .0) (at-start .pre .1 .0) (c .before .before .state .given .1),
+        at-start .pre .1 .1,
+      ),
+    )
 
 returns : tie.Need-returns
-returns c = λ bytes f. read-damaged (c .before .before .before .before .before .pre .0) (c .before .before .before .before .before .pre .1 .0) (c .enum-told .given .1) bytes
+returns c =
+    let at-start = c .before .before .before .before .before in
+    λ bytes f. read-damaged (at-start .pre .0) (at-start .pre .1 .0) (c .enum-told .given .1) bytes
 
 returns-3 : tie.Need-returns-3
-returns-3 c = λ bytes f. read-done (c .before .before .before .before .before .before .pre .0) (c .before .before .before .before .before .before .pre .1 .0) bytes f (c .before .enum-told2 .given .1)
+returns-3 c =
+    let at-start = c .before .before .before .before .before .before in
+    λ bytes f. read-done (at-start .pre .0) (at-start .pre .1 .0) bytes f (c .before .enum-told2 .given .1)
 
 returns-4 : tie.Need-returns-4
-returns-4 c = λ bytes f. read-breached (c .before .before .before .before .before .pre .0) (c .before .before .before .before .before .pre .1 .0) bytes f (c .enum-told3 .given .1)
+returns-4 c =
+    let at-start = c .before .before .before .before .before in
+    λ bytes f. read-breached (at-start .pre .0) (at-start .pre .1 .0) bytes f (c .enum-told3 .given .1)
 
 pub step-spec : {M : Type 1} → statement M
 step-spec = tie.close (tie.spec

@@ -2,12 +2,15 @@
 use borrow.Author.Needs.{needs}
 use borrow.Author.Tests.{not-false}
 use mathlib.Core.Path.{sym, _∙_}
-use Rattle.monitor.proofs.Checks.{length-refused, form-refused, typing-refused, guards-refused, width-refused, goes}
+use Rattle.monitor.proofs.Checks.{length-refused, form-refused, typing-refused, guards-refused, width-refused}
+use Rattle.monitor.proofs.Checks.{goes}
 use Rattle.monitor.proofs.verify.Statement.{statement}
 use Rattle.monitor.proofs.verify.Tie as tie
 
 agreement-parties-requires : tie.Need-agreement-parties-requires
-agreement-parties-requires c κs = c .before .before .before .before .well-formed .ensures .1 .1 (not-false _ (c .before .if2 .left))
+agreement-parties-requires c κs =
+    let at-well-formed = c .before .before .before .before in
+    at-well-formed .well-formed .ensures .1 .1 (not-false _ (c .before .if2 .left))
 
 guarded-requires : tie.Need-guarded-requires
 guarded-requires c κs =

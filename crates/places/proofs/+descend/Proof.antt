@@ -43,17 +43,16 @@ descend-descend-requires t c κs =
     let at-a = c .before .before .before in
     let at-step-down = at-a .before .before .before .before in
     let at-start = at-step-down .before .before .before .before .before .before in
-    let s = c .before .before .before .before .before .before .before .before .before .before .before .before
-    .before in let r = into-room (at-step-down .step-down .ensures) (at-a .a .given .1) (at-start .pre .1 .3) in
-    let l = length-part (s .args .s .now) (at-a .a .given .0 .0) (at-a .a .given .0 .1 .0) (r .2) in (
-      omega (arith, s .pre .0, typed-room (s .pre .1 .3)),
+    let r = into-room (at-step-down .step-down .ensures) (at-a .a .given .1) (at-start .pre .1 .3) in
+    let l = length-part (at-start .args .s .now) (at-a .a .given .0 .0) (at-a .a .given .0 .1 .0) (r .2) in (
+      omega (arith, at-start .pre .0, typed-room (at-start .pre .1 .3)),
       (
-        s .pre .1 .0,
-        omega (arith, s .pre .1 .1, at-step-down .step-down .kept .1 .1 .1 .1 .1 .1 .0),
+        at-start .pre .1 .0,
+        omega (arith, at-start .pre .1 .1, at-step-down .step-down .kept .1 .1 .1 .1 .1 .1 .0),
         r .3,
-        into-typed (at-step-down .step-down .ensures) (at-a .a .given .1) (s .pre .1 .3),
+        into-typed (at-step-down .step-down .ensures) (at-a .a .given .1) (at-start .pre .1 .3),
         omega
-            (arith, s .pre .1 .4),
+            (arith, at-start .pre .1 .4),
       ),
     )
 
@@ -81,20 +80,14 @@ descend-returns-3 t c =
 pub +descend-spec : {M : Type 1} → statement M
 +descend-spec = close μ-descend λ t. descend-lts.spec (claims t) (descend-at t) descend.Post
     (λ c κs. search needs) (λ c. search needs) (λ c. search needs) (λ c. search needs)
-    (λ c. omega (
-      arith,
-      into-room (c .before .before .before .before .before .step-down .ensures)
-          (c .before .a .given .1) (c .before .before .before .before .before .before .before .before .before .before .before .pre .1 .3),
-    ))
-    (λ c. omega (
-      arith,
-      into-room (c .before .before .before .before .before .step-down .ensures)
-          (c .before .a .given .1) (c .before .before .before .before .before .before .before .before .before .before .before .pre .1 .3),
-    ))
-    (λ c. omega (
-      arith,
-      into-room (c .before .before .before .before .before .step-down .ensures)
-          (c .before .a .given .1) (c .before .before .before .before .before .before .before .before .before .before .before .pre .1 .3),
-    ))
+    (λ c. let at-step-down = c .before .before .before .before .before in
+    let at-start = at-step-down .before .before .before .before .before .before in
+    omega (arith, into-room (at-step-down .step-down .ensures) (c .before .a .given .1) (at-start .pre .1 .3)))
+    (λ c. let at-step-down = c .before .before .before .before .before in
+    let at-start = at-step-down .before .before .before .before .before .before in
+    omega (arith, into-room (at-step-down .step-down .ensures) (c .before .a .given .1) (at-start .pre .1 .3)))
+    (λ c. let at-step-down = c .before .before .before .before .before in
+    let at-start = at-step-down .before .before .before .before .before .before in
+    omega (arith, into-room (at-step-down .step-down .ensures) (c .before .a .given .1) (at-start .pre .1 .3)))
     (descend-add-descend t) (descend-descend-requires t) (λ c. search needs) (descend-returns t)
     (λ c. search needs) (descend-returns-2 t) (λ c. search needs) (descend-returns-3 t)

@@ -69,6 +69,18 @@ in-template-spec = tie.close (tie.spec
           (c .before .before .before .record-end .ensures .0) (c .before .before .value-count .ensures .0),
     ))
     (λ c κs. search needs) (λ c. search needs) (λ c. search needs)
-    (λ c. omega (arith, template-room (c .before .before .before .before .before .before .before .before .before .before .before .before .pre .0) (c .before .before .before .before .before .before .before .before .before .before .before .before .pre .1) (c .before .before .before .before .before .before .before .before .template-place .ensures .0) (c .before .before .before .before .before .before .before .record-end .ensures .0) (c .before .before .before .before .before .before .value-count .ensures .0)))
-    (λ c. omega (arith, template-room (c .before .before .before .before .before .before .before .before .before .before .before .before .pre .0) (c .before .before .before .before .before .before .before .before .before .before .before .before .pre .1) (c .before .before .before .before .before .before .before .before .template-place .ensures .0) (c .before .before .before .before .before .before .before .record-end .ensures .0) (c .before .before .before .before .before .before .value-count .ensures .0)))
+    (λ c. let at-value-count = c .before .before .before .before .before .before in let at-start =
+    at-value-count .before .before .before .before .before .before in omega (
+      arith,
+      template-room (at-start .pre .0) (at-start .pre .1)
+          (at-value-count .before .before .template-place .ensures .0)
+          (at-value-count .before .record-end .ensures .0) (at-value-count .value-count .ensures .0),
+    ))
+    (λ c. let at-value-count = c .before .before .before .before .before .before in let at-start =
+    at-value-count .before .before .before .before .before .before in omega (
+      arith,
+      template-room (at-start .pre .0) (at-start .pre .1)
+          (at-value-count .before .before .template-place .ensures .0)
+          (at-value-count .before .record-end .ensures .0) (at-value-count .value-count .ensures .0),
+    ))
     (λ c. search needs) descend-requires (λ c. search needs) returns)

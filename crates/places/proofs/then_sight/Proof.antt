@@ -96,6 +96,16 @@ then-sight-spec = tie.close (tie.spec
           (c .before .record-end .ensures .0),
     ))
     append-requires
-    (λ c. omega (arith, sight-room (c .before .before .before .before .before .before .before .before .before .before .args .types .now) (c .before .before .before .before .before .before .before .before .before .before .args .count) (c .before .before .before .before .before .before .before .before .before .before .pre) (c .before .before .before .before .before .before .reading-place .ensures .0) (c .before .before .before .before .before .record-end .ensures .0)))
-    (λ c. omega (arith, sight-room (c .before .before .before .before .before .before .before .before .before .before .args .types .now) (c .before .before .before .before .before .before .before .before .before .before .args .count) (c .before .before .before .before .before .before .before .before .before .before .pre) (c .before .before .before .before .before .before .reading-place .ensures .0) (c .before .before .before .before .before .record-end .ensures .0)))
+    (λ c. let at-record-end = c .before .before .before .before .before in let at-start =
+    at-record-end .before .before .before .before .before in omega (
+      arith,
+      sight-room (at-start .args .types .now) (at-start .args .count) (at-start .pre)
+          (at-record-end .before .reading-place .ensures .0) (at-record-end .record-end .ensures .0),
+    ))
+    (λ c. let at-record-end = c .before .before .before .before .before in let at-start =
+    at-record-end .before .before .before .before .before in omega (
+      arith,
+      sight-room (at-start .args .types .now) (at-start .args .count) (at-start .pre)
+          (at-record-end .before .reading-place .ensures .0) (at-record-end .record-end .ensures .0),
+    ))
     (λ c. search needs) returns)

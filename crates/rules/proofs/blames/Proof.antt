@@ -12,16 +12,28 @@ use Rattle.rules.proofs.blames.Statement.{statement}
 use Rattle.rules.proofs.blames.Tie as tie
 
 abbrev Inv-loop : tie.InvT-loop
-Inv-loop bytes params cells₀ i₀ cells i = (i ≤ length bytes) × (length cells ≡ length cells₀) × (blamedCells params bytes ≡ take i cells ++ blamedCells params (drop i bytes))
+Inv-loop bytes params cells₀ i₀ cells i = (i ≤ length bytes) × (length cells ≡ length cells₀)
+    × (blamedCells params bytes ≡ take i cells ++ blamedCells params (drop i bytes))
 
 abbrev μ-loop : tie.MeasureT-loop
 μ-loop bytes params cells₀ i₀ cells i = length bytes - i
 
 loop-again : tie.Need-loop-again Inv-loop μ-loop
-loop-again c = let h = c .before .before .before in let s = h .before .before in let i = h .loop .i in let inv = h .loop .inv in (omega arith, simp length-set (inv .1), rw (read! (c .blamed .ok)) (blames-more (s .args .params .now) (s .args .bytes .now) (h .loop .cells) i (omega arith) (omega arith) (inv .2) (c .blamed .ensures ∙ rw (c .before .byte .ensures .0))))
+loop-again c =
+    let h = c .before .before .before in let s = h .before .before in let i = h .loop .i in let inv = h .loop .inv
+    in (
+      omega arith,
+      simp length-set (inv .1),
+      rw (read! (c .blamed .ok))
+          (blames-more (s .args .params .now) (s .args .bytes .now) (h .loop .cells) i (omega arith) (omega arith)
+          (inv .2) (c .blamed .ensures ∙ rw (c .before .byte .ensures .0))),
+    )
 
 returns : tie.Need-returns Inv-loop μ-loop
-returns c = let s = c .before .before .before in blames-all (s .args .params .now) (s .args .bytes .now) (c .before .loop .cells) {i = c .before .loop .i} (omega arith) (c .before .loop .inv .2)
+returns c =
+    let loop = c .before .loop in
+    let s = c .before .before .before in
+    blames-all (s .args .params .now) (s .args .bytes .now) (loop .cells) {i = loop .i} (omega arith) (loop .inv .2)
 
 pub blames-spec : {M : Type 1} → statement M
 blames-spec = tie.close (tie.spec Inv-loop μ-loop

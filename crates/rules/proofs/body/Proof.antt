@@ -9,7 +9,17 @@ use Rattle.rules.proofs.body.Statement.{statement}
 use Rattle.rules.proofs.body.Tie as tie
 
 returns : tie.Need-returns
-returns c = let s = c .before .before .before .before .before in let x = s .pre .0 in let g = body-within x (s .args .k) (s .pre .1) in let t = c .before .before .template-place .ensures in let n = c .before .value-count .ensures in let e = c .record-end .ensures in let f = body-from (s .args .agreement .now) (s .args .k) (t .0) (n .0) in (f, e .0 ∙ ap (recordEnd (s .args .agreement .now)) (t .0), omega (arith, e .0, ap (recordEnd (s .args .agreement .now)) (t .0)), e .1)
+returns c =
+    let s = c .before .before .before .before .before in let x = s .pre .0 in let g = body-within x (s .args .k)
+    (s .pre .1) in let t = c .before .before .template-place .ensures in let n = c .before .value-count .ensures
+    in let e = c .record-end .ensures in let f = body-from (s .args .agreement .now) (s .args .k) (t .0) (n .0)
+    in (
+      f,
+      e .0 ∙ ap (recordEnd (s .args .agreement .now)) (t .0),
+      omega
+          (arith, e .0, ap (recordEnd (s .args .agreement .now)) (t .0)),
+      e .1,
+    )
 
 pub body-spec : {M : Type 1} → statement M
 body-spec = tie.close (tie.spec

@@ -7,10 +7,22 @@ use Rattle.rules.proofs.chosen.Statement.{statement}
 use Rattle.rules.proofs.chosen.Tie as tie
 
 returns : tie.Need-returns
-returns c = let s = c .before .before .before .before .before .before .before in λ e rs ag below place ps written. chosen-then e rs ag below (s .args .s .now) place ps (s .args .values .now) (s .args .a) (s .args .depth) (s .pre .1) written (c .before .before .before .before .before .record-end .ensures .0) (c .before .before .before .before .record-end2 .ensures .0) (c .before .before .eval .ensures) (sym (c .before .is-true .ensures) ∙ c .if1 .taken) (omega arith, omega arith, omega arith)
+returns c =
+    let at-record-end2 = c .before .before .before .before in
+    let s = c .before .before .before .before .before .before .before in
+    λ e rs ag below place ps written. chosen-then e rs ag below (s .args .s .now) place ps (s .args .values .now)
+    (s .args .a) (s .args .depth) (s .pre .1) written (at-record-end2 .before .record-end .ensures .0)
+    (at-record-end2 .record-end2 .ensures .0) (c .before .before .eval .ensures)
+    (sym (c .before .is-true .ensures) ∙ c .if1 .taken) (omega arith, omega arith, omega arith)
 
 returns-2 : tie.Need-returns-2
-returns-2 c = let s = c .before .before .before .before .before .before .before in λ e rs ag below place ps written. chosen-else e rs ag below (s .args .s .now) place ps (s .args .values .now) (s .args .a) (s .args .depth) (s .pre .1) written (c .before .before .before .before .before .record-end .ensures .0) (c .before .before .before .before .record-end2 .ensures .0) (c .before .before .eval .ensures) (sym (c .before .is-true .ensures) ∙ c .if1 .left) (omega arith, omega arith)
+returns-2 c =
+    let at-record-end2 = c .before .before .before .before in
+    let s = c .before .before .before .before .before .before .before in
+    λ e rs ag below place ps written. chosen-else e rs ag below (s .args .s .now) place ps (s .args .values .now)
+    (s .args .a) (s .args .depth) (s .pre .1) written (at-record-end2 .before .record-end .ensures .0)
+    (at-record-end2 .record-end2 .ensures .0) (c .before .before .eval .ensures)
+    (sym (c .before .is-true .ensures) ∙ c .if1 .left) (omega arith, omega arith)
 
 pub chosen-spec : {M : Type 1} → statement M
 chosen-spec = tie.close (tie.spec

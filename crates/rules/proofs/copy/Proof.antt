@@ -18,12 +18,21 @@ abbrev μ-loop : tie.MeasureT-loop
 μ-loop dst₀ src i₀ dst i = length src - i
 
 loop-again : tie.Need-loop-again Inv-loop μ-loop
-loop-again c = let h = c .before .before in let s = h .before in let i = h .loop .i in let inv = h .loop .inv in
-    let back = read! {z = getD (s .args .src .now) i (pos 0)} (c .x .given) in
-    (omega arith, simp length-set (inv .1), rw (back, inv .2) (copy-more (pos 0) (s .args .src .now) (s .args .dst .now) i (omega arith) (omega arith)))
+loop-again c =
+    let h = c .before .before in let s = h .before in let i = h .loop .i in let inv = h .loop .inv in let back =
+    read! {z = getD (s .args .src .now) i (pos 0)} (c .x .given) in (
+      omega arith,
+      simp length-set (inv .1),
+      rw (back, inv .2)
+          (copy-more (pos 0) (s .args .src .now) (s .args .dst .now) i (omega arith) (omega arith)),
+    )
 
 returns : tie.Need-returns Inv-loop μ-loop
-returns c = let s = c .before .before in let inv = c .before .loop .inv in inv .2 ∙ copied-all (s .args .src .now) (s .args .dst .now) {i = c .before .loop .i} (omega arith)
+returns c =
+    let loop = c .before .loop in
+    let s = c .before .before in
+    let inv = loop .inv in
+    inv .2 ∙ copied-all (s .args .src .now) (s .args .dst .now) {i = loop .i} (omega arith)
 
 pub copy-spec : {M : Type 1} → statement M
 copy-spec = tie.close (tie.spec Inv-loop μ-loop

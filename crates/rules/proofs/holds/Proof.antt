@@ -8,10 +8,20 @@ use Rattle.rules.proofs.holds.Statement.{statement}
 use Rattle.rules.proofs.holds.Tie as tie
 
 slice-aggregate-eval : tie.Need-slice-aggregate-eval
-slice-aggregate-eval c = let g = c .before .before .before .before .before in let s = g .before .before .before in sight-long (s .args .values .now) (s .args .reading .now) (replicate 24 (pos 0)) (g .sight .ensures .0) (g .sight .ensures .2) (omega arith)
+slice-aggregate-eval c =
+    let g = c .before .before .before .before .before in let s = g .before .before .before in sight-long
+    (s .args .values .now) (s .args .reading .now) (replicate 24 (pos 0)) (g .sight .ensures .0)
+    (g .sight .ensures .2) (omega arith)
 
 returns : tie.Need-returns
-returns c = let s = c .before .before .before .before .before .before .before .before .before .before in let g = c .before .before .before .before .before .before .before in condition-is (s .args .s .now) (s .args .i) (s .args .depth) (c .before .before .before .before .before .start .ensures .0) (c .before .before .before .before .record-end .ensures .0) (sight-front (s .args .values .now) (s .args .reading .now) (replicate 24 (pos 0)) (g .sight .ensures .0) (g .sight .ensures .2)) (c .before .eval .ensures) (c .is-true .ensures)
+returns c =
+    let at-record-end = c .before .before .before .before in
+    let s = c .before .before .before .before .before .before .before .before .before .before in
+    let g = c .before .before .before .before .before .before .before in
+    condition-is (s .args .s .now) (s .args .i) (s .args .depth) (at-record-end .before .start .ensures .0)
+    (at-record-end .record-end .ensures .0)
+    (sight-front (s .args .values .now) (s .args .reading .now) (replicate 24 (pos 0)) (g .sight .ensures .0)
+    (g .sight .ensures .2)) (c .before .eval .ensures) (c .is-true .ensures)
 
 pub holds-spec : {M : Type 1} → statement M
 holds-spec = tie.close (tie.spec

@@ -5,10 +5,16 @@ use Rattle.rules.proofs.join.Statement.{statement}
 use Rattle.rules.proofs.join.Tie as tie
 
 returns : tie.Need-returns
-returns c = rw (c .same .ensures) (as-join (join-first (c .before .before .before .before .if1 .taken)) (c .before .before .join-both .ensures))
+returns c =
+    let at-if1 = c .before .before .before .before in
+    rw (c .same .ensures) (as-join (join-first (at-if1 .if1 .taken)) (c .before .before .join-both .ensures))
 
 returns-2 : tie.Need-returns-2
-returns-2 c = let s = c .before .before .before .before .before in rw (c .same2 .ensures) (as-join (join-second (s .args .kind) (c .before .before .before .before .if1 .left)) (c .before .before .join-either .ensures))
+returns-2 c =
+    let at-if1 = c .before .before .before .before in
+    let s = c .before .before .before .before .before in
+    rw (c .same2 .ensures) (as-join (join-second (s .args .kind) (at-if1 .if1 .left))
+    (c .before .before .join-either .ensures))
 
 pub join-spec : {M : Type 1} → statement M
 join-spec = tie.close (tie.spec

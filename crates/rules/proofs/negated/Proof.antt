@@ -9,11 +9,17 @@ use Rattle.rules.proofs.negated.Tie as tie
 
 returns : tie.Need-returns
 unfolding negatedCell
-returns c = let e = rw (read (c .before .before .fits .x)) at (c .before .is-true .ensures) in (search conds depth 9, nought-held)
+returns c =
+    let at-start = c .before .before in
+    let e = rw (read (at-start .fits .x)) at (c .before .is-true .ensures) in
+    (search conds depth 9, nought-held)
 
 returns-2 : tie.Need-returns-2
 unfolding negatedCell
-returns-2 c = let e = rw (read (c .before .before .fits .x)) at (c .before .is-true .ensures) in (search conds depth 9, one-held)
+returns-2 c =
+    let at-start = c .before .before in
+    let e = rw (read (at-start .fits .x)) at (c .before .is-true .ensures) in
+    (search conds depth 9, one-held)
 
 pub negated-spec : {M : Type 1} → statement M
 negated-spec = tie.close (tie.spec (λ c κs. search needs) returns returns-2)

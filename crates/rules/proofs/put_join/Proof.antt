@@ -1,14 +1,21 @@
--- The two residues stand one below the other at the end, so the join's unit below them makes one residue in prefix order; without room only the count is kept.
+-- The two residues stand one below the other at the end, so the join's unit below them makes one residue in prefix
+-- order; without room only the count is kept.
 use Rattle.rules.proofs.Reduces.{join-full, join-put}
 use borrow.Author.Needs.{needs}
 use Rattle.rules.proofs.put_join.Statement.{statement}
 use Rattle.rules.proofs.put_join.Tie as tie
 
 returns : tie.Need-returns
-returns c = let s = c .before .before in join-full (s .args .kind) (s .args .n) (s .args .m) (s .args .out .now) (s .pre) (c .before .if1 .taken) (c .capped .ensures)
+returns c =
+    let s = c .before .before in join-full (s .args .kind) (s .args .n) (s .args .m) (s .args .out .now) (s .pre)
+    (c .before .if1 .taken) (c .capped .ensures)
 
 returns-2 : tie.Need-returns-2
-returns-2 c = let s = c .before .before .before .before .before in join-put (s .args .kind) (s .args .n) (s .args .m) (s .args .out .now) (s .pre) (c .before .before .before .before .if1 .left) (c .before .fill .ensures)
+returns-2 c =
+    let at-if1 = c .before .before .before .before in
+    let s = c .before .before .before .before .before in
+    join-put (s .args .kind) (s .args .n) (s .args .m) (s .args .out .now) (s .pre) (at-if1 .if1 .left)
+    (c .before .fill .ensures)
 
 pub put-join-spec : {M : Type 1} → statement M
 put-join-spec = tie.close (tie.spec

@@ -6,10 +6,14 @@ use Rattle.rules.proofs.room_left.Statement.{statement}
 use Rattle.rules.proofs.room_left.Tie as tie
 
 mul-used : tie.Need-mul-used
-mul-used c = omega (arith, counted (c .before .r .given .1) (c .before .before .before .pre))
+mul-used c =
+    let at-start = c .before .before .before in
+    omega (arith, counted (c .before .r .given .1) (at-start .pre))
 
 returns : tie.Need-returns
-returns c = (room-left (c .before .before .before .before .args .len) (c .before .before .r .given .1), omega arith)
+returns c =
+    let at-start = c .before .before .before .before in
+    (room-left (at-start .args .len) (c .before .before .r .given .1), omega arith)
 
 returns-2 : tie.Need-returns-2
 returns-2 c = (room-done (c .enum-told .given .1), search needs)
@@ -18,7 +22,9 @@ returns-3 : tie.Need-returns-3
 returns-3 c = (room-breach (c .enum-told2 .given .1), search needs)
 
 returns-4 : tie.Need-returns-4
-returns-4 c = (room-none (c .before .before .before .before .args .len) (c .before .before .r .given .1) (c .if1 .left), search needs)
+returns-4 c =
+    let at-start = c .before .before .before .before in
+    (room-none (at-start .args .len) (c .before .before .r .given .1) (c .if1 .left), search needs)
 
 pub room-left-spec : {M : Type 1} → statement M
 room-left-spec = tie.close (tie.spec

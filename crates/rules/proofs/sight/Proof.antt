@@ -8,7 +8,16 @@ use Rattle.rules.proofs.sight.Statement.{statement}
 use Rattle.rules.proofs.sight.Tie as tie
 
 returns : tie.Need-returns
-returns c = let s = c .before .before .before .before .before .before in let v = s .args .values .now in let r = s .args .reading .now in (sym (length-append v r), omega arith, sight-is v r (s .args .cells .now) (omega arith) (c .before .before .before .before .copy .ensures) (c .before .copy2 .ensures))
+returns c =
+    let at-copy = c .before .before .before .before in
+    let s = c .before .before .before .before .before .before in
+    let v = s .args .values .now in
+    let r = s .args .reading .now in (
+      sym (length-append v r),
+      omega arith,
+      sight-is v r (s .args .cells .now) (omega arith) (at-copy .copy .ensures)
+          (c .before .copy2 .ensures),
+    )
 
 pub sight-spec : {M : Type 1} → statement M
 sight-spec = tie.close (tie.spec

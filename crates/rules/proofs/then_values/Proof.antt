@@ -10,7 +10,16 @@ exact-difference-requires : tie.Need-exact-difference-requires
 exact-difference-requires c κs = (omega sizes, time-within (c .args .time) (c .pre .3))
 
 returns : tie.Need-returns
-returns c = let s = c .before .before .before .before .before in let g = c .before .before in (then-is (s .args .values .now) (s .args .reading .now) (s .args .cells .now) (g .sight .ensures .0) (g .sight .ensures .2) (omega arith) (c .start .ensures .0) (minus-is (s .args .time) (s .pre .3) (s .fits .last) (c .before .before .before .before .exact-difference .ok) (c .before .before .before .before .exact-difference .ensures .0)), omega arith)
+returns c =
+    let at-exact-difference = c .before .before .before .before in
+    let s = c .before .before .before .before .before in
+    let g = c .before .before in (
+      then-is (s .args .values .now) (s .args .reading .now) (s .args .cells .now) (g .sight .ensures .0)
+          (g .sight .ensures .2) (omega arith) (c .start .ensures .0)
+          (minus-is (s .args .time) (s .pre .3) (s .fits .last) (at-exact-difference .exact-difference .ok)
+          (at-exact-difference .exact-difference .ensures .0)),
+      omega arith,
+    )
 
 pub then-values-spec : {M : Type 1} → statement M
 then-values-spec = tie.close (tie.spec

@@ -1,4 +1,5 @@
--- A running table shows a run exactly where the tree at its front is sound, has the units that the head tells, and zeros stand behind it.
+-- A running table shows a run exactly where the tree at its front is sound, has the units that the head tells, and
+-- zeros stand behind it.
 use borrow.Author.Needs.{needs}
 use mathlib.Core.Path.{_≡_, ap, _∙_}
 use Prim.Native.Nat.{_≤_}
@@ -8,7 +9,8 @@ use lib.ListN.{getD}
 use Rattle.arith.proofs.Ints.{read! }
 use Rattle.arith.proofs.Lists.{length-part}
 use Rattle.units.specs.Cells.{numberBelow}
-use Rattle.state.proofs.Shows.{running-head, running-many, fewer, running-torn, running-other, running-more, running-is}
+use Rattle.state.proofs.Shows.{running-head, running-many, fewer, running-torn, running-other, running-more}
+use Rattle.state.proofs.Shows.{running-is}
 use Rattle.state.proofs.running.Statement.{statement}
 use Rattle.state.proofs.running.Tie as tie
 
@@ -19,59 +21,76 @@ begun c = c .before .before .before .before .before .before .before .before
 abbrev counted : tie.Else3 → tie.Else2
 counted c = c .before .before .before .before .before .before .before .before .before
 
-count : (c : tie.After-number-below) → c .number-below .result ≡ numberBelow 129 (getD (begun c .args .table .now) 4 (pos 0))
-count c = c .number-below .ensures .0 ∙ ap (numberBelow 129) (read! (c .before .number-below-arg .given))
+count : (c : tie.After-number-below) → c .number-below .result ≡ numberBelow 129
+    (getD (begun c .args .table .now) 4 (pos 0))
+count c =
+    c .number-below .ensures .0 ∙ ap (numberBelow 129) (read! (c .before .number-below-arg .given))
 
 few : (c : tie.Else2) → c .before .number-below .result ≤ 128
 few c =
-    let s = begun (c .before) in
-    fewer (s .args .table .now) (s .pre .3) (s .args .agreement .now) (s .pre .5) (count (c .before)) (c .before .number-below .ensures .1) (c .if2 .left)
+    let s = begun (c .before) in fewer (s .args .table .now) (s .pre .3) (s .args .agreement .now) (s .pre .5)
+    (count (c .before)) (c .before .number-below .ensures .1) (c .if2 .left)
 
 returns : tie.Need-returns
 returns c =
-    let s = c .before .before .before .before .before .before in
-    running-head (s .args .table .now) (s .pre .3) (s .args .agreement .now) (s .pre .5) (s .args .sights .now) (c .before .zeros .ensures) (c .if1 .taken)
+    let s = c .before .before .before .before .before .before in running-head (s .args .table .now) (s .pre .3)
+    (s .args .agreement .now) (s .pre .5) (s .args .sights .now) (c .before .zeros .ensures) (c .if1 .taken)
 
 returns-2 : tie.Need-returns-2
 returns-2 c =
-    let s = begun (c .before) in
-    running-many (s .args .table .now) (s .pre .3) (s .args .agreement .now) (s .pre .5) (s .args .sights .now) (count (c .before)) (c .if2 .taken)
+    let s = begun (c .before) in running-many (s .args .table .now) (s .pre .3) (s .args .agreement .now)
+    (s .pre .5) (s .args .sights .now) (count (c .before)) (c .if2 .taken)
 
 walk-tree-requires : tie.Need-walk-tree-requires
 walk-tree-requires c κs =
-    let k = c .before .before in
-    let s = begun (k .before) in
-    (s .pre .0, s .pre .1, s .pre .2, s .pre .5 .to, few k, omega (arith, few k, s .pre .3, length-part (s .args .table .now) 8 3080 (omega (arith, s .pre .3))), omega (arith, few k, s .pre .4))
+    let k = c .before .before in let s = begun (k .before) in (
+      s .pre .0,
+      s .pre .1,
+      s .pre .2,
+      s .pre .5 .to,
+      few k,
+      omega
+          (arith, few k, s .pre .3, length-part (s .args .table .now) 8 3080 (omega (arith, s .pre .3))),
+      omega
+          (arith, few k, s .pre .4),
+    )
 
 returns-3 : tie.Need-returns-3
 returns-3 c =
+    let at-walk-tree = c .before .before .before .before .before .before in
     let k = c .before .before .before .before .before .before .before .before .before in
     let s = begun (k .before) in
-    let w = c .before .before .before .before .before .before .walk-tree in
-    running-other (s .args .table .now) (s .pre .3) (s .args .agreement .now) (s .pre .5) (count (k .before)) (k .before .number-below .ensures .1) (k .if2 .left) (w .last .1 .1 .1 .1 .1 .1 .0) (w .ensures) (c .before .before .k .given .1) (c .if3 .taken)
+    let w = at-walk-tree .walk-tree in
+    running-other (s .args .table .now) (s .pre .3) (s .args .agreement .now) (s .pre .5) (count (k .before))
+    (k .before .number-below .ensures .1) (k .if2 .left) (w .last .1 .1 .1 .1 .1 .1 .0) (w .ensures)
+    (c .before .before .k .given .1) (c .if3 .taken)
 
 returns-4 : tie.Need-returns-4
 returns-4 c =
+    let at-walk-tree = c .before .before .before .before in
     let k = c .before .before .before .before .before .before .before in
     let s = begun (k .before) in
-    let w = c .before .before .before .before .walk-tree in
-    running-torn (s .args .table .now) (s .pre .3) (s .args .agreement .now) (s .pre .5) (count (k .before)) (k .before .number-below .ensures .1) (k .if2 .left) (w .last .1 .1 .1 .1 .1 .1 .0) (w .ensures) (c .enum-told .given .1)
+    let w = at-walk-tree .walk-tree in
+    running-torn (s .args .table .now) (s .pre .3) (s .args .agreement .now) (s .pre .5) (count (k .before))
+    (k .before .number-below .ensures .1) (k .if2 .left) (w .last .1 .1 .1 .1 .1 .1 .0) (w .ensures)
+    (c .enum-told .given .1)
 
 returns-5 : tie.Need-returns-5
 returns-5 c =
-    let o = c .before .before .before in
-    let k = counted o in
-    let s = begun (k .before) in
-    let w = o .before .before .before .before .before .before .walk-tree in
-    running-is (s .args .table .now) (s .pre .3) (s .args .agreement .now) (s .pre .5) (count (k .before)) (k .before .number-below .ensures .1) (k .if2 .left) (w .last .1 .1 .1 .1 .1 .1 .0) (w .ensures) (o .before .before .k .given .1) (o .if3 .left) (c .before .zeros2 .ensures) (k .before .before .before .before .zeros .ensures) (k .before .before .before .if1 .left) (c .if4 .taken)
+    let o = c .before .before .before in let k = counted o in let s = begun (k .before) in let w =
+    o .before .before .before .before .before .before .walk-tree in running-is (s .args .table .now) (s .pre .3)
+    (s .args .agreement .now) (s .pre .5) (count (k .before)) (k .before .number-below .ensures .1)
+    (k .if2 .left) (w .last .1 .1 .1 .1 .1 .1 .0) (w .ensures) (o .before .before .k .given .1) (o .if3 .left)
+    (c .before .zeros2 .ensures) (k .before .before .before .before .zeros .ensures)
+    (k .before .before .before .if1 .left) (c .if4 .taken)
 
 returns-6 : tie.Need-returns-6
 returns-6 c =
-    let o = c .before .before .before in
-    let k = counted o in
-    let s = begun (k .before) in
-    let w = o .before .before .before .before .before .before .walk-tree in
-    running-more (s .args .table .now) (s .pre .3) (s .args .agreement .now) (s .pre .5) (count (k .before)) (k .before .number-below .ensures .1) (k .if2 .left) (w .last .1 .1 .1 .1 .1 .1 .0) (w .ensures) (o .before .before .k .given .1) (o .if3 .left) (c .before .zeros2 .ensures) (c .if4 .left)
+    let o = c .before .before .before in let k = counted o in let s = begun (k .before) in let w =
+    o .before .before .before .before .before .before .walk-tree in running-more (s .args .table .now)
+    (s .pre .3) (s .args .agreement .now) (s .pre .5) (count (k .before)) (k .before .number-below .ensures .1)
+    (k .if2 .left) (w .last .1 .1 .1 .1 .1 .1 .0) (w .ensures) (o .before .before .k .given .1) (o .if3 .left)
+    (c .before .zeros2 .ensures) (c .if4 .left)
 
 pub running-spec : {M : Type 1} → statement M
 running-spec = tie.close (tie.spec

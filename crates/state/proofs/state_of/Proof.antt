@@ -1,4 +1,5 @@
--- The head decides: a last reading time from the start on, zeros in cells 5 to 7, and a state of 1 to 3, each read by a function of its own.
+-- The head decides: a last reading time from the start on, zeros in cells 5 to 7, and a state of 1 to 3, each read by
+-- a function of its own.
 use Rattle.state.proofs.Shows.{head-timeless, head-zeros, head-other, head-early, head-at}
 use Rattle.units.specs.Cells.{numberBelow}
 use Rattle.arith.proofs.Ints.{read! }
@@ -10,41 +11,95 @@ use Rattle.state.proofs.state_of.Tie as tie
 
 returns : tie.Need-returns
 returns c =
-    let s = c .before .before .before .before .before .before in
-    head-timeless (s .args .table .now) (s .pre .3) (s .args .agreement .now) (s .args .sights .now) (c .before .number-below .ensures .0 ∙ ap (numberBelow 4_294_967_296) (read! (c .before .before .number-below-arg .given))) (c .if1 .taken)
+    let s = c .before .before .before .before .before .before in head-timeless (s .args .table .now) (s .pre .3)
+    (s .args .agreement .now) (s .args .sights .now)
+    (c .before .number-below .ensures .0 ∙ ap (numberBelow 4_294_967_296)
+    (read! (c .before .before .number-below-arg .given))) (c .if1 .taken)
 
 returns-2 : tie.Need-returns-2
 returns-2 c =
+    let at-number-below = c .before .before .before in
     let s = c .before .before .before .before .before .before .before .before in
-    head-early (s .args .table .now) (s .pre .3) (s .args .agreement .now) (s .args .sights .now) (c .before .before .before .number-below .ensures .0 ∙ ap (numberBelow 4_294_967_296) (read! (c .before .before .before .before .number-below-arg .given))) (c .before .before .before .number-below .ensures .1) (c .before .before .if1 .left) (c .before .unsigned32 .ensures .0) (c .if2 .taken)
+    head-early (s .args .table .now) (s .pre .3) (s .args .agreement .now) (s .args .sights .now)
+    (at-number-below .number-below .ensures .0 ∙ ap (numberBelow 4_294_967_296)
+    (read! (at-number-below .before .number-below-arg .given))) (at-number-below .number-below .ensures .1)
+    (c .before .before .if1 .left) (c .before .unsigned32 .ensures .0) (c .if2 .taken)
 
 returns-3 : tie.Need-returns-3
 returns-3 c =
-    let s = c .before .before .before .before .before .before .before .before .before .before .before in
-    head-zeros (s .args .table .now) (s .pre .3) (s .args .agreement .now) (s .args .sights .now) (c .before .zeros .ensures) (c .if3 .taken)
+    let s = c .before .before .before .before .before .before .before .before .before .before .before in head-zeros
+    (s .args .table .now) (s .pre .3) (s .args .agreement .now) (s .args .sights .now)
+    (c .before .zeros .ensures) (c .if3 .taken)
 
 running-requires : tie.Need-running-requires
 running-requires c κs =
-    let s = c .before .before .before .before .before .before .before .before .before .before .before .before .before .before .before in
-    (s .pre .0, s .pre .1, s .pre .2, s .pre .3, s .pre .4, head-at (s .args .table .now) (s .pre .3) (s .args .agreement .now) (s .args .sights .now) (c .before .before .before .before .before .before .before .before .before .before .number-below .ensures .0 ∙ ap (numberBelow 4_294_967_296) (read! (c .before .before .before .before .before .before .before .before .before .before .before .number-below-arg .given))) (c .before .before .before .before .before .before .before .before .before .before .number-below .ensures .1) (c .before .before .before .before .before .before .before .before .before .if1 .left) (c .before .before .before .before .before .before .before .before .unsigned32 .ensures .0) (c .before .before .before .before .before .before .before .if2 .left) (c .before .before .before .before .before .zeros .ensures) (c .before .before .before .before .if3 .left) (c .before .before .number-below2 .ensures .0 ∙ ap (numberBelow 4) (read! (c .before .before .before .number-below-arg2 .given))) (c .before .match .keys1) (omega arith))
+    let at-number-below-arg2 = c .before .before .before in
+    let at-if2 = at-number-below-arg2 .before .before .before .before in
+    let at-number-below = at-if2 .before .before .before in
+    let s = c .before .before .before .before .before .before .before .before .before .before .before .before
+    .before .before .before in (
+      s .pre .0,
+      s .pre .1,
+      s .pre .2,
+      s .pre .3,
+      s .pre .4,
+      head-at (s .args .table .now) (s .pre .3)
+          (s .args .agreement .now) (s .args .sights .now)
+          (at-number-below .number-below .ensures .0 ∙ ap (numberBelow 4_294_967_296)
+          (read! (at-number-below .before .number-below-arg .given))) (at-number-below .number-below .ensures .1)
+          (at-if2 .before .before .if1 .left) (at-if2 .before .unsigned32 .ensures .0) (at-if2 .if2 .left)
+          (at-number-below-arg2 .before .before .zeros .ensures) (at-number-below-arg2 .before .if3 .left)
+          (c .before .before .number-below2 .ensures .0 ∙ ap (numberBelow 4)
+          (read! (at-number-below-arg2 .number-below-arg2 .given))) (c .before .match .keys1) (omega arith),
+    )
 
 breached-requires : tie.Need-breached-requires
 breached-requires c κs =
-    let s = c .before .before .before .before .before .before .before .before .before .before .before .before .before .before in
-    (s .pre .3, s .pre .2, head-at (s .args .table .now) (s .pre .3) (s .args .agreement .now) (s .args .sights .now) (c .before .before .before .before .before .before .before .before .before .number-below .ensures .0 ∙ ap (numberBelow 4_294_967_296) (read! (c .before .before .before .before .before .before .before .before .before .before .number-below-arg .given))) (c .before .before .before .before .before .before .before .before .before .number-below .ensures .1) (c .before .before .before .before .before .before .before .before .if1 .left) (c .before .before .before .before .before .before .before .unsigned32 .ensures .0) (c .before .before .before .before .before .before .if2 .left) (c .before .before .before .before .zeros .ensures) (c .before .before .before .if3 .left) (c .before .number-below2 .ensures .0 ∙ ap (numberBelow 4) (read! (c .before .before .number-below-arg2 .given))) (c .match .keys3) (omega arith))
+    let at-if3 = c .before .before .before in
+    let at-if2 = at-if3 .before .before .before in
+    let at-number-below = at-if2 .before .before .before in
+    let s = c .before .before .before .before .before .before .before .before .before .before .before .before
+    .before .before in (
+      s .pre .3,
+      s .pre .2,
+      head-at (s .args .table .now) (s .pre .3) (s .args .agreement .now)
+          (s .args .sights .now) (at-number-below .number-below .ensures .0 ∙ ap (numberBelow 4_294_967_296)
+          (read! (at-number-below .before .number-below-arg .given))) (at-number-below .number-below .ensures .1)
+          (at-if2 .before .before .if1 .left) (at-if2 .before .unsigned32 .ensures .0) (at-if2 .if2 .left)
+          (at-if3 .before .zeros .ensures) (at-if3 .if3 .left)
+          (c .before .number-below2 .ensures .0 ∙ ap (numberBelow 4)
+          (read! (c .before .before .number-below-arg2 .given))) (c .match .keys3) (omega arith),
+    )
 
 returns-5 : tie.Need-returns-5
 returns-5 c =
-    let s = c .before .before .before .before .before .before .before .before .before .before .before .before .before .before .before in
-    c .fulfilled .ensures (s .args .agreement .now) (c .before .before .before .before .before .before .before .before .before .before .number-below .result) (s .args .sights .now) (head-at (s .args .table .now) (s .pre .3) (s .args .agreement .now) (s .args .sights .now) (c .before .before .before .before .before .before .before .before .before .before .number-below .ensures .0 ∙ ap (numberBelow 4_294_967_296) (read! (c .before .before .before .before .before .before .before .before .before .before .before .number-below-arg .given))) (c .before .before .before .before .before .before .before .before .before .before .number-below .ensures .1) (c .before .before .before .before .before .before .before .before .before .if1 .left) (c .before .before .before .before .before .before .before .before .unsigned32 .ensures .0) (c .before .before .before .before .before .before .before .if2 .left) (c .before .before .before .before .before .zeros .ensures) (c .before .before .before .before .if3 .left) (c .before .before .number-below2 .ensures .0 ∙ ap (numberBelow 4) (read! (c .before .before .before .number-below-arg2 .given))) (c .before .match .keys2) (omega arith))
+    let at-number-below-arg2 = c .before .before .before in
+    let at-if2 = at-number-below-arg2 .before .before .before .before in
+    let at-number-below = at-if2 .before .before .before in
+    let s = c .before .before .before .before .before .before .before .before .before .before .before .before
+    .before .before .before in
+    c .fulfilled .ensures (s .args .agreement .now) (at-number-below .number-below .result) (s .args .sights .now)
+    (head-at (s .args .table .now) (s .pre .3) (s .args .agreement .now) (s .args .sights .now)
+    (at-number-below .number-below .ensures .0 ∙ ap (numberBelow 4_294_967_296)
+    (read! (at-number-below .before .number-below-arg .given))) (at-number-below .number-below .ensures .1)
+    (at-if2 .before .before .if1 .left) (at-if2 .before .unsigned32 .ensures .0) (at-if2 .if2 .left)
+    (at-number-below-arg2 .before .before .zeros .ensures) (at-number-below-arg2 .before .if3 .left)
+    (c .before .before .number-below2 .ensures .0 ∙ ap (numberBelow 4)
+    (read! (at-number-below-arg2 .number-below-arg2 .given))) (c .before .match .keys2) (omega arith))
 
 returns-6 : tie.Need-returns-6
-returns-6 c = c .breached .ensures (c .before .before .before .before .before .before .before .before .before .before .before .before .before .before .before .args .sights .now)
+returns-6 c =
+    let at-start = c .before .before .before .before .before .before .before .before .before .before .before .before
+    .before .before .before in
+    c .breached .ensures (at-start .args .sights .now)
 
 returns-7 : tie.Need-returns-7
 returns-7 c =
-    let s = c .before .before .before .before .before .before .before .before .before .before .before .before .before .before in
-    head-other (s .args .table .now) (s .pre .3) (s .args .agreement .now) (s .args .sights .now) (c .before .number-below2 .ensures .0 ∙ ap (numberBelow 4) (read! (c .before .before .number-below-arg2 .given))) (λ e. omega (arith, c .match .rest)) (λ e. omega (arith, c .match .rest)) (λ e. omega (arith, c .match .rest))
+    let s = c .before .before .before .before .before .before .before .before .before .before .before .before
+    .before .before in head-other (s .args .table .now) (s .pre .3) (s .args .agreement .now)
+    (s .args .sights .now) (c .before .number-below2 .ensures .0 ∙ ap (numberBelow 4)
+    (read! (c .before .before .number-below-arg2 .given))) (λ e. omega (arith, c .match .rest))
+    (λ e. omega (arith, c .match .rest)) (λ e. omega (arith, c .match .rest))
 
 pub state-of-spec : {M : Type 1} → statement M
 state-of-spec = tie.close (tie.spec

@@ -6,7 +6,9 @@ use Rattle.stream.proofs.emit.Statement.{statement}
 use Rattle.stream.proofs.emit.Tie as tie
 
 slice-aggregate-write-all : tie.Need-slice-aggregate-write-all
-slice-aggregate-write-all c = sym (length-take-le (c .before .before .args .at) (c .before .before .args .out .now) (c .before .before .pre))
+slice-aggregate-write-all c =
+    let at-start = c .before .before in
+    sym (length-take-le (at-start .args .at) (at-start .args .out .now) (at-start .pre))
 
 write-all-requires : tie.Need-write-all-requires
 write-all-requires c κs = search needs

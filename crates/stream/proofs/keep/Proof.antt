@@ -11,14 +11,16 @@ use Rattle.stream.proofs.keep.Reads as reads
 use Rattle.stream.proofs.keep.Lts as lts
 
 abbrev Inv-loop : tie.InvT-loop
-Inv-loop buf₀ from to i₀ i-end buf i = (i-end ≡ to - from) × (i ≤ i-end) × (length buf ≡ length buf₀) × Moved buf₀ buf from i
+Inv-loop buf₀ from to i₀ i-end buf i = (i-end ≡ to - from) × (i ≤ i-end) × (length buf ≡ length buf₀)
+    × Moved buf₀ buf from i
 
 abbrev μ-loop : tie.MeasureT-loop
 μ-loop buf₀ from to i₀ i-end buf i = i-end - i
 
 -- src/lib.rt:109:9
 returns : tie.Need-returns Inv-loop μ-loop
-returns c = let given = c .before .args in (search needs, stays (given .buf .now) (given .from) (given .to) (c .if1 .taken))
+returns c =
+    let given = c .before .args in (search needs, stays (given .buf .now) (given .from) (given .to) (c .if1 .taken))
 
 -- src/lib.rt:111:17
 sub-i-end : tie.Need-sub-i-end Inv-loop μ-loop
@@ -26,7 +28,8 @@ sub-i-end c = search needs
 
 -- src/lib.rt:111:5
 loop-holds : tie.Need-loop-holds Inv-loop μ-loop
-loop-holds c = (search needs, search needs, search needs, moved-none (c .before .args .buf .now) (c .before .args .from))
+loop-holds c =
+    (search needs, search needs, search needs, moved-none (c .before .args .buf .now) (c .before .args .from))
 
 -- src/lib.rt:112:22
 add-buf : tie.Need-add-buf Inv-loop μ-loop
@@ -51,9 +54,15 @@ loop-less c = search needs
 -- src/lib.rt:111:5
 loop-again : tie.Need-loop-again Inv-loop μ-loop
 loop-again c =
+    let at-start = c .before .before .before .before in
     let turn = c .before .before .loop in
-    let begun = c .before .before .before .before .args in
-    (search needs, search needs, simp length-set (search needs), moved-more (begun .buf .now) (turn .buf) (begun .from) (turn .i) (turn .inv .2) (omega arith) (turn .inv .3))
+    let begun = at-start .args in (
+      search needs,
+      search needs,
+      simp length-set (search needs),
+      moved-more (begun .buf .now) (turn .buf)
+          (begun .from) (turn .i) (turn .inv .2) (omega arith) (turn .inv .3),
+    )
 
 -- src/lib.rt:114:5
 sub-result : tie.Need-sub-result Inv-loop μ-loop
@@ -66,9 +75,13 @@ same-length c = search needs
 -- src/lib.rt:104:1
 returns-2 : tie.Need-returns-2 Inv-loop μ-loop
 returns-2 c =
+    let at-start = c .before .before .before in
     let turn = c .before .loop in
-    let given = c .before .before .before .args in
-    (search needs, moved-all (given .buf .now) (turn .buf) (given .from) (given .to) (turn .i) (omega arith) (turn .inv .3))
+    let given = at-start .args in (
+      search needs,
+      moved-all (given .buf .now) (turn .buf) (given .from) (given .to) (turn .i) (omega arith)
+          (turn .inv .3),
+    )
 
 pub keep-spec : {M : Type 1} → statement M
 keep-spec =

@@ -17,19 +17,44 @@ record-size-requires c κs = search needs
 
 -- src/lib.rt:84:9
 returns : tie.Need-returns
-returns c = (next-whole (c .before .before .before .args .s .now) (c .before .before .before .args .ended) (c .before .record-size .ensures .0) (c .if1 .taken), λ w. let z : _≡_ {A = ℕ} 0 1 = cc in absurd (omega arith))
+returns c =
+    let at-start = c .before .before .before in (
+      next-whole (at-start .args .s .now) (at-start .args .ended) (c .before .record-size .ensures .0)
+          (c .if1 .taken),
+      λ w. let z : _≡_ {A = ℕ} 0 1 = cc in absurd (omega arith),
+    )
 
 -- src/lib.rt:87:9
 returns-2 : tie.Need-returns-2
-returns-2 c = (next-wait (c .before .before .before .before .args .s .now) (c .before .before .before .before .args .ended) (c .before .before .record-size .ensures .0) (c .before .if1 .left) (not-true _ (c .if2 .taken)), λ _. omega (arith, c .before .before .record-size .ensures .1))
+returns-2 c =
+    let record-size = c .before .before .record-size in
+    let at-start = c .before .before .before .before in (
+      next-wait (at-start .args .s .now) (at-start .args .ended) (record-size .ensures .0) (c .before .if1 .left)
+          (not-true _ (c .if2 .taken)),
+      λ _. omega (arith, record-size .ensures .1),
+    )
 
 -- src/lib.rt:90:9
 returns-3 : tie.Need-returns-3
-returns-3 c = (next-end (c .before .before .before .before .before .args .s .now) (c .before .before .before .before .before .args .ended) (c .before .before .before .record-size .ensures .0) (c .before .before .if1 .left) (not-false _ (c .before .if2 .left)) (c .if3 .taken), λ w. let z : _≡_ {A = ℕ} 0 1 = cc in absurd (omega arith))
+returns-3 c =
+    let at-record-size = c .before .before .before in
+    let at-start = at-record-size .before .before in (
+      next-end (at-start .args .s .now) (at-start .args .ended) (at-record-size .record-size .ensures .0)
+          (c .before .before .if1 .left) (not-false _ (c .before .if2 .left)) (c .if3 .taken),
+      λ w. let z : _≡_
+          {A = ℕ} 0 1 = cc in absurd (omega arith),
+    )
 
 -- src/lib.rt:79:1
 returns-4 : tie.Need-returns-4
-returns-4 c = (next-cut (c .before .before .before .before .before .args .s .now) (c .before .before .before .before .before .args .ended) (c .before .before .before .record-size .ensures .0) (c .before .before .if1 .left) (not-false _ (c .before .if2 .left)) (c .if3 .left), λ w. let z : _≡_ {A = ℕ} 0 1 = cc in absurd (omega arith))
+returns-4 c =
+    let at-record-size = c .before .before .before in
+    let at-start = at-record-size .before .before in (
+      next-cut (at-start .args .s .now) (at-start .args .ended) (at-record-size .record-size .ensures .0)
+          (c .before .before .if1 .left) (not-false _ (c .before .if2 .left)) (c .if3 .left),
+      λ w. let z : _≡_ {A = ℕ}
+          0 1 = cc in absurd (omega arith),
+    )
 
 pub next-record-spec : {M : Type 1} → statement M
 next-record-spec = tie.close (tie.spec record-size-requires returns returns-2 returns-3 returns-4)

@@ -31,9 +31,11 @@ same-length c = search needs
 -- src/lib.rt:140:1
 returns : tie.Need-returns
 returns c =
-    let begun = c .before .before .before .before .before in
-    let read = c .before .before .read-some in
-    (before-part (begun .args .buf .now) (read .last .0) (begun .args .at) (omega arith), comes-within (begun .args .buf .now) (begun .args .at) (read .result) (omega arith) (read .ensures))
+    let begun = c .before .before .before .before .before in let read = c .before .before .read-some in (
+      before-part (begun .args .buf .now) (read .last .0) (begun .args .at) (omega arith),
+      comes-within
+          (begun .args .buf .now) (begun .args .at) (read .result) (omega arith) (read .ensures),
+    )
 
 pub read-more-spec : {M : Type 1} → statement M
 read-more-spec =

@@ -20,7 +20,9 @@ returns c = (omega (arith, c .before .unsigned16 .ensures .0), omega arith)
 -- src/lib.rt:96:1
 returns-2 : tie.Need-returns-2
 unfolding sizeOf
-returns-2 c = (omega (arith, c .before .unsigned16 .ensures .0), omega (arith, c .before .unsigned16 .ensures .1))
+returns-2 c =
+    let unsigned16 = c .before .unsigned16 in
+    (omega (arith, unsigned16 .ensures .0), omega (arith, unsigned16 .ensures .1))
 
 pub record-size-spec : {M : Type 1} → statement M
 record-size-spec = tie.close (tie.spec unsigned16-requires returns returns-2)

@@ -8,7 +8,8 @@ use Rattle.trials.proofs.run.Tie as tie
 
 abbrev Inv-loop : tie.InvT-loop
 Inv-loop head₀ agreement₀ reading₀ table₀ out₀ t₀ counter₀ head agreement reading table out t counter =
-    (length head ≡ length head₀) × (length agreement ≡ length agreement₀) × (length reading ≡ length reading₀) × (length table ≡ length table₀) × (length out ≡ length out₀)
+    (length head ≡ length head₀) × (length agreement ≡ length agreement₀) × (length reading ≡ length reading₀)
+    × (length table ≡ length table₀) × (length out ≡ length out₀)
 
 abbrev μ-loop : tie.MeasureT-loop
 μ-loop head₀ agreement₀ reading₀ table₀ out₀ t₀ counter₀ head agreement reading table out t counter = 2 ^ 64 - counter

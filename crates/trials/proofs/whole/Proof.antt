@@ -24,7 +24,8 @@ asked (negsuc n) p h = absurd (subst T p tt)
 cast-result : tie.Need-cast-result
 cast-result c =
     let same = read (c .before .fits .z) in
-    subst Asked (sym same) (asked (c .before .args .z) (subst (λ (z : ℤ). ltZ z (pos 0) ≡ false) same (c .if1 .left)) (c .before .fits .z .sfits))
+    subst Asked (sym same) (asked (c .before .args .z) (subst (λ (z : ℤ). ltZ z (pos 0) ≡ false) same (c .if1 .left))
+    (c .before .fits .z .sfits))
 
 pub whole-spec : {M : Type 1} → statement M
 whole-spec = tie.close (tie.spec (λ c. search needs) cast-result (λ c. search needs))

@@ -17,7 +17,9 @@ enum-told-3 : tie.Need-enum-told-3
 enum-told-3 c = search needs
 
 wait-requires : tie.Need-wait-requires
-wait-requires c κs = c .before .before .before .before .pre .1 (c .before .enum-told3 .given .1)
+wait-requires c κs =
+    let at-start = c .before .before .before .before in
+    at-start .pre .1 (c .before .enum-told3 .given .1)
 
 slice-aggregate-fail : tie.Need-slice-aggregate-fail
 slice-aggregate-fail c = search needs

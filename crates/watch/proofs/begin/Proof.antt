@@ -49,11 +49,17 @@ same-length-2 c = search needs
 
 returns : tie.Need-returns
 returns c =
-    let given = c .before .before .before .before .before .before .before .before .before .before .before .before .before .before .before .before .before .args in
-    let start = c .before .before .before .before .before .before .before .before .before .before .before .before .before .start in
-    let head = c .before .before .before .before .before .before .before .put-timeless .ensures in
+    let at-number = c .before .before .before in
+    let at-put-timeless = at-number .before .before .before .before in
+    let at-why = at-put-timeless .before .before .before in
+    let at-start = at-why .before .before .before in
+    let at-start′ = at-start .before .before .before .before in
+    let given = at-start′ .args in
+    let start = at-start .start in
+    let head = at-put-timeless .put-timeless .ensures in
     let rest = c .before .before .put-refusal .ensures in
-    begins-refused (given .agreement .now) (given .table .now) (start .last .1 .0) (start .ensures) (omega (arith, head .1, rest .1)) (c .before .before .before .before .before .before .before .before .before .before .why .given .1) (c .before .before .before .number .ensures) (head .0) (rest .0)
+    begins-refused (given .agreement .now) (given .table .now) (start .last .1 .0) (start .ensures)
+    (omega (arith, head .1, rest .1)) (at-why .why .given .1) (at-number .number .ensures) (head .0) (rest .0)
 
 same-length-3 : tie.Need-same-length-3
 same-length-3 c = search needs
@@ -63,11 +69,17 @@ same-length-4 c = search needs
 
 returns-2 : tie.Need-returns-2
 returns-2 c =
-    let given = c .before .before .before .before .before .before .before .before .before .before .before .before .before .before .before .before .before .args in
-    let start = c .before .before .before .before .before .before .before .before .before .before .before .before .before .start in
-    let head = c .before .before .before .before .before .before .before .put-time .ensures in
+    let at-put-time = c .before .before .before .before .before .before .before in
+    let at-enum-told = at-put-time .before .before .before in
+    let at-start = at-enum-told .before .before .before in
+    let at-start′ = at-start .before .before .before .before in
+    let given = at-start′ .args in
+    let start = at-start .start in
+    let head = at-put-time .put-time .ensures in
     let rest = c .before .before .put-verdict .ensures in
-    begins-begun (given .agreement .now) (given .table .now) (start .last .1 .0) (start .ensures) (omega (arith, head .1, rest .1)) (c .before .before .before .before .before .before .before .before .before .before .enum-told .given .1) (c .before .before .before .before .before .before .before .before .unsigned32 .ensures .0) (head .0) (rest .0)
+    begins-begun (given .agreement .now) (given .table .now) (start .last .1 .0) (start .ensures)
+    (omega (arith, head .1, rest .1)) (at-enum-told .enum-told .given .1)
+    (at-put-time .before .unsigned32 .ensures .0) (head .0) (rest .0)
 
 pub begin-spec : {M : Type 1} → statement M
 begin-spec =

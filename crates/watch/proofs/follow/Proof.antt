@@ -45,10 +45,15 @@ same-length-2 c = search needs
 
 returns : tie.Need-returns
 returns c =
-    let given = c .before .before .before .before .before .before .before .before .before .before .before .before .before .before .args in
-    let reading = c .before .before .before .before .before .before .before .before .before .reading in
+    let at-number = c .before .before .before .before in
+    let at-reading = at-number .before .before .before .before .before in
+    let at-start = at-reading .before .before .before .before .before in
+    let given = at-start .args in
+    let reading = at-reading .reading in
     let line = c .before .before .put-refused .ensures in
-    follows-refused (given .agreement .now) (given .table .now) (reading .last .1 .0) (given .n) (given .reading .now) (given .at) (reading .ensures) (line .1) (c .before .before .before .before .before .before .why .given .1) (c .before .before .before .before .number .ensures) (line .0)
+    follows-refused (given .agreement .now) (given .table .now) (reading .last .1 .0) (given .n)
+    (given .reading .now) (given .at) (reading .ensures) (line .1) (at-number .before .before .why .given .1)
+    (at-number .number .ensures) (line .0)
 
 same-length-3 : tie.Need-same-length-3
 same-length-3 c = search needs
@@ -58,11 +63,17 @@ same-length-4 c = search needs
 
 returns-2 : tie.Need-returns-2
 returns-2 c =
-    let given = c .before .before .before .before .before .before .before .before .before .before .before .before .before .before .before .before .before .before .args in
-    let reading = c .before .before .before .before .before .before .before .before .before .before .before .before .before .reading in
-    let head = c .before .before .before .before .before .before .before .put-time .ensures in
+    let at-put-time = c .before .before .before .before .before .before .before in
+    let at-enum-told = at-put-time .before .before .before in
+    let at-reading = at-enum-told .before .before .before in
+    let at-start = at-reading .before .before .before .before .before in
+    let given = at-start .args in
+    let reading = at-reading .reading in
+    let head = at-put-time .put-time .ensures in
     let rest = c .before .before .put-verdict .ensures in
-    follows-accepted (given .agreement .now) (given .table .now) (reading .last .1 .0) (given .n) (given .reading .now) (given .at) (reading .ensures) (omega (arith, head .1, rest .1)) (c .before .before .before .before .before .before .before .before .before .before .enum-told .given .1) (c .before .before .before .before .before .before .before .before .unsigned32 .ensures .0) (head .0) (rest .0)
+    follows-accepted (given .agreement .now) (given .table .now) (reading .last .1 .0) (given .n)
+    (given .reading .now) (given .at) (reading .ensures) (omega (arith, head .1, rest .1))
+    (at-enum-told .enum-told .given .1) (at-put-time .before .unsigned32 .ensures .0) (head .0) (rest .0)
 
 pub follow-spec : {M : Type 1} → statement M
 follow-spec =

@@ -1,4 +1,5 @@
--- `look` is right: a record that was found lies within the bytes at hand, and one that is not whole leaves room for more.
+-- `look` is right: a record that was found lies within the bytes at hand, and one that is not whole leaves room for
+-- more.
 use native.Mathlib.Omega.{arith}
 use Rattle.csl.specs.Bytes.{part}
 use Rattle.arith.proofs.Lists.{length-part}
@@ -33,13 +34,33 @@ enum-told-2 : tie.Need-enum-told-2
 enum-told-2 c = search needs
 
 wait-requires : tie.Need-wait-requires
-wait-requires c κs = let begun = c .before .before .before .before .before .before .before in omega (arith, c .before .before .before .next-record .ensures .1 (c .before .enum-told2 .given .1), length-part (begun .args .buf .now) 0 (begun .args .size) (begun .pre .0), begun .pre .1)
+wait-requires c κs =
+    let at-next-record = c .before .before .before in
+    let begun = c .before .before .before .before .before .before .before in
+    omega (
+      arith,
+      at-next-record .next-record .ensures .1 (c .before .enum-told2 .given .1),
+      length-part
+          (begun .args .buf .now) 0 (begun .args .size) (begun .pre .0),
+      begun .pre .1,
+    )
 
 same-length : tie.Need-same-length
 same-length c = search needs
 
 returns : tie.Need-returns
-returns c = let begun = c .before .before .before .before .before .before .before in (omega (arith, found-within (part (begun .args .buf .now) 0 (begun .args .size)) (begun .args .ended) (c .before .before .before .next-record .ensures .0) (c .before .«record» .given .1), length-part (begun .args .buf .now) 0 (begun .args .size) (begun .pre .0)), omega (arith, begun .pre .0, begun .pre .1))
+returns c =
+    let at-next-record = c .before .before .before in
+    let begun = c .before .before .before .before .before .before .before in (
+      omega (
+        arith,
+        found-within (part (begun .args .buf .now) 0 (begun .args .size)) (begun .args .ended)
+            (at-next-record .next-record .ensures .0) (c .before .«record» .given .1),
+        length-part
+            (begun .args .buf .now) 0 (begun .args .size) (begun .pre .0),
+      ),
+      omega (arith, begun .pre .0, begun .pre .1),
+    )
 
 same-length-2 : tie.Need-same-length-2
 same-length-2 c = search needs

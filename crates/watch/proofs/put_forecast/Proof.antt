@@ -52,10 +52,16 @@ same-length c = search needs
 returns : tie.Need-returns
 unfolding fields forecastFields
 returns c =
-    let time = c .before .before .before .before .before .before .before .before .before .before .before .put-next .ensures in
-    let parties = c .before .before .before .before .before .before .before .put-next2 .ensures in
-    let end = c .before .before .put-bytes .ensures in
-    (same-put (ap (λ f. fields (forecastFields (forecastAnswer f))) (sym (c .before .before .before .before .before .before .before .before .before .before .before .before .before .before .foretold .given .1))) (then (time .0) (then (parties .0) end)), omega (arith, time .1, parties .1, end .place))
+    let at-put-next2 = c .before .before .before .before .before .before .before in
+    let at-put-next = at-put-next2 .before .before .before .before in
+    let at-foretold = at-put-next .before .before .before in
+    let time = at-put-next .put-next .ensures in
+    let parties = at-put-next2 .put-next2 .ensures in
+    let end = c .before .before .put-bytes .ensures in (
+      same-put (ap (λ f. fields (forecastFields (forecastAnswer f))) (sym (at-foretold .foretold .given .1)))
+          (then (time .0) (then (parties .0) end)),
+      omega (arith, time .1, parties .1, end .place),
+    )
 
 same-length-2 : tie.Need-same-length-2
 same-length-2 c = search needs
@@ -63,8 +69,11 @@ same-length-2 c = search needs
 returns-2 : tie.Need-returns-2
 unfolding fields forecastFields
 returns-2 c =
-    let none = c .before .before .put-bytes2 .ensures in
-    (same-put (ap (λ f. fields (forecastFields (forecastAnswer f))) (sym (c .before .before .before .before .before .enum-told .given .1))) none, omega (arith, none .place))
+    let at-enum-told = c .before .before .before .before .before in
+    let none = c .before .before .put-bytes2 .ensures in (
+      same-put (ap (λ f. fields (forecastFields (forecastAnswer f))) (sym (at-enum-told .enum-told .given .1))) none,
+      omega (arith, none .place),
+    )
 
 same-length-3 : tie.Need-same-length-3
 same-length-3 c = search needs
@@ -72,8 +81,12 @@ same-length-3 c = search needs
 returns-3 : tie.Need-returns-3
 unfolding fields forecastFields
 returns-3 c =
-    let end = c .before .before .put-bytes3 .ensures in
-    (same-put (ap (λ f. fields (forecastFields (forecastAnswer f))) (sym (c .before .before .before .before .before .enum-told2 .given .1))) end, omega (arith, end .place))
+    let at-enum-told2 = c .before .before .before .before .before in
+    let end = c .before .before .put-bytes3 .ensures in (
+      same-put (ap (λ f. fields (forecastFields (forecastAnswer f))) (sym (at-enum-told2 .enum-told2 .given .1)))
+          end,
+      omega (arith, end .place),
+    )
 
 pub put-forecast-spec : {M : Type 1} → statement M
 put-forecast-spec =

@@ -27,11 +27,17 @@ same-length c = search needs
 
 returns : tie.Need-returns
 returns c =
-    let given = c .before .before .before .before .before .before .before .before .before .before .before .args in
-    let head = c .before .before .before .before .before .before .put-timeless .ensures in
+    let at-put-timeless = c .before .before .before .before .before .before in
+    let at-start = at-put-timeless .before .before .before .before .before in
+    let given = at-start .args in
+    let head = at-put-timeless .put-timeless .ensures in
     let rest = c .before .before .put-refusal .ensures in
-    let dash = time-dash (given .reading .now) (given .number) (c .before .before .before .before .before .before .before .before .if1 .taken) in
-    (line-put (given .n) (readingTime (given .reading .now) (given .number)) (refusalFields (given .number)) (same-put (ap (λ f. decimal (given .n) ++ (space ∷ f)) dash) (head .0)) (rest .0), omega (arith, head .1, rest .1))
+    let dash = time-dash (given .reading .now) (given .number) (at-put-timeless .before .before .if1 .taken) in (
+      line-put (given .n) (readingTime (given .reading .now) (given .number)) (refusalFields (given .number))
+          (same-put (ap (λ f. decimal (given .n) ++ (space ∷ f)) dash) (head .0)) (rest .0),
+      omega
+          (arith, head .1, rest .1),
+    )
 
 unsigned32-requires : tie.Need-unsigned32-requires
 unsigned32-requires c κs = search needs
@@ -47,11 +53,19 @@ same-length-2 c = search needs
 
 returns-2 : tie.Need-returns-2
 returns-2 c =
-    let given = c .before .before .before .before .before .before .before .before .before .before .before .before .args in
-    let head = c .before .before .before .before .before .before .put-time .ensures in
+    let at-put-time = c .before .before .before .before .before .before in
+    let at-if1 = at-put-time .before .before .before in
+    let at-start = at-if1 .before .before .before in
+    let given = at-start .args in
+    let head = at-put-time .put-time .ensures in
     let rest = c .before .before .put-refusal2 .ensures in
-    let time = time-told (given .reading .now) (given .number) (c .before .before .before .before .before .before .before .unsigned32 .ensures .0) (c .before .before .before .before .before .before .before .before .before .if1 .left) in
-    (line-put (given .n) (readingTime (given .reading .now) (given .number)) (refusalFields (given .number)) (same-put (ap (λ f. decimal (given .n) ++ (space ∷ f)) time) (head .0)) (rest .0), omega (arith, head .1, rest .1))
+    let time = time-told (given .reading .now) (given .number) (at-put-time .before .unsigned32 .ensures .0)
+    (at-if1 .if1 .left) in (
+      line-put (given .n) (readingTime (given .reading .now) (given .number)) (refusalFields (given .number))
+          (same-put (ap (λ f. decimal (given .n) ++ (space ∷ f)) time) (head .0)) (rest .0),
+      omega
+          (arith, head .1, rest .1),
+    )
 
 pub put-refused-spec : {M : Type 1} → statement M
 put-refused-spec =

@@ -19,7 +19,11 @@ same-length : tie.Need-same-length
 same-length c = search needs
 
 returns : tie.Need-returns
-returns c = let number = c .before .before .before .before .before .before .put-decimal .ensures in let time = c .before .before .put-next .ensures in (then (number .0) (time .0), omega (arith, number .1, time .1))
+returns c =
+    let at-put-decimal = c .before .before .before .before .before .before in
+    let number = at-put-decimal .put-decimal .ensures in
+    let time = c .before .before .put-next .ensures in
+    (then (number .0) (time .0), omega (arith, number .1, time .1))
 
 pub put-time-spec : {M : Type 1} → statement M
 put-time-spec = tie.close (tie.spec put-decimal-requires put-next-requires same-length returns)

@@ -22,7 +22,11 @@ same-length : tie.Need-same-length
 same-length c = search needs
 
 returns : tie.Need-returns
-returns c = let number = c .before .before .before .before .before .before .before .put-decimal .ensures in let dash = c .before .before .put-bytes .ensures in (then (number .0) dash, omega (arith, number .1, dash .place))
+returns c =
+    let at-put-decimal = c .before .before .before .before .before .before .before in
+    let number = at-put-decimal .put-decimal .ensures in
+    let dash = c .before .before .put-bytes .ensures in
+    (then (number .0) dash, omega (arith, number .1, dash .place))
 
 pub put-timeless-spec : {M : Type 1} → statement M
 put-timeless-spec =

@@ -34,10 +34,14 @@ same-length c = search needs
 returns : tie.Need-returns
 unfolding fields
 returns c =
-    let given = c .before .before .before .before .before .before .before .before .before .before .args in
-    let state = c .before .before .before .before .before .before .before .state-of in
+    let at-if1 = c .before .before .before .before .before in
+    let at-start = at-if1 .before .before .before .before .before in
+    let given = at-start .args in
+    let state = at-if1 .before .before .state-of in
     let word = c .before .before .put-bytes .ensures in
-    let is = verdict-done (given .agreement .now) (given .table .now) (read! {z = state .result} (state .ok) ∙ state .ensures) (c .before .before .before .before .before .before .equal .ensures) (c .before .before .before .before .before .if1 .taken) in
+    let is = verdict-done (given .agreement .now) (given .table .now)
+    (read! {z = state .result} (state .ok) ∙ state .ensures) (at-if1 .before .equal .ensures)
+    (at-if1 .if1 .taken) in
     (same-put (ap fields is) word, omega (arith, word .place))
 
 forecast-requires : tie.Need-forecast-requires
@@ -61,11 +65,18 @@ same-length-2 c = search needs
 returns-2 : tie.Need-returns-2
 unfolding fields
 returns-2 c =
-    let given = c .before .before .before .before .before .before .before .before .before .before .before .before .before .before .before .before .before .args in
-    let state = c .before .before .before .before .before .before .before .before .before .before .before .before .before .before .state-of in
-    let word = c .before .before .before .before .before .before .put-bytes2 .ensures in
+    let at-put-bytes2 = c .before .before .before .before .before .before in
+    let at-if2 = at-put-bytes2 .before .before .before in
+    let at-if1 = at-if2 .before .before .before in
+    let at-start = at-if1 .before .before .before .before .before in
+    let given = at-start .args in
+    let state = at-if1 .before .before .state-of in
+    let word = at-put-bytes2 .put-bytes2 .ensures in
     let rest = c .before .before .put-forecast .ensures in
-    let is = verdict-live (given .agreement .now) (given .table .now) (read! {z = state .result} (state .ok) ∙ state .ensures) (c .before .before .before .before .before .before .before .before .before .before .before .before .before .equal .ensures) (c .before .before .before .before .before .before .before .before .before .before .before .forecast .ensures) (c .before .before .before .before .before .before .before .before .before .before .before .before .if1 .left) (c .before .before .before .before .before .before .before .before .before .before .equal2 .ensures) (c .before .before .before .before .before .before .before .before .before .if2 .taken) in
+    let is = verdict-live (given .agreement .now) (given .table .now)
+    (read! {z = state .result} (state .ok) ∙ state .ensures) (at-if1 .before .equal .ensures)
+    (at-if2 .before .before .forecast .ensures) (at-if1 .if1 .left) (at-if2 .before .equal2 .ensures)
+    (at-if2 .if2 .taken) in
     (same-put (ap fields is) (then word (rest .0)), omega (arith, word .place, rest .1))
 
 slice-aggregate-put-bytes-3 : tie.Need-slice-aggregate-put-bytes-3
@@ -83,11 +94,18 @@ same-length-3 c = search needs
 returns-3 : tie.Need-returns-3
 unfolding fields
 returns-3 c =
-    let given = c .before .before .before .before .before .before .before .before .before .before .before .before .before .before .before .before .before .args in
-    let state = c .before .before .before .before .before .before .before .before .before .before .before .before .before .before .state-of in
-    let word = c .before .before .before .before .before .before .put-bytes3 .ensures in
+    let at-put-bytes3 = c .before .before .before .before .before .before in
+    let at-if2 = at-put-bytes3 .before .before .before in
+    let at-if1 = at-if2 .before .before .before in
+    let at-start = at-if1 .before .before .before .before .before in
+    let given = at-start .args in
+    let state = at-if1 .before .before .state-of in
+    let word = at-put-bytes3 .put-bytes3 .ensures in
     let rest = c .before .before .put-forecast2 .ensures in
-    let is = verdict-breach (given .agreement .now) (given .table .now) (read! {z = state .result} (state .ok) ∙ state .ensures) (c .before .before .before .before .before .before .before .before .before .before .before .before .before .equal .ensures) (c .before .before .before .before .before .before .before .before .before .before .before .forecast .ensures) (c .before .before .before .before .before .before .before .before .before .before .before .before .if1 .left) (c .before .before .before .before .before .before .before .before .before .before .equal2 .ensures) (c .before .before .before .before .before .before .before .before .before .if2 .left) in
+    let is = verdict-breach (given .agreement .now) (given .table .now)
+    (read! {z = state .result} (state .ok) ∙ state .ensures) (at-if1 .before .equal .ensures)
+    (at-if2 .before .before .forecast .ensures) (at-if1 .if1 .left) (at-if2 .before .equal2 .ensures)
+    (at-if2 .if2 .left) in
     (same-put (ap fields is) (then word (rest .0)), omega (arith, word .place, rest .1))
 
 pub put-verdict-spec : {M : Type 1} → statement M

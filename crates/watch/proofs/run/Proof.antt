@@ -11,7 +11,8 @@ use Rattle.watch.proofs.serve.Reads as serve-reads
 
 abbrev Inv-loop : tie.InvT-loop
 Inv-loop agreement table₀ buf₀ held over out₀ size₀ ended₀ line₀ turn₀ table buf out size ended line turn =
-    (length table ≡ length table₀) × (length buf ≡ length buf₀) × (length out ≡ length out₀) × (size ≤ length buf) × (line ≤ 65_536 * turn + 1)
+    (length table ≡ length table₀) × (length buf ≡ length buf₀) × (length out ≡ length out₀) × (size ≤ length buf)
+    × (line ≤ 65_536 * turn + 1)
 
 abbrev μ-loop : tie.MeasureT-loop
 μ-loop agreement table₀ buf₀ held over out₀ size₀ ended₀ line₀ turn₀ table buf out size ended line turn =

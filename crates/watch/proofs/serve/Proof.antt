@@ -50,10 +50,23 @@ keep-requires c κs = search needs
 
 await-more-requires : tie.Need-await-more-requires
 await-more-requires c κs =
-    let begun = c .before .before .before .before .before .before .before .before .before .before .before .before .before .before .before .before .before .before .before in
-    let drained = c .before .before .before .before .before .before .before .before .before .before .before .drain in
-    let kept = c .before .before .before .keep in
-    (omega (arith, kept .ensures .0, kept .kept, begun .pre .0), λ e. omega (arith, kept .ensures .0, kept .kept, drained .ensures .waits e .2, left-length (begun .args .buf .now) (begun .args .size) (drained .result .from) (begun .pre .0), begun .pre .1))
+    let at-keep = c .before .before .before in
+    let at-drain = at-keep .before .before .before .before .before .before .before .before in
+    let begun = c .before .before .before .before .before .before .before .before .before .before .before .before
+    .before .before .before .before .before .before .before in
+    let drained = at-drain .drain in
+    let kept = at-keep .keep in (
+      omega (arith, kept .ensures .0, kept .kept, begun .pre .0),
+      λ e. omega (
+        arith,
+        kept .ensures .0,
+        kept .kept,
+        drained .ensures .waits e .2,
+        left-length (begun .args .buf .now)
+            (begun .args .size) (drained .result .from) (begun .pre .0),
+        begun .pre .1,
+      ),
+    )
 
 same-length-4 : tie.Need-same-length-4
 same-length-4 c = search needs

@@ -34,7 +34,14 @@ enum-known-size : tie.Need-enum-known-size
 enum-known-size c = search needs
 
 add-e : tie.Need-add-e
-add-e c = let begun = c .before .before .before .before .before .before .before .before in omega (arith, ends (begun .args .input .now) (begun .args .ended) (begun .args .from) (c .before .before .before .next-record .ensures .0) (begun .pre .0) (c .before .size .given .1))
+add-e c =
+    let at-next-record = c .before .before .before in
+    let begun = c .before .before .before .before .before .before .before .before in
+    omega (
+      arith,
+      ends (begun .args .input .now) (begun .args .ended) (begun .args .from)
+          (at-next-record .next-record .ensures .0) (begun .pre .0) (c .before .size .given .1),
+    )
 
 sub-follow : tie.Need-sub-follow
 sub-follow c = search needs
@@ -43,7 +50,14 @@ part-follow-start : tie.Need-part-follow-start
 part-follow-start c = search needs
 
 part-follow-end : tie.Need-part-follow-end
-part-follow-end c = let begun = c .before .before .before .before .before .before .before .before .before in omega (arith, ends (begun .args .input .now) (begun .args .ended) (begun .args .from) (c .before .before .before .before .next-record .ensures .0) (begun .pre .0) (c .before .before .size .given .1))
+part-follow-end c =
+    let at-next-record = c .before .before .before .before in
+    let begun = c .before .before .before .before .before .before .before .before .before in
+    omega (
+      arith,
+      ends (begun .args .input .now) (begun .args .ended) (begun .args .from)
+          (at-next-record .next-record .ensures .0) (begun .pre .0) (c .before .before .size .given .1),
+    )
 
 follow-requires : tie.Need-follow-requires
 follow-requires c κs = search needs
@@ -53,23 +67,41 @@ stage-after-requires c κs = search needs
 
 add-t29 : tie.Need-add-t29
 add-t29 c =
-    let begun = c .before .before .before .before .before .before .before .before .before .before .before .before .before .before .before .before in
-    let within = ends (begun .args .input .now) (begun .args .ended) (begun .args .from) (c .before .before .before .before .before .before .before .before .before .before .before .next-record .ensures .0) (begun .pre .0) (c .before .before .before .before .before .before .before .before .before .size .given .1) in
-    omega (arith, within, some (begun .args .input .now) (begun .args .ended) (begun .args .from) (c .before .before .before .before .before .before .before .before .before .before .before .next-record .ensures .0) (begun .pre .0) (c .before .before .before .before .before .before .before .before .before .size .given .1), begun .pre .2)
+    let at-size = c .before .before .before .before .before .before .before .before .before in
+    let next-record = at-size .before .before .next-record in
+    let begun = c .before .before .before .before .before .before .before .before .before .before .before .before
+    .before .before .before .before in
+    let within = ends (begun .args .input .now) (begun .args .ended) (begun .args .from) (next-record .ensures .0)
+    (begun .pre .0) (at-size .size .given .1) in
+    omega (
+      arith,
+      within,
+      some (begun .args .input .now) (begun .args .ended) (begun .args .from)
+          (next-record .ensures .0) (begun .pre .0) (at-size .size .given .1),
+      begun .pre .2,
+    )
 
 returns : tie.Need-returns
 returns c =
-    let begun = c .before .before .before .before .before .before .before in
-    let given = begun .args in
-    let next = c .before .before .next-record .ensures in
-    (wait-turns (given .input .now) (given .ended) (given .from) (next .0) (begun .pre .0) (given .agreement .now) (given .table .now) (given .line) (given .out .now) (given .at) (omega (arith, begun .pre .1)) (c .enum-told .given .1) (next .1), λ e. let z : _≡_ {A = ℕ} 0 1 = cc in absurd (omega arith))
+    let begun = c .before .before .before .before .before .before .before in let given = begun .args in let next =
+    c .before .before .next-record .ensures in (
+      wait-turns (given .input .now) (given .ended) (given .from) (next .0) (begun .pre .0)
+          (given .agreement .now) (given .table .now) (given .line) (given .out .now) (given .at)
+          (omega (arith, begun .pre .1)) (c .enum-told .given .1) (next .1),
+      λ e. let z : _≡_ {A = ℕ} 0 1 = cc in
+          absurd (omega arith),
+    )
 
 returns-2 : tie.Need-returns-2
 returns-2 c =
-    let begun = c .before .before .before .before .before .before .before in
-    let given = begun .args in
-    let next = c .before .before .next-record .ensures in
-    (end-turns (given .input .now) (given .ended) (given .from) (next .0) (begun .pre .0) (given .agreement .now) (given .table .now) (given .line) (given .out .now) (given .at) (omega (arith, begun .pre .1)) (c .enum-told2 .given .1), λ e. let z : _≡_ {A = ℕ} 0 1 = cc in absurd (omega arith))
+    let begun = c .before .before .before .before .before .before .before in let given = begun .args in let next =
+    c .before .before .next-record .ensures in (
+      end-turns (given .input .now) (given .ended) (given .from) (next .0) (begun .pre .0)
+          (given .agreement .now) (given .table .now) (given .line) (given .out .now) (given .at)
+          (omega (arith, begun .pre .1)) (c .enum-told2 .given .1),
+      λ e. let z : _≡_ {A = ℕ} 0 1 = cc in absurd
+          (omega arith),
+    )
 
 same-length : tie.Need-same-length
 same-length c = search needs
@@ -79,12 +111,20 @@ same-length-2 c = search needs
 
 returns-3 : tie.Need-returns-3
 returns-3 c =
-    let begun = c .before .before .before .before .before .before .before .before .before .before .before .before .before .before .before .before in
+    let at-follow = c .before .before .before .before in
+    let at-size = at-follow .before .before .before .before .before in
+    let begun = c .before .before .before .before .before .before .before .before .before .before .before .before
+    .before .before .before .before in
     let given = begun .args in
-    let next = c .before .before .before .before .before .before .before .before .before .before .before .next-record .ensures in
-    let found = c .before .before .before .before .before .before .before .before .before .size .given .1 in
-    let follow = c .before .before .before .before .follow in
-    (record-turns (given .input .now) (given .ended) (given .from) (next .0) (begun .pre .0) found (given .agreement .now) (given .table .now) (follow .last .1 .0) (given .line) (given .out .now) (given .at) (follow .last .1 .1 .1 .0) (follow .result) (follow .ensures) (c .stage-after .ensures) (begun .pre .1), λ e. omega (arith, some (given .input .now) (given .ended) (given .from) (next .0) (begun .pre .0) found))
+    let next = at-size .before .before .next-record .ensures in
+    let found = at-size .size .given .1 in
+    let follow = at-follow .follow in (
+      record-turns (given .input .now) (given .ended) (given .from) (next .0) (begun .pre .0) found
+          (given .agreement .now) (given .table .now) (follow .last .1 .0) (given .line) (given .out .now) (given .at)
+          (follow .last .1 .1 .1 .0) (follow .result) (follow .ensures) (c .stage-after .ensures) (begun .pre .1),
+      λ
+          e. omega (arith, some (given .input .now) (given .ended) (given .from) (next .0) (begun .pre .0) found),
+    )
 
 pub step-spec : {M : Type 1} → statement M
 step-spec =

@@ -16,7 +16,14 @@ enum-known-n : tie.Need-enum-known-n
 enum-known-n c = search needs
 
 add-t8 : tie.Need-add-t8
-add-t8 c = let begun = c .before .before .before .before .before .before .before .before in omega (arith, came (begun .args .size) (length (begun .args .buf .now)) (c .before .before .before .before .before .read-more .ensures .1) (c .before .n .given .1))
+add-t8 c =
+    let at-read-more = c .before .before .before .before .before in
+    let begun = c .before .before .before .before .before .before .before .before in
+    omega (
+      arith,
+      came (begun .args .size) (length (begun .args .buf .now)) (at-read-more .read-more .ensures .1)
+          (c .before .n .given .1),
+    )
 
 enum-told : tie.Need-enum-told
 enum-told c = search needs
@@ -28,7 +35,11 @@ same-length : tie.Need-same-length
 same-length c = search needs
 
 returns : tie.Need-returns
-returns c = let begun = c .before .before .before .before .before .before .before .before in let read = c .before .before .before .before .before .read-more .ensures in (read .0, came (begun .args .size) (length (begun .args .buf .now)) (read .1) (c .before .n .given .1))
+returns c =
+    let at-read-more = c .before .before .before .before .before in
+    let begun = c .before .before .before .before .before .before .before .before in
+    let read = at-read-more .read-more .ensures in
+    (read .0, came (begun .args .size) (length (begun .args .buf .now)) (read .1) (c .before .n .given .1))
 
 same-length-2 : tie.Need-same-length-2
 same-length-2 c = search needs

@@ -9,10 +9,24 @@ use Rattle.rules.proofs.across.join_kind.Statement.{statement}
 use Rattle.rules.proofs.across.join_kind.Tie as tie
 
 returns : tie.Need-returns
-returns c = (omega arith, omega arith, kind-both _ (sort-is (getD (c .before .before .before .args .table .now) 0 (pos 0)) (c .before .before .sort .given) (c .before .equal .ensures) ∙ c .if1 .taken))
+returns c =
+    let at-start = c .before .before .before in (
+      omega arith,
+      omega arith,
+      kind-both _
+          (sort-is (getD (at-start .args .table .now) 0 (pos 0)) (c .before .before .sort .given)
+          (c .before .equal .ensures) ∙ c .if1 .taken),
+    )
 
 returns-2 : tie.Need-returns-2
-returns-2 c = (omega arith, omega arith, kind-either _ (sort-is (getD (c .before .before .before .args .table .now) 0 (pos 0)) (c .before .before .sort .given) (c .before .equal .ensures) ∙ c .if1 .left))
+returns-2 c =
+    let at-start = c .before .before .before in (
+      omega arith,
+      omega arith,
+      kind-either _
+          (sort-is (getD (at-start .args .table .now) 0 (pos 0)) (c .before .before .sort .given)
+          (c .before .equal .ensures) ∙ c .if1 .left),
+    )
 
 pub join-kind-spec : {M : Type 1} → statement M
 join-kind-spec = tie.close (tie.spec (λ c. search needs) (λ c κs. search needs) returns returns-2)

@@ -7,7 +7,9 @@ use Rattle.rules.proofs.across.waits.Statement.{statement}
 use Rattle.rules.proofs.across.waits.Tie as tie
 
 returns : tie.Need-returns
-returns c = sort-below (getD (c .before .before .args .table .now) 0 (pos 0)) (c .before .sort .given) (c .less .ensures)
+returns c =
+    let at-start = c .before .before in
+    sort-below (getD (at-start .args .table .now) 0 (pos 0)) (c .before .sort .given) (c .less .ensures)
 
 pub waits-spec : {M : Type 1} → statement M
 waits-spec = tie.close (tie.spec (λ c. search needs) (λ c κs. search needs) returns)

@@ -8,8 +8,16 @@ use Rattle.rules.proofs.settle.put_head.Tie as tie
 
 returns : tie.Need-returns
 returns c =
-    let s = c .before .before .before .before in
-    rw (s .pre .0, read (s .fits .state), read (s .fits .time), read (s .fits .breach), cell-of (s .args .parties) (omega arith), cell-of (s .args .used) (omega arith)) at (c .before .fill .ensures)
+    let s = c .before .before .before .before in rw (
+      s .pre .0,
+      read (s .fits .state),
+      read (s .fits .time),
+      read (s .fits .breach),
+      cell-of (s .args .parties)
+          (omega arith),
+      cell-of (s .args .used) (omega arith),
+    ) at (c .before .fill .ensures)
 
 pub put-head-spec : {M : Type 1} → statement M
-put-head-spec = tie.close (tie.spec (λ c. search needs) (λ c. search needs) (λ c. search needs) (λ c κs. search needs) (λ c. search needs) returns)
+put-head-spec = tie.close (tie.spec (λ c. search needs) (λ c. search needs) (λ c. search needs) (λ c κs. search needs)
+    (λ c. search needs) returns)
