@@ -111,7 +111,7 @@ session-is s {more = more} (over {cells₂ = vs} {input = input} {out₂ = out�
     w ∙ ap (λ l. take (t .at) out₂ ++ l) (session-is s rest (λ _. m))
     ∙ sym (drained c more h ∙ ap (λ g. take (t .at) out₂ ++ left g s vs (t .line) (drop (t .from) input ++ more)) e)
 
--- ---- the start's line, and then the session if the start was accepted
+-- ---- the start's line, and then the calls of `drain` if the start was accepted
 module _ {s : List ℕ} {cells cells₂ : List ℤ} {out₂ : List ℕ} {t : Told} (c : BeginCall s cells cells₂ out₂ t) where
   first-line : take (t .at) out₂ ≡ startLine s (startOf s cells)
   first-line = rw (sym (c .puts), sym (c .agreement), sym (c .table)) (c .meets .line .kept)
