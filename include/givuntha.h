@@ -137,7 +137,7 @@ enum givuntha_unit {
 
 /*
  * Stack for a call on x86-64. bench/stack derives from the compiled code that no call takes more; the deepest that we
- * could build, a reading, takes 334,751 bytes.
+ * built, a reading, takes 334,751 bytes.
  */
 #define GIVUNTHA_STACK_BYTES 524288
 

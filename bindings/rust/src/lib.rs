@@ -29,7 +29,7 @@
 //! # Ok::<(), Refusal>(())
 //! ```
 //!
-//! [`STACK`] bytes of stack are enough for every call; the deepest that we could build takes 334,751. The stacks of the
+//! [`STACK`] bytes of stack are enough for every call; the deepest that we built takes 334,751. The stacks of the
 //! main thread and of threads that the standard library makes are larger. Where the stack is too small the program is stopped, as at any
 //! overflow.
 
