@@ -24,16 +24,17 @@ use Rattle.bridge.proofs.Tables as bridge
 use Rattle.bridge.proofs.Tables.{unitsIn}
 use Rattle.bridge.proofs.Refusals.{answer, start-refused, start-six}
 use Rattle.bridge.proofs.Entries.{keptCells, start-reduce}
-use Rattle.rules.specs.Reduces.{Is}
-use Rattle.rules.specs.Units as rules
-use Rattle.rules.specs.Units.{Settles, unitsOf, bitsIn}
-use Rattle.rules.specs.Leads.{Ready, Fits, reduceAt, reduceBelow}
-use Rattle.rules.specs.declared.Event.{Event}
-use Rattle.rules.specs.declared.Site.{Site}
-use Rattle.rules.specs.declared.Step.the-variants.{Activate}
-use Rattle.rules.specs.declared.Reduced.{Reduced}
-use Rattle.rules.specs.declared.Reduced.the-variants.{Done, Breach, Running}
-use Rattle.rules.proofs.Few.{reduce-few, answer-few}
+use Rattle.residues.specs.Reduces.{Is}
+use Rattle.settling.specs.Settles as settling
+use Rattle.settling.specs.Settles.{Settles}
+use Rattle.residues.specs.Reduces.{unitsOf, bitsIn}
+use Rattle.activation.specs.Leads.{Ready, Fits, reduceAt, reduceBelow}
+use Rattle.waits.specs.declared.Event.{Event}
+use Rattle.activation.specs.declared.Site.{Site}
+use Rattle.waits.specs.declared.Step.the-variants.{Activate}
+use Rattle.residues.specs.declared.Reduced.{Reduced}
+use Rattle.residues.specs.declared.Reduced.the-variants.{Done, Breach, Running}
+use Rattle.residues.proofs.Few.{reduce-few, answer-few}
 use Rattle.monitor.specs.declared.Checked.{Checked}
 use Rattle.monitor.specs.declared.Checked.the-variants.{Accepted, Refused}
 use Rattle.monitor.specs.declared.Refusal.{Refusal}
@@ -112,8 +113,8 @@ module _ (out : List ℤ) where
   few-units (cells.running cs) (Breach t b) i h = absurd i
   few-units (cells.running cs) (Running n) i h = le-ltb 128 (length cs / 24) (within (i .units) (i .count) (i .size) h)
 
-same-table : (now : ℕ) (x : cells.Reduced) → rules.reducedTable now x ≡ bridge.reducedTable now x
-unfolding rules.reducedTable bridge.reducedTable
+same-table : (now : ℕ) (x : cells.Reduced) → settling.reducedTable now x ≡ bridge.reducedTable now x
+unfolding settling.reducedTable bridge.reducedTable
 same-table now cells.done = refl
 same-table now (cells.breach t b) = refl
 same-table now (cells.running cs) = refl

@@ -40,15 +40,16 @@ use Rattle.bridge.proofs.Entries.{reading-running}
 use Rattle.readings.specs.Taking.{TakenIs, UntypedRead, FittingRead}
 use Rattle.readings.specs.declared.Taken.{Taken as Fitting}
 use Rattle.readings.specs.declared.Taken.the-variants.{Malformed, Untyped, Fits}
-use Rattle.rules.specs.Parts.{modeAt}
-use Rattle.rules.specs.Reduces.{Is}
-use Rattle.rules.specs.Units.{Settles, unitsOf, bitsIn}
-use Rattle.rules.specs.Tree.{Tree, treeReduced}
-use Rattle.rules.specs.declared.Event.{Event}
-use Rattle.rules.specs.declared.Step.the-variants.{Follow}
-use Rattle.rules.specs.declared.Reduced.{Reduced}
-use Rattle.rules.proofs.Few.{outcome-few, answer-few}
-use Rattle.rules.proofs.Trees.{tree-only}
+use Rattle.waits.specs.Fates.{modeAt}
+use Rattle.residues.specs.Reduces.{Is}
+use Rattle.settling.specs.Settles.{Settles}
+use Rattle.residues.specs.Reduces.{unitsOf, bitsIn}
+use Rattle.walk.specs.Tree.{Tree, treeReduced}
+use Rattle.waits.specs.declared.Event.{Event}
+use Rattle.waits.specs.declared.Step.the-variants.{Follow}
+use Rattle.residues.specs.declared.Reduced.{Reduced}
+use Rattle.residues.proofs.Few.{outcome-few, answer-few}
+use Rattle.walk.proofs.Trees.{tree-only}
 use Rattle.units.specs.Units.{sightNumbers}
 use Rattle.state.specs.Shown.{RunShows, RunningAs, BreachedAs, Shows, runIn}
 use Rattle.state.specs.declared.State.{State}

@@ -22,12 +22,12 @@ use Rattle.places.specs.Locate.{mainsOf}
 use Rattle.bridge.proofs.Across.{forecast-across}
 use Rattle.bridge.proofs.Refusals.{forecast-refused, forecast-six, forecast-seven}
 use Rattle.bridge.proofs.Entries.{foretold, forecast-done, forecast-breach, forecast-running}
-use Rattle.rules.specs.Reduces.{Is}
-use Rattle.rules.specs.Tree.{treeReduced}
-use Rattle.rules.specs.declared.Reduced.{Reduced}
-use Rattle.rules.specs.declared.Reduced.the-variants.{Done, Breach, Running}
-use Rattle.rules.proofs.Reduces.{is-done, is-breach, is-running}
-use Rattle.rules.proofs.Trees.{tree-only}
+use Rattle.residues.specs.Reduces.{Is}
+use Rattle.walk.specs.Tree.{treeReduced}
+use Rattle.residues.specs.declared.Reduced.{Reduced}
+use Rattle.residues.specs.declared.Reduced.the-variants.{Done, Breach, Running}
+use Rattle.residues.proofs.Reduces.{is-done, is-breach, is-running}
+use Rattle.walk.proofs.Trees.{tree-only}
 use Rattle.state.specs.Shown.{RunningAs, Shows, runIn}
 use Rattle.state.specs.declared.State.{State}
 use Rattle.state.specs.declared.State.the-variants.{Damaged, Fulfilled, Breached}

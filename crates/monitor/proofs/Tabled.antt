@@ -28,8 +28,8 @@ use Rattle.soundness.proofs.ReadBack.{runOf-good, table-back}
 use Rattle.cells.specs.Across.{natOf}
 use Rattle.places.proofs.Found.{found-is}
 use Rattle.bridge.proofs.Across.{FoundIs, sightAt, sightsOf}
-use Rattle.rules.specs.Units.{Waiting}
-use Rattle.rules.specs.Tree.{TreeOf, Tree}
+use Rattle.walk.specs.Tree.{Waiting}
+use Rattle.walk.specs.Tree.{TreeOf, Tree}
 use Rattle.units.specs.Units.{sightNumbers}
 
 -- ---- the place of a clause that is found lies within the agreement

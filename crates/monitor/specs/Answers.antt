@@ -17,8 +17,8 @@ use Rattle.csl.specs.Run.{Raw, rawReading, typedReading}
 use Rattle.csl.specs.Table.{cellsOf}
 use Rattle.records.specs.Index.{Indexed}
 use Rattle.cells.specs.Reduce as cells
-use Rattle.rules.specs.declared.Event.{Event}
-use Rattle.rules.specs.declared.Step.the-variants.{Follow}
+use Rattle.waits.specs.declared.Event.{Event}
+use Rattle.waits.specs.declared.Step.the-variants.{Follow}
 use Rattle.state.specs.declared.State.{State}
 use Rattle.state.specs.declared.State.the-variants.{Damaged, Running, Fulfilled, Breached}
 use Rattle.monitor.specs.declared.Refusal.{Refusal}

@@ -8,25 +8,25 @@ ghost use lib.Signed.{_≤ℤ_};
 ghost use Rattle.csl.specs.Check.{checkOf};
 ghost use Rattle.csl.specs.Entries.{startOf, readingOf, forecastOf};
 ghost use Rattle.records.specs.Index.{Indexed};
-ghost use Rattle.rules.specs.Reduces.{Is};
+ghost use Rattle.residues.specs.Reduces.{Is};
 ghost use Rattle.state.specs.Shown.{RunningAs, Shows, runIn};
 ghost use Rattle.monitor.specs.Answers.{numberOf, checkAnswer, startAnswer, takenAnswer, forecastAnswer, Goes, Verified, mainReduced, Opened, Fitted, isDamaged};
+use activation::Site;
+use activation::activate;
 use arith::byte;
 use arith::less;
 use arith::unsigned32;
 use readings::Taken as Fitting;
 use records::main_place;
-use rules::Event;
-use rules::Reduced;
-use rules::Site;
-use rules::Step;
-use rules::across::across;
-use rules::across::units_of;
-use rules::activate;
-use rules::settle::settle;
+use residues::Reduced;
+use residues::units_of;
+use settling::settle;
 use state::State;
 use state::state_of;
 use typing::Typed;
+use waits::Event;
+use waits::Step;
+use walk::across;
 
 // Why an entry refuses. The paper's numbers are given by `numberOf`.
 pub enum Refusal {

@@ -1,0 +1,178 @@
+// What a clause leads to, before anything within it is activated.
+ghost use mathlib.Core.Path.{_≡_};
+ghost use mathlib.Core.Bool.{true};
+ghost use mathlib.Core.List.{List};
+ghost use Prim.Native.Nat.{ℕ, _+_, _-_, _≤_};
+ghost use lib.IntN.{ℤ};
+ghost use lib.ListN.{length};
+ghost use Rattle.csl.specs.Numbers.{laterOf};
+ghost use Rattle.csl.specs.Decode.{ifKind, obligationKind, choiceKind, clause, headsOf};
+ghost use Rattle.arith.specs.Within.{Within};
+ghost use Rattle.residues.specs.Reduces.{farthest};
+ghost use Rattle.activation.specs.Leads.{Leads, Ready, Shaped, Acting, Ended, bodyIn};
+use crate::Next;
+use crate::Shape;
+use crate::Site;
+use crate::blames::blame_bits;
+use crate::instances::instance;
+use arith::byte;
+use arith::is_record;
+use arith::kind;
+use arith::later;
+use arith::record_end;
+use evaluation::eval;
+use evaluation::is_true;
+use records::wait_end;
+use waits::Event;
+use waits::Fate;
+use waits::becomes;
+use waits::then_values;
+
+// The later of a time and a window's last minute, as a time.
+fn moved(a: usize, last: i64) -> usize
+    requires { ⌜ (a ≤ farthest) × Within (a + 2_000_000_000) last ⌝ }
+    ensures { λ r. ⌜ (r ≡ laterOf a last) × (r ≤ a + 2_000_000_000) ⌝ }
+{
+    let t = later(a as i64, last);
+    t as usize
+}
+
+fn chosen(s: &[u8], values: &[i64], a: usize, depth: usize) -> Next
+    requires { ⌜ (4 ≤ length (now s)) × (1 ≤ depth) ⌝ }
+    ensures { λ r. ⌜ ((e : Event) (rs : List ℤ) (ag : List ℕ) (below place : ℕ) (ps written : List ℤ) → Leads e rs ag below (now (s .entry)) place ps (now (values .entry)) a depth (bodyIn ag (depth - 1) place (now (s .entry)) ifKind) written r) ⌝ }
+{
+    let c = record_end(s, 4);
+    let f = record_end(s, c);
+    let x = eval(&s[4..c], values, depth - 1);
+    if is_true(x) {
+        return Next::Goes(c, f, a);
+    }
+    Next::Goes(f, s.len(), a)
+}
+
+fn obligation(
+    event: Event,
+    s: &[u8],
+    params: &[i64],
+    values: &[i64],
+    reading: &[i64],
+    a: usize,
+    depth: usize,
+    cells: &mut [i64],
+) -> Next
+    requires { ⌜ (4 ≤ length (now s)) × (1 ≤ depth) × (event .time ≤ farthest) × (a ≤ farthest) × (length (now values) ≤ 16) × (length (now reading) ≤ 4) × (length (now cells) ≡ 24) ⌝ }
+    ensures { λ r. ⌜ ((ag : List ℕ) (below place : ℕ) → Leads event (now (reading .entry)) ag below (now (s .entry)) place (now (params .entry)) (now (values .entry)) a depth (bodyIn ag (depth - 1) place (now (s .entry)) obligationKind) (now (cells .exit)) r) ⌝ }
+{
+    match becomes(event, s, 5, values, reading, a, depth - 1) {
+        Fate::Waits => Next::Waits(17),
+        Fate::Late(last) => {
+            let bits = blame_bits(params, byte(s, 4));
+            let t = later(a as i64, last);
+            Next::Breaks(t, bits)
+        }
+        Fate::Taken(last) => {
+            let c = wait_end(s, 5);
+            let n = then_values(values, reading, last, event.time, cells);
+            Next::Takes(c, s.len(), n)
+        }
+    }
+}
+
+fn choice(
+    event: Event,
+    s: &[u8],
+    params: &[i64],
+    values: &[i64],
+    reading: &[i64],
+    a: usize,
+    depth: usize,
+    cells: &mut [i64],
+) -> Next
+    requires { ⌜ (4 ≤ length (now s)) × (1 ≤ depth) × (event .time ≤ farthest) × (a ≤ farthest) × (length (now values) ≤ 16) × (length (now reading) ≤ 4) × (length (now cells) ≡ 24) ⌝ }
+    ensures { λ r. ⌜ ((ag : List ℕ) (below place : ℕ) → Leads event (now (reading .entry)) ag below (now (s .entry)) place (now (params .entry)) (now (values .entry)) a depth (bodyIn ag (depth - 1) place (now (s .entry)) choiceKind) (now (cells .exit)) r) ⌝ }
+{
+    let fate = becomes(event, s, 4, values, reading, a, depth - 1);
+    let c = wait_end(s, 4);
+    let f = record_end(s, c);
+    match fate {
+        Fate::Waits => Next::Waits(18),
+        Fate::Late(last) => Next::Goes(f, s.len(), moved(a, last)),
+        Fate::Taken(last) => {
+            let n = then_values(values, reading, last, event.time, cells);
+            Next::Takes(c, f, n)
+        }
+    }
+}
+
+// What the clause that acts in the record s does at a site, before anything within it is activated.
+pub fn leads_to(
+    agreement: &[u8],
+    places: &[usize],
+    event: Event,
+    rs: &[i64],
+    site: Site,
+    s: &[u8],
+    ps: &[i64],
+    vs: &[i64],
+    cells: &mut [i64],
+) -> Next
+    requires { ⌜ Ready (now places) (now agreement) event (now rs) site (now ps) (now vs) × Acting (site .depth) (now s) × (length (now cells) ≡ 24) ⌝ }
+    ensures { λ r. ⌜ Leads event (now (rs .entry)) (now (agreement .entry)) (site .below) (now (s .entry)) (site .place) (now (ps .entry)) (now (vs .entry)) (site .a) (site .depth) (clause (headsOf (now (agreement .entry))) (site .depth) (site .place) (now (s .entry))) (now (cells .exit)) r ⌝ }
+{
+    let below = site.below;
+    let a = site.a;
+    let depth = site.depth;
+    match kind(s) {
+        17 => obligation(event, s, ps, vs, rs, a, depth, cells),
+        18 => choice(event, s, ps, vs, rs, a, depth, cells),
+        19 => chosen(s, vs, a, depth),
+        _ => instance(agreement, places, below, s, ps, vs, depth - 1, cells),
+    }
+}
+
+// Only clauses of kinds 17 to 22 do anything: any other record is as good as fulfilled, at any depth and of any length.
+fn ends(s: &[u8]) -> bool
+    ensures { λ r. ⌜ (r ≡ true → Ended (now (s .entry))) ⌝ }
+{
+    match kind(s) {
+        17..=22 => false,
+        _ => true,
+    }
+}
+
+// What the record s shows. Beside a side with nothing to do an `and` does what its other side does, and an `or` is fulfilled.
+pub fn outline(s: &[u8], depth: usize) -> Shape
+    ensures { λ r. ⌜ ((e : Event) (rs : List ℤ) (ag : List ℕ) (below place : ℕ) (ps vs : List ℤ) (a : ℕ) → Shaped e rs ag below (now (s .entry)) place ps vs a depth (clause (headsOf ag) depth place (now (s .entry))) r) ⌝ }
+{
+    if depth == 0 {
+        return Shape::Ends;
+    }
+    if !is_record(s) {
+        return Shape::Ends;
+    }
+    let k = kind(s);
+    match k {
+        20..=21 => {
+            let f = record_end(s, 4);
+            let right = ends(&s[f..]);
+            if ends(&s[4..f]) {
+                if right {
+                    return Shape::Ends;
+                }
+                if k == 20 {
+                    return Shape::Goes(f, s.len());
+                }
+                return Shape::Ends;
+            }
+            if right {
+                if k == 20 {
+                    return Shape::Goes(4, f);
+                }
+                return Shape::Ends;
+            }
+            Shape::Joins(k, f)
+        }
+        17..=22 => Shape::Acts,
+        _ => Shape::Ends,
+    }
+}

@@ -1,0 +1,209 @@
+-- Laws of waits: their windows, what a reading makes of them, and the values in sight.
+use mathlib.Core.Path.{_≡_, refl, sym, ap, _∙_}
+use mathlib.Core.Bool.{Bool, true, false}
+use mathlib.Core.List.{List, [], _∷_, _++_, append-assoc}
+use Prim.Native.Nat.{ℕ, suc, _+_, _-_, _^_, _≤_, _<_, min}
+use native.Mathlib.Omega.{arith}
+use native.Mathlib.Decide.{decLe}
+use lib.IntN.{ℤ, pos, natAbs, _+ℤ_, _-ℤ_}
+use lib.Dec.{T}
+use lib.Signed.{mag, ltZ, nonNeg}
+use lib.ListN.{length, getD, take, drop, set, length-append, length-drop}
+use lib.Seq.{take-at, drop-at, drop-drop, take-all, set-at, take-append-le, drop-cons, append-snoc}
+use borrow.Author.Tests.{eq-eqb, ne-eqb}
+use borrow.Rule.Slice.PartMut.{putMid}
+use mir.Syntax.{w64}
+use mir.Val.{Fits, SFits, toZ}
+use Rattle.arith.specs.Within.{Within, far}
+use Rattle.arith.proofs.Ints.{seen, read, read! }
+use Rattle.arith.proofs.Numbers.{sizes, within-goal, held-fits, later-size}
+use Rattle.arith.proofs.Lists.{tail-put}
+use Rattle.csl.specs.Numbers.{Held, laterOf}
+use Rattle.csl.specs.Bytes.{le16, part, recordEnd}
+use Rattle.csl.specs.Syntax.{Wait}
+use Rattle.csl.specs.Decode.{expr, waitAt}
+use Rattle.cells.specs.Evaluate.{evalCells, isTrue}
+use Rattle.cells.specs.Reduce.{following, firstOf, lastOf, takes, thenValues, fate}
+use Rattle.residues.specs.Reduces.{farthest}
+use Rattle.waits.specs.Fates.{modeAt, WindowIs, FateIs, conditionOf}
+use Rattle.waits.specs.declared.Window.{Window}
+use Rattle.waits.specs.declared.Event.{Event}
+use Rattle.waits.specs.declared.Step.the-variants.{Activate, Forecast, Follow}
+use Rattle.waits.specs.declared.Fate.{Fate}
+use Rattle.waits.specs.declared.Fate.the-variants.{Waits, Late, Taken}
+use Rattle.residues.proofs.Cells.{cell-of}
+
+-- ---- sizes
+pub time-size : (n : ℕ) → n ≤ farthest → natAbs (toZ w64 n) ≡ n
+time-size n h = ap natAbs (cell-of n h)
+
+pub time-within : (n : ℕ) → n ≤ farthest → Within far (toZ w64 n)
+time-within n h = within-goal far (toZ w64 n) (omega (arith, time-size n h))
+
+-- ---- a window
+module _ (vs : List ℤ) (s : List ℕ) (i a d : ℕ) (h : a ≤ farthest) {b c e : ℕ} (eb : b ≡ recordEnd s (i + 1))
+    (ec : c ≡ recordEnd s b) (ee : e ≡ recordEnd s c) where
+  pub window-is : {x y r q : ℤ} → (x ≡ evalCells vs (expr d (part s b c))) × Held x
+      → (y ≡ evalCells vs (expr d (part s c e))) × Held y
+      → mag r < 2 ^ 63 → (r ≡ toZ w64 a +ℤ seen x) × Within (natAbs (toZ w64 a) + natAbs (seen x)) r
+      → mag q < 2 ^ 63 → (q ≡ seen r +ℤ seen y) × Within (natAbs (seen r) + natAbs (seen y)) q
+      → (p : ℕ) → WindowIs vs a (waitAt (expr d) p s i) (record { first = seen r; last = seen q })
+  unfolding firstOf lastOf waitAt
+  window-is {x} {y} {r} {q} hx hy fr hr fq hq p =
+      let er : seen r ≡ pos a +ℤ evalCells vs
+      (expr d (part s (recordEnd s (i + 1)) (recordEnd s (recordEnd s (i + 1))))) =
+      read! fr ∙ hr .0 ∙ rw (cell-of a h, read (held-fits (hx .1)), hx .0, ec, eb) in
+      let eq : seen q ≡ seen r +ℤ evalCells vs
+      (expr d (part s (recordEnd s (recordEnd s (i + 1))) (recordEnd s (recordEnd s (recordEnd s (i + 1)))))) =
+      read! fq ∙ hq .0 ∙ rw (read (held-fits (hy .1)), hy .0, ee, ec, eb) in
+      record { first = er; last = eq ∙ rw er; near = omega (sizes, time-size a h) }
+
+-- ---- what a reading makes of a wait
+module _ (vs rs : List ℤ) (a t k : ℕ) (ht : t ≤ farthest) (w : Wait) {r : Window} (x : WindowIs vs a w r)
+    (fl : mag (r .last) < 2 ^ 63) where
+  last-is : seen (r .last) ≡ lastOf vs a w
+  last-is = read! fl ∙ x .last
+
+  near-is : Within (a + 2_000_000_000) (seen (r .last))
+  near-is = rw (read! fl) (x .near)
+
+  pub follow-late : ltZ (seen (r .last)) (toZ w64 t) ≡ true → FateIs (following t k rs) vs a w (Late (seen (r .last)))
+  unfolding FateIs fate
+  follow-late h = (rw (rw (last-is, cell-of t ht) at h), last-is, near-is)
+
+  module _ (h : ltZ (seen (r .last)) (toZ w64 t) ≡ false) {b : ℕ} (eb : b ≡ w .wanted) where
+    pub follow-other : (b ≡ k → ⊥) → FateIs (following t k rs) vs a w Waits
+    unfolding FateIs fate takes
+    follow-other n = rw (rw (last-is, cell-of t ht) at h, ne-eqb (w .wanted) k (λ q. n (eb ∙ q)))
+
+    module _ (ek : b ≡ k) (ff : mag (r .first) < 2 ^ 63) where
+      first-is : seen (r .first) ≡ firstOf vs a w
+      first-is = read! ff ∙ x .first
+
+      pub follow-early : ltZ (toZ w64 t) (seen (r .first)) ≡ true → FateIs (following t k rs) vs a w Waits
+      unfolding FateIs fate takes
+      follow-early g = rw (
+        rw (last-is, cell-of t ht) at h,
+        eq-eqb (w .wanted) k (sym eb ∙ ek),
+        rw (first-is, cell-of t ht) at g,
+      )
+
+      module _ (g : ltZ (toZ w64 t) (seen (r .first)) ≡ false) {u : Bool}
+          (eu : u ≡ isTrue (evalCells (vs ++ rs) (w .condition))) where
+        pub follow-taken : u ≡ true → FateIs (following t k rs) vs a w (Taken (seen (r .last)))
+        unfolding FateIs fate takes
+        follow-taken q = (
+          rw (
+            rw (last-is, cell-of t ht) at h,
+            eq-eqb (w .wanted) k (sym eb ∙ ek),
+            rw (first-is, cell-of t ht) at g,
+            sym eu ∙ q,
+          ),
+          last-is,
+          near-is,
+        )
+
+        pub follow-false : u ≡ false → FateIs (following t k rs) vs a w Waits
+        unfolding FateIs fate takes
+        follow-false q = rw (
+          rw (last-is, cell-of t ht) at h,
+          eq-eqb (w .wanted) k (sym eb ∙ ek),
+          rw (first-is, cell-of t ht) at g,
+          sym eu ∙ q,
+        )
+
+-- ---- by the step
+module _ (e : Event) (vs rs : List ℤ) (a : ℕ) (w : Wait) where
+  pub becomes-waiting : e .step ≡ Activate → FateIs (modeAt e rs) vs a w Waits
+  unfolding FateIs fate
+  becomes-waiting h = rw h
+
+  pub becomes-late : e .step ≡ Forecast → {r : Window} → WindowIs vs a w r → mag (r .last) < 2 ^ 63
+      → FateIs (modeAt e rs) vs a w (Late (seen (r .last)))
+  unfolding FateIs fate
+  becomes-late h x f = rw h (refl, read! f ∙ x .last, rw (read! f) (x .near))
+
+  pub becomes-followed : e .step ≡ Follow → (f : Fate) → FateIs (following (e .time) (e .sort) rs) vs a w f
+      → FateIs (modeAt e rs) vs a w f
+  becomes-followed h f x = rw h x
+
+-- ---- the values in sight
+module _ (vs rs c : List ℤ) where
+  pub sight-is : {k m : List ℤ} → length vs + length rs ≤ length c → k ≡ vs ++ drop (length vs) c → m ≡ rs
+      ++ drop (length rs) (take (length k - length vs) (drop (length vs) k))
+      → putMid (length vs) (length k - length vs) k m ≡ (vs ++ rs) ++ drop (length vs + length rs) c
+  sight-is {k} {m} h ek em =
+      let lk : length k ≡ length c = ap length ek ∙ simp (length-append, length-drop) (omega arith) in
+      let dk : drop (length vs) k ≡ drop (length vs) c = ap (drop (length vs)) ek
+      ∙ drop-at vs (drop (length vs) c) (length vs) refl in
+      let tk : take (length vs) k ≡ vs = ap (take (length vs)) ek ∙ take-at vs (drop (length vs) c) (length vs) refl in
+      let e : m ≡ rs ++ drop (length vs + length rs) c =
+      em ∙ ap (λ l. rs ++ drop (length rs) l)
+      (take-all (length k - length vs) (drop (length vs) k) (simp length-drop (omega arith)) ∙ dk)
+      ∙ ap (λ l. rs ++ l) (drop-drop (length rs) (length vs) c) in
+      tail-put (length vs) k m (omega arith) ∙ ap (λ l. l ++ m) tk ∙ ap (λ l. vs ++ l) e
+      ∙ sym (append-assoc vs rs (drop (length vs + length rs) c))
+
+  -- n and l are what `sight` gave
+  module _ {n : ℕ} {l : List ℤ} (en : n ≡ length (vs ++ rs)) (el : l ≡ (vs ++ rs) ++ drop n c) where
+    pub sight-front : take n l ≡ vs ++ rs
+    sight-front = ap (take n) el ∙ take-at (vs ++ rs) (drop n c) n (sym en)
+
+    pub sight-long : n ≤ length c → n ≡ length (take n l)
+    sight-long h = en ∙ ap length (sym sight-front)
+
+    pub then-is : n < length c → {m : ℕ} {z y : ℤ} → m ≡ min (n + 1) 16 → z ≡ y
+        → take m (set l n z) ≡ thenValues vs rs y
+    unfolding thenValues
+    then-is h {m} {z} {y} em ez =
+        let f : set l n z ≡ (vs ++ rs) ++ z ∷ drop (suc n) c =
+        ap (λ k. set k n z) (el ∙ ap (λ k. (vs ++ rs) ++ k) (drop-cons c n (pos 0) h))
+        ∙ set-at (vs ++ rs) (getD c n (pos 0)) (drop (suc n) c) z n (sym en) in
+        let g : set l n z ≡ ((vs ++ rs) ++ (z ∷ [])) ++ drop (suc n) c = f
+        ∙ sym (append-snoc (vs ++ rs) z (drop (suc n) c)) in
+        let lx : length ((vs ++ rs) ++ (z ∷ [])) ≡ n + 1 = length-append (vs ++ rs) (z ∷ []) ∙ omega (arith, en) in
+        ap (take m) g ∙ take-append-le m ((vs ++ rs) ++ (z ∷ [])) (drop (suc n) c) (omega arith)
+        ∙ by-size m ((vs ++ rs) ++ (z ∷ [])) em (decLe (n + 1) 16) lx
+        ∙ ap (λ k. take 16 ((vs ++ rs) ++ (k ∷ []))) ez
+      where
+        by-size : (m : ℕ) (x : List ℤ) → m ≡ min (n + 1) 16 → Dec (n + 1 ≤ 16) → length x ≡ n + 1 → take m x ≡ take 16 x
+        by-size m x e (yes k) q = take-all m x (omega arith) ∙ sym (take-all 16 x (omega arith))
+        by-size m x e (no k) q = let f : m ≡ 16 = omega arith in rw f
+
+-- ---- the condition
+pub clamped : (s : List ℕ) (i : ℕ) {a b : ℕ} → a ≡ min i (length s) → b ≡ recordEnd s i
+    → part s a b ≡ part s i (recordEnd s i)
+unfolding recordEnd
+clamped s i {a} {b} ea eb = by-room (decLe i (length s))
+  where
+    by-room : Dec (i ≤ length s) → part s a b ≡ part s i (min (i + le16 s i) (length s))
+    by-room (yes h) = let e : a ≡ i = omega arith in rw (e, eb)
+    by-room (no h) = let e : b - a ≡ 0 = omega arith in let f : min (i + le16 s i) (length s) - i ≡ 0 = omega arith in
+        rw (e, f)
+
+pub condition-is : (s : List ℕ) (i d : ℕ) {vs vs′ : List ℤ} {a b : ℕ} {x : ℤ} {r : Bool} → a ≡ min (i + 1) (length s)
+    → b ≡ recordEnd s (i + 1) → vs′ ≡ vs → (x ≡ evalCells vs′ (expr d (part s a b))) × Held x → r ≡ isTrue (seen x)
+    → r ≡ conditionOf s i d vs
+unfolding conditionOf waitAt
+condition-is s i d ea eb ev hx hr = hr ∙ ap isTrue (read (held-fits (hx .1)) ∙ hx .0 ∙ rw (ev, clamped s (i + 1) ea eb))
+
+-- the minutes that were left
+pub minus-is : (t : ℕ) → t ≤ farthest → {last z : ℤ} → SFits w64 last → mag z < 2 ^ 63 → z ≡ seen last -ℤ toZ w64 t
+    → seen z ≡ last -ℤ pos t
+minus-is t h f g e = read! g ∙ e ∙ rw (read f, cell-of t h)
+
+-- ---- the later of a time and a last minute, as the machine has it
+module _ (a : ℕ) (h : a ≤ farthest) {last r : ℤ} (f : SFits w64 last) (g : mag r < 2 ^ 63)
+    (e : (n : ℕ) → toZ w64 a ≡ pos n → r ≡ pos (laterOf n (seen last))) where
+  pub later-seen : seen r ≡ pos (laterOf a last)
+  later-seen = read! g ∙ e a (cell-of a h) ∙ rw (read f)
+
+  module _ (w : Within (a + 2_000_000_000) last) where
+    later-near : laterOf a last ≤ a + 2_000_000_000
+    later-near = omega (sizes, later-size a last)
+
+    pub moved-asked : T (nonNeg (seen r)) × Fits w64 (natAbs (seen r))
+    moved-asked = rw later-seen (tt, record { fits = omega (arith, later-near) })
+
+    pub moved-is : (natAbs (seen r) ≡ laterOf a last) × (natAbs (seen r) ≤ a + 2_000_000_000)
+    moved-is = rw later-seen (refl, later-near)

@@ -1,0 +1,168 @@
+// What becomes of a wait: its window, its `where`, and what a reading or time alone makes of it.
+ghost use mathlib.Core.Path.{_≡_};
+ghost use mathlib.Core.List.{_++_};
+ghost use Prim.Native.Nat.{ℕ, _+_, _-_, _≤_, min};
+ghost use lib.IntN.{ℤ, pos, _-ℤ_};
+ghost use lib.ListN.{length, take, drop};
+ghost use Rattle.csl.specs.Decode.{expr, waitAt};
+ghost use Rattle.arith.specs.Within.{Within};
+ghost use Rattle.cells.specs.Reduce.{following, thenValues};
+ghost use Rattle.residues.specs.Reduces.{farthest};
+ghost use Rattle.waits.specs.Fates.{modeAt, FateIs, WindowIs, conditionOf};
+use arith::byte;
+use arith::exact_difference;
+use arith::exact_sum;
+use arith::record_end;
+use evaluation::eval;
+use evaluation::is_true;
+use residues::copy;
+
+// What a clause does that is activated: it waits, it follows a reading, or it tells its breach.
+pub enum Step {
+    Activate,
+    Forecast,
+    Follow,
+}
+
+// A step, and for a reading that is followed its time and type.
+pub struct Event {
+    pub step: Step,
+    pub time: usize,
+    pub sort: usize,
+}
+
+// The first and the last minute of a wait.
+struct Window {
+    first: i64,
+    last: i64,
+}
+
+// What becomes of a wait, with its last minute.
+pub enum Fate {
+    Waits,
+    Late(i64),
+    Taken(i64),
+}
+
+// Where a part begins that would begin at i: not beyond the end.
+pub fn start(i: usize, len: usize) -> usize
+    ensures { λ r. ⌜ (r ≡ min i len) × (r ≤ len) ⌝ }
+{
+    if i < len { i } else { len }
+}
+
+// The window of the wait at i in the record s.
+fn window_at(s: &[u8], i: usize, values: &[i64], a: usize, depth: usize) -> Window
+    requires { ⌜ (i ≤ 5) × (a ≤ farthest) ⌝ }
+    ensures { λ r. ⌜ ((p : ℕ) → WindowIs (now (values .entry)) a (waitAt (expr depth) p (now (s .entry)) i) r) ⌝ }
+{
+    let b = record_end(s, i + 1);
+    let c = record_end(s, b);
+    let e = record_end(s, c);
+    let after = eval(&s[b..c], values, depth);
+    let within = eval(&s[c..e], values, depth);
+    let first = exact_sum(a as i64, after);
+    let last = exact_sum(first, within);
+    Window {
+        first: first,
+        last: last,
+    }
+}
+
+// The values in sight and the reading's go to the front of cells.
+fn sight(values: &[i64], reading: &[i64], cells: &mut [i64]) -> usize
+    requires { ⌜ (length (now values) ≤ 16) × (length (now reading) ≤ 4) × (length (now cells) ≡ 24) ⌝ }
+    ensures { λ r. ⌜ (r ≡ length (now (values .entry) ++ now (reading .entry))) × (r ≤ 20) × (now (cells .exit) ≡ (now (values .entry) ++ now (reading .entry)) ++ drop r (now (cells .entry))) ⌝ }
+{
+    let n = values.len();
+    copy(cells, values);
+    copy(&mut cells[n..], reading);
+    n + reading.len()
+}
+
+// `where` of the wait at i in the record s.
+fn holds(s: &[u8], i: usize, values: &[i64], reading: &[i64], depth: usize) -> bool
+    requires { ⌜ (i ≤ 5) × (length (now values) ≤ 16) × (length (now reading) ≤ 4) ⌝ }
+    ensures { λ r. ⌜ r ≡ conditionOf (now (s .entry)) i depth (now (values .entry) ++ now (reading .entry)) ⌝ }
+{
+    let mut cells = [0i64; 24];
+    let n = sight(values, reading, &mut cells);
+    let a = start(i + 1, s.len());
+    let b = record_end(s, i + 1);
+    let x = eval(&s[a..b], &cells[..n], depth);
+    is_true(x)
+}
+
+// What a reading makes of the wait at i in the record s.
+fn follow(
+    time: usize,
+    sort: usize,
+    s: &[u8],
+    i: usize,
+    values: &[i64],
+    reading: &[i64],
+    a: usize,
+    depth: usize,
+) -> Fate
+    requires { ⌜ (time ≤ farthest) × (i ≤ 5) × (a ≤ farthest) × (length (now values) ≤ 16) × (length (now reading) ≤ 4) ⌝ }
+    ensures { λ r. ⌜ ((p : ℕ) → FateIs (following time sort (now (reading .entry))) (now (values .entry)) a (waitAt (expr depth) p (now (s .entry)) i) r) ⌝ }
+{
+    let w = window_at(s, i, values, a, depth);
+    let t = time as i64;
+    let last = w.last;
+    if last < t {
+        return Fate::Late(last);
+    }
+    if byte(s, i) != sort {
+        return Fate::Waits;
+    }
+    let first = w.first;
+    if t < first {
+        return Fate::Waits;
+    }
+    if holds(s, i, values, reading, depth) {
+        return Fate::Taken(last);
+    }
+    Fate::Waits
+}
+
+pub fn becomes(
+    event: Event,
+    s: &[u8],
+    i: usize,
+    values: &[i64],
+    reading: &[i64],
+    a: usize,
+    depth: usize,
+) -> Fate
+    requires { ⌜ (event .time ≤ farthest) × (i ≤ 5) × (a ≤ farthest) × (length (now values) ≤ 16) × (length (now reading) ≤ 4) ⌝ }
+    ensures { λ r. ⌜ ((p : ℕ) → FateIs (modeAt event (now (reading .entry))) (now (values .entry)) a (waitAt (expr depth) p (now (s .entry)) i) r) ⌝ }
+{
+    let step = event.step;
+    match step {
+        Step::Activate => Fate::Waits,
+        Step::Forecast => {
+            let w = window_at(s, i, values, a, depth);
+            let last = w.last;
+            Fate::Late(last)
+        }
+        Step::Follow => follow(event.time, event.sort, s, i, values, reading, a, depth),
+    }
+}
+
+// The values in sight of a `then`, at most 16: those in sight, the reading's, and the minutes that were left.
+pub fn then_values(
+    values: &[i64],
+    reading: &[i64],
+    last: i64,
+    time: usize,
+    cells: &mut [i64],
+) -> usize
+    requires { ⌜ (length (now values) ≤ 16) × (length (now reading) ≤ 4) × (length (now cells) ≡ 24) × (time ≤ farthest) × Within (farthest + 2_000_000_000) last ⌝ }
+    ensures { λ r. ⌜ (take r (now (cells .exit)) ≡ thenValues (now (values .entry)) (now (reading .entry)) (last -ℤ pos time)) × (r ≤ 16) ⌝ }
+{
+    let left = exact_difference(last, time as i64);
+    let n = sight(values, reading, cells);
+    cells[n] = left;
+    start(n + 1, 16)
+}

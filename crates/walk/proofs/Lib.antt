@@ -1,0 +1,3 @@
+pub mod Trees
+pub mod Sorts
+pub mod WaitingUnits

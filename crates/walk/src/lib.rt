@@ -1,0 +1,123 @@
+// The rules at every unit of a table.
+ghost use mathlib.Core.Path.{_≡_};
+ghost use Prim.Native.Nat.{_≤_, _<_};
+ghost use lib.IntN.{pos};
+ghost use lib.ListN.{length, getD, take};
+ghost use Rattle.csl.specs.Decode.{joinOf};
+ghost use Rattle.residues.specs.Reduces.{Is, farthest};
+ghost use Rattle.records.specs.Index.{Indexed};
+ghost use Rattle.waits.specs.Fates.{modeAt};
+ghost use lib.Dec.{ltb};
+ghost use Rattle.cells.specs.Across.{natOf, unitReduced};
+ghost use Rattle.walk.specs.Tree.{Waiting, Tree, treeReduced};
+use activation::Site;
+use activation::activate;
+use arith::byte;
+use arith::equal;
+use arith::less;
+use arith::record_end;
+use residues::Reduced;
+use residues::join;
+use residues::room_left;
+use waits::Event;
+
+// The first unit waits.
+fn waits(table: &[i64]) -> bool
+    requires { ⌜ 24 ≤ length (now table) ⌝ }
+    ensures { λ r. ⌜ r ≡ ltb (natOf (getD (now (table .entry)) 0 (pos 0))) 20 ⌝ }
+{
+    let sort = table[0];
+    less(sort, 20)
+}
+
+// The kind of the first unit, a join.
+fn join_kind(table: &[i64]) -> usize
+    requires { ⌜ 24 ≤ length (now table) ⌝ }
+    ensures { λ r. ⌜ (20 ≤ r) × (r < 22) × (joinOf r ≡ joinOf (natOf (getD (now (table .entry)) 0 (pos 0)))) ⌝ }
+{
+    let sort = table[0];
+    if equal(sort, 20) { 20 } else { 21 }
+}
+
+// A cell that is known to be a natural number.
+fn natural(z: i64) -> usize
+    requires { ⌜ z ≡ pos (natOf z) ⌝ }
+    ensures { λ r. ⌜ r ≡ natOf z ⌝ }
+{
+    z as usize
+}
+
+// What the first unit becomes.
+fn waiting_unit(
+    agreement: &[u8],
+    places: &[usize],
+    event: Event,
+    rs: &[i64],
+    sights: &[usize],
+    table: &[i64],
+    out: &mut [i64],
+) -> Reduced
+    requires { ⌜ Indexed (now places) (now agreement) × (length (now rs) ≤ 4) × (event .time ≤ 4_294_967_296) × (length (now agreement) ≤ farthest) × (length (now out) ≤ 3072) ⌝ }
+    requires { ⌜ (24 ≤ length (now table)) × (2 ≤ length (now sights)) × Waiting (length (now agreement)) (getD (now sights) 0 0) (getD (now sights) 1 0) (take 24 (now table)) ⌝ }
+    ensures { λ r. ⌜ Is (unitReduced (modeAt event (now (rs .entry))) (now (agreement .entry)) (getD (now (sights .entry)) 0 0) (getD (now (sights .entry)) 1 0) (take 24 (now (table .entry)))) r (now (out .exit)) ⌝ }
+{
+    let params = sights[0];
+    let values = sights[1];
+    let place = natural(table[1]);
+    let end = record_end(agreement, place);
+    let site = Site {
+        below: byte(agreement, 10),
+        place,
+        a: natural(table[2]),
+        depth: 23,
+    };
+    let ps = &table[3..3 + params];
+    let vs = &table[8..8 + values];
+    activate(
+        agreement,
+        places,
+        event,
+        rs,
+        site,
+        &agreement[place..end],
+        ps,
+        vs,
+        out,
+    )
+}
+
+// What becomes of the tree of n units at the front of `table`, what runs of it standing at the end of `out`. A join is followed by all of its left side, then all of its right: the right side goes first, then the left side into the room that is left.
+pub fn across(
+    agreement: &[u8],
+    places: &[usize],
+    event: Event,
+    rs: &[i64],
+    sights: &[usize],
+    table: &[i64],
+    n: usize,
+    out: &mut [i64],
+) -> Reduced
+    requires { ⌜ Indexed (now places) (now agreement) × (length (now rs) ≤ 4) × (event .time ≤ 4_294_967_296) × (length (now out) ≤ 3072) × (length (now agreement) ≤ farthest) ⌝ }
+    requires { ⌜ Tree (length (now agreement)) (now sights) (now table) n ⌝ }
+    ensures { λ r. ⌜ Is (treeReduced (modeAt event (now (rs .entry))) (now (agreement .entry)) n (now (sights .entry)) (now (table .entry))) r (now (out .exit)) ⌝ }
+{
+    if waits(table) {
+        return waiting_unit(agreement, places, event, rs, sights, table, out);
+    }
+    let left = sights[0];
+    let seen = &sights[2 + 2 * left..];
+    let right = &table[24 + 24 * left..];
+    let r = across(agreement, places, event, rs, seen, right, n - 1 - left, out);
+    let low = room_left(r, out.len());
+    let l = across(
+        agreement,
+        places,
+        event,
+        rs,
+        &sights[2..],
+        &table[24..],
+        left,
+        &mut out[..low],
+    );
+    join(join_kind(table), l, r, out)
+}
