@@ -49,7 +49,7 @@ fits-within {s = s} f {x = x} {y = y} ew h i l = rw ew (record {
 
 -- ---- a `then`
 abbrev firstEvent : Event → Event
-firstEvent e = record { step = Activate; time = e .time; sort = e .sort }
+firstEvent e = record { step = Activate; time = e .time; tag = e .tag }
 
 abbrev thenSite : Site → ℕ → ℕ → ℕ → Site
 thenSite t x a n = record { below = n; place = t .place + x; a = a; depth = t .depth - 1 }

@@ -65,7 +65,7 @@ taken-follows : (e : Event) (rs vs : List ℤ) (a : ℕ) (w : Wait) → fate (mo
 unfolding fate
 taken-follows e rs vs a w f = by-step (e .step) f
   where
-    by-step : (s : Step) → fate (modeOf s (e .time) (e .sort) rs) vs a w ≡ taken → s ≡ Follow
+    by-step : (s : Step) → fate (modeOf s (e .time) (e .tag) rs) vs a w ≡ taken → s ≡ Follow
     by-step Activate q = absurd (let z : _≡_ {A = ℕ} 0 1 = cc in omega arith)
     by-step Forecast q = absurd (let z : _≡_ {A = ℕ} 0 1 = cc in omega arith)
     by-step Follow q = refl

@@ -141,6 +141,16 @@ abbrev pub reduceAt : Event → List ℤ → List ℕ → Site → List ℕ → 
 reduceAt e rs ag t s ps vs = reduceBelow (modeAt e rs) ag (t .below) (clause (headsOf ag) (t .depth) (t .place) s) ps
     vs (t .a)
 
+-- what the two sides of a clause of kind k do, of which the right one begins at f
+abbrev pub sidesReduced : Event → List ℤ → List ℕ → Site → List ℕ → ℕ → ℕ → List ℤ → List ℤ → cells.Reduced
+sidesReduced e rs ag t s k f ps vs = joined (joinOf k) (reduceAt e rs ag (innerSite t 4 (t .a)) (part s 4 f) ps vs)
+    (reduceAt e rs ag (innerSite t f (t .a)) (part s f (length s)) ps vs)
+
+-- what the body of template k does, its values at the front of `given` and its parties from cell 16 on
+abbrev pub bodyReduced : Event → List ℤ → List ℕ → Site → ℕ → List ℤ → cells.Reduced
+bodyReduced e rs ag t k given = reduceAt e rs ag (bodySite ag t k) (part ag (bodyFrom ag k) (bodyTo ag k))
+    (take (headAt ag k .params) (drop 16 given)) (take (length (headAt ag k .values)) given)
+
 -- there is nothing to do in the record s, wherever it stands
 pub record Ended (s : List ℕ) : Type 0 where
   pub is : (e : Event) (rs : List ℤ) (ag : List ℕ) (t : Site) (ps vs : List ℤ) → reduceAt e rs ag t s ps vs ≡ cells.done

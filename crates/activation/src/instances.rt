@@ -25,7 +25,9 @@ use waits::start;
 // The values of n expressions that stand one after another from byte 5 of s, and where the last of them ends.
 fn arguments(s: &[u8], n: usize, values: &[i64], depth: usize, cells: &mut [i64]) -> usize
     requires { ⌜ n ≤ length (now cells) ⌝ }
-    ensures { λ r. ⌜ (r ≡ argumentsEnd n (now (s .entry)) 5) × (take n (now (cells .exit)) ≡ evalsCells (now (values .entry)) (decode.arguments (expr depth) n (now (s .entry)) 5)) × (r ≤ 5 + length (now (s .entry))) ⌝ }
+    ensures { λ r. ⌜ (r ≡ argumentsEnd n (now (s .entry)) 5)
+        × (take n (now (cells .exit)) ≡ evalsCells (now (values .entry))
+        (decode.arguments (expr depth) n (now (s .entry)) 5)) × (r ≤ 5 + length (now (s .entry))) ⌝ }
 {
     let mut at = 5;
     let mut i = 0;
@@ -52,7 +54,9 @@ pub fn instance(
     cells: &mut [i64],
 ) -> Next
     requires { ⌜ Indexed (now places) (now agreement) × (below ≤ bytes.byte (now agreement) 10) × (length (now cells) ≡ 24) ⌝ }
-    ensures { λ r. ⌜ ((e : Event) (rs : List ℤ) (place a d : ℕ) → Leads e rs (now (agreement .entry)) below (now (s .entry)) place (now (params .entry)) (now (values .entry)) a d (bodyIn (now (agreement .entry)) depth place (now (s .entry)) instanceKind) (now (cells .exit)) r) ⌝ }
+    ensures { λ r. ⌜ ((e : Event) (rs : List ℤ) (place a d : ℕ)
+        → Leads e rs (now (agreement .entry)) below (now (s .entry)) place (now (params .entry)) (now (values .entry))
+        a d (bodyIn (now (agreement .entry)) depth place (now (s .entry)) instanceKind) (now (cells .exit)) r) ⌝ }
 {
     let k = byte(s, 4);
     if k >= below {
@@ -70,7 +74,8 @@ pub fn instance(
 
 pub fn body(agreement: &[u8], places: &[usize], k: usize) -> Span
     requires { ⌜ Indexed (now places) (now agreement) × (k < bytes.byte (now agreement) 10) ⌝ }
-    ensures { λ r. ⌜ (r .from ≡ bodyFrom (now (agreement .entry)) k) × (r .to ≡ bodyTo (now (agreement .entry)) k) × (r .from ≤ r .to) × (r .to ≤ length (now (agreement .entry))) ⌝ }
+    ensures { λ r. ⌜ (r .from ≡ bodyFrom (now (agreement .entry)) k) × (r .to ≡ bodyTo (now (agreement .entry)) k)
+        × (r .from ≤ r .to) × (r .to ≤ length (now (agreement .entry))) ⌝ }
 {
     let t = template_place(agreement, places, k);
     let n = value_count(agreement, places, k);

@@ -39,15 +39,25 @@ fn moved(a: usize, last: i64) -> usize
 
 fn chosen(s: &[u8], values: &[i64], a: usize, depth: usize) -> Next
     requires { ⌜ (4 ≤ length (now s)) × (1 ≤ depth) ⌝ }
-    ensures { λ r. ⌜ ((e : Event) (rs : List ℤ) (ag : List ℕ) (below place : ℕ) (ps written : List ℤ) → Leads e rs ag below (now (s .entry)) place ps (now (values .entry)) a depth (bodyIn ag (depth - 1) place (now (s .entry)) ifKind) written r) ⌝ }
+    ensures { λ r. ⌜ ((e : Event) (rs : List ℤ) (ag : List ℕ) (below place : ℕ) (ps written : List ℤ)
+        → Leads e rs ag below (now (s .entry)) place ps (now (values .entry)) a depth
+        (bodyIn ag (depth - 1) place (now (s .entry)) ifKind) written r) ⌝ }
 {
     let c = record_end(s, 4);
     let f = record_end(s, c);
     let x = eval(&s[4..c], values, depth - 1);
     if is_true(x) {
-        return Next::Goes(c, f, a);
+        return Next::Goes {
+            from: c,
+            to: f,
+            at: a,
+        };
     }
-    Next::Goes(f, s.len(), a)
+    Next::Goes {
+        from: f,
+        to: s.len(),
+        at: a,
+    }
 }
 
 fn obligation(
@@ -60,20 +70,28 @@ fn obligation(
     depth: usize,
     cells: &mut [i64],
 ) -> Next
-    requires { ⌜ (4 ≤ length (now s)) × (1 ≤ depth) × (event .time ≤ farthest) × (a ≤ farthest) × (length (now values) ≤ 16) × (length (now reading) ≤ 4) × (length (now cells) ≡ 24) ⌝ }
-    ensures { λ r. ⌜ ((ag : List ℕ) (below place : ℕ) → Leads event (now (reading .entry)) ag below (now (s .entry)) place (now (params .entry)) (now (values .entry)) a depth (bodyIn ag (depth - 1) place (now (s .entry)) obligationKind) (now (cells .exit)) r) ⌝ }
+    requires { ⌜ (4 ≤ length (now s)) × (1 ≤ depth) × (event .time ≤ farthest) × (a ≤ farthest)
+        × (length (now values) ≤ 16) × (length (now reading) ≤ 4) × (length (now cells) ≡ 24) ⌝ }
+    ensures { λ r. ⌜ ((ag : List ℕ) (below place : ℕ)
+        → Leads event (now (reading .entry)) ag below (now (s .entry)) place (now (params .entry))
+        (now (values .entry)) a depth (bodyIn ag (depth - 1) place (now (s .entry)) obligationKind)
+        (now (cells .exit)) r) ⌝ }
 {
     match becomes(event, s, 5, values, reading, a, depth - 1) {
         Fate::Waits => Next::Waits(17),
         Fate::Late(last) => {
             let bits = blame_bits(params, byte(s, 4));
             let t = later(a as i64, last);
-            Next::Breaks(t, bits)
+            Next::Breaks { at: t, by: bits }
         }
         Fate::Taken(last) => {
             let c = wait_end(s, 5);
             let n = then_values(values, reading, last, event.time, cells);
-            Next::Takes(c, s.len(), n)
+            Next::Takes {
+                from: c,
+                to: s.len(),
+                values: n,
+            }
         }
     }
 }
@@ -88,18 +106,30 @@ fn choice(
     depth: usize,
     cells: &mut [i64],
 ) -> Next
-    requires { ⌜ (4 ≤ length (now s)) × (1 ≤ depth) × (event .time ≤ farthest) × (a ≤ farthest) × (length (now values) ≤ 16) × (length (now reading) ≤ 4) × (length (now cells) ≡ 24) ⌝ }
-    ensures { λ r. ⌜ ((ag : List ℕ) (below place : ℕ) → Leads event (now (reading .entry)) ag below (now (s .entry)) place (now (params .entry)) (now (values .entry)) a depth (bodyIn ag (depth - 1) place (now (s .entry)) choiceKind) (now (cells .exit)) r) ⌝ }
+    requires { ⌜ (4 ≤ length (now s)) × (1 ≤ depth) × (event .time ≤ farthest) × (a ≤ farthest)
+        × (length (now values) ≤ 16) × (length (now reading) ≤ 4) × (length (now cells) ≡ 24) ⌝ }
+    ensures { λ r. ⌜ ((ag : List ℕ) (below place : ℕ)
+        → Leads event (now (reading .entry)) ag below (now (s .entry)) place (now (params .entry))
+        (now (values .entry)) a depth (bodyIn ag (depth - 1) place (now (s .entry)) choiceKind) (now (cells .exit))
+        r) ⌝ }
 {
     let fate = becomes(event, s, 4, values, reading, a, depth - 1);
     let c = wait_end(s, 4);
     let f = record_end(s, c);
     match fate {
         Fate::Waits => Next::Waits(18),
-        Fate::Late(last) => Next::Goes(f, s.len(), moved(a, last)),
+        Fate::Late(last) => Next::Goes {
+            from: f,
+            to: s.len(),
+            at: moved(a, last),
+        },
         Fate::Taken(last) => {
             let n = then_values(values, reading, last, event.time, cells);
-            Next::Takes(c, f, n)
+            Next::Takes {
+                from: c,
+                to: f,
+                values: n,
+            }
         }
     }
 }
@@ -116,8 +146,12 @@ pub fn leads_to(
     vs: &[i64],
     cells: &mut [i64],
 ) -> Next
-    requires { ⌜ Ready (now places) (now agreement) event (now rs) site (now ps) (now vs) × Acting (site .depth) (now s) × (length (now cells) ≡ 24) ⌝ }
-    ensures { λ r. ⌜ Leads event (now (rs .entry)) (now (agreement .entry)) (site .below) (now (s .entry)) (site .place) (now (ps .entry)) (now (vs .entry)) (site .a) (site .depth) (clause (headsOf (now (agreement .entry))) (site .depth) (site .place) (now (s .entry))) (now (cells .exit)) r ⌝ }
+    requires { ⌜ Ready (now places) (now agreement) event (now rs) site (now ps) (now vs)
+        × Acting (site .depth) (now s) × (length (now cells) ≡ 24) ⌝ }
+    ensures { λ r. ⌜ Leads event (now (rs .entry)) (now (agreement .entry)) (site .below) (now (s .entry))
+        (site .place) (now (ps .entry)) (now (vs .entry)) (site .a) (site .depth)
+        (clause (headsOf (now (agreement .entry))) (site .depth) (site .place) (now (s .entry))) (now (cells .exit))
+        r ⌝ }
 {
     let below = site.below;
     let a = site.a;
@@ -140,9 +174,12 @@ fn ends(s: &[u8]) -> bool
     }
 }
 
-// What the record s shows. Beside a side with nothing to do an `and` does what its other side does, and an `or` is fulfilled.
+// What the record s shows. Beside a side with nothing to do an `and` does what its other side does, and an `or` is
+// fulfilled.
 pub fn outline(s: &[u8], depth: usize) -> Shape
-    ensures { λ r. ⌜ ((e : Event) (rs : List ℤ) (ag : List ℕ) (below place : ℕ) (ps vs : List ℤ) (a : ℕ) → Shaped e rs ag below (now (s .entry)) place ps vs a depth (clause (headsOf ag) depth place (now (s .entry))) r) ⌝ }
+    ensures { λ r. ⌜ ((e : Event) (rs : List ℤ) (ag : List ℕ) (below place : ℕ) (ps vs : List ℤ) (a : ℕ)
+        → Shaped e rs ag below (now (s .entry)) place ps vs a depth (clause (headsOf ag) depth place (now (s .entry)))
+        r) ⌝ }
 {
     if depth == 0 {
         return Shape::Ends;
@@ -160,17 +197,20 @@ pub fn outline(s: &[u8], depth: usize) -> Shape
                     return Shape::Ends;
                 }
                 if k == 20 {
-                    return Shape::Goes(f, s.len());
+                    return Shape::Goes {
+                        from: f,
+                        to: s.len(),
+                    };
                 }
                 return Shape::Ends;
             }
             if right {
                 if k == 20 {
-                    return Shape::Goes(4, f);
+                    return Shape::Goes { from: 4, to: f };
                 }
                 return Shape::Ends;
             }
-            Shape::Joins(k, f)
+            Shape::Joins { kind: k, right: f }
         }
         17..=22 => Shape::Acts,
         _ => Shape::Ends,

@@ -13,15 +13,15 @@ ghost use Rattle.csl.specs.Decode.{joinOf};
 ghost use Rattle.cells.specs.Reduce.{joined};
 ghost use Rattle.residues.specs.Reduces.{Is};
 ghost use Rattle.records.specs.Index.{headAt};
-ghost use Rattle.activation.specs.Leads.{Ready, Fits, Sided, Acting, reduceAt, innerSite, bodySite, bodyFrom};
-ghost use Rattle.activation.specs.Leads.{bodyTo};
+ghost use Rattle.activation.specs.Leads.{Ready, Fits, Sided, Acting, reduceAt, innerSite, sidesReduced};
+ghost use Rattle.activation.specs.Leads.{bodyReduced};
 use crate::instances::body;
 use crate::leads::leads_to;
 use crate::leads::outline;
-use crate::sites::activated;
-use crate::sites::after;
-use crate::sites::unfolded;
-use crate::sites::within;
+use crate::sites::body_site;
+use crate::sites::inner_site;
+use crate::sites::then_event;
+use crate::sites::then_site;
 use arith::byte;
 use records::param_count;
 use records::value_count;
@@ -31,7 +31,8 @@ use residues::put_unit;
 use residues::room_left;
 use waits::Event;
 
-// Where a clause is activated: the number that the templates are below which it may name, its byte place, its time, and the depths that are left within it.
+// Where a clause is activated: the number that the templates are below which it may name, its byte place, its time,
+// and the depths that are left within it.
 pub struct Site {
     pub below: usize,
     pub place: usize,
@@ -45,25 +46,42 @@ pub struct Span {
     pub to: usize,
 }
 
-// What a record shows by kinds alone: that there is nothing to do; a part of its bytes that does the same; the kind of a join and where its right side begins; a clause that acts.
+// What a record shows by kinds alone: that there is nothing to do; a part of its bytes that does the same; the kind
+// of a
+// join and where its right side begins; a clause that acts.
 pub enum Shape {
     Ends,
-    Goes(usize, usize),
-    Joins(usize, usize),
+    Goes { from: usize, to: usize },
+    Joins { kind: usize, right: usize },
     Acts,
 }
 
-// What a clause that acts leads to: an end, a breach, a waiting unit of a sort; a part of its bytes at a time; a `then` in a part of its bytes, with so many values; a template.
+// What a clause that acts leads to: an end, a breach, a waiting unit of a sort; a part of its bytes at a time; a
+// `then` in
+// a part of its bytes, with so many values; a template.
 pub enum Next {
     Ends,
-    Breaks(i64, usize),
+    Breaks {
+        at: i64,
+        by: usize,
+    },
     Waits(usize),
-    Goes(usize, usize, usize),
-    Takes(usize, usize, usize),
+    Goes {
+        from: usize,
+        to: usize,
+        at: usize,
+    },
+    Takes {
+        from: usize,
+        to: usize,
+        values: usize,
+    },
     Unfolds(usize),
 }
 
-// What the clause in the record s becomes at a site; rs, ps and vs are the reading's values, the party parameters and the values in sight. A residue grows downward from the end of out.
+// What the clause in the record s becomes at a site; rs, ps and vs are the reading's values, the party parameters and
+// the
+// values in sight. A residue grows downward from the end of out.
 pub fn activate(
     agreement: &[u8],
     places: &[usize],
@@ -76,15 +94,18 @@ pub fn activate(
     out: &mut [i64],
 ) -> Reduced
     requires { ⌜ Ready (now places) (now agreement) event (now rs) site (now ps) (now vs) × Fits (now agreement) site (now s) (now out) ⌝ }
-    ensures { λ r. ⌜ Is (reduceAt event (now (rs .entry)) (now (agreement .entry)) site (now (s .entry)) (now (ps .entry)) (now (vs .entry))) r (now (out .exit)) ⌝ }
+    ensures { λ r. ⌜ Is (reduceAt event (now (rs .entry)) (now (agreement .entry)) site (now (s .entry))
+        (now (ps .entry)) (now (vs .entry))) r (now (out .exit)) ⌝ }
 {
     match outline(s, site.depth) {
         Shape::Ends => Reduced::Done,
-        Shape::Goes(x, y) => {
+        Shape::Goes { from: x, to: y } => {
             let a = site.a;
             inside(agreement, places, event, rs, site, s, x, y, a, ps, vs, out)
         }
-        Shape::Joins(k, f) => both(agreement, places, event, rs, site, s, k, f, ps, vs, out),
+        Shape::Joins { kind: k, right: f } => {
+            both(agreement, places, event, rs, site, s, k, f, ps, vs, out)
+        }
         Shape::Acts => act(agreement, places, event, rs, site, s, ps, vs, out),
     }
 }
@@ -101,20 +122,28 @@ fn act(
     vs: &[i64],
     out: &mut [i64],
 ) -> Reduced
-    requires { ⌜ Ready (now places) (now agreement) event (now rs) site (now ps) (now vs) × Fits (now agreement) site (now s) (now out) × Acting (site .depth) (now s) ⌝ }
-    ensures { λ r. ⌜ Is (reduceAt event (now (rs .entry)) (now (agreement .entry)) site (now (s .entry)) (now (ps .entry)) (now (vs .entry))) r (now (out .exit)) ⌝ }
+    requires { ⌜ Ready (now places) (now agreement) event (now rs) site (now ps) (now vs)
+        × Fits (now agreement) site (now s) (now out) × Acting (site .depth) (now s) ⌝ }
+    ensures { λ r. ⌜ Is (reduceAt event (now (rs .entry)) (now (agreement .entry)) site (now (s .entry))
+        (now (ps .entry)) (now (vs .entry))) r (now (out .exit)) ⌝ }
 {
     let mut cells = [0i64; 24];
     match leads_to(agreement, places, event, rs, site, s, ps, vs, &mut cells) {
         Next::Ends => Reduced::Done,
-        Next::Breaks(t, b) => Reduced::Breach(t, b),
+        Next::Breaks { at: t, by: b } => Reduced::Breach { at: t, by: b },
         Next::Waits(sort) => put_unit(out, sort, site.place, site.a, ps, vs),
-        Next::Goes(x, y, a) => {
-            inside(agreement, places, event, rs, site, s, x, y, a, ps, vs, out)
-        }
-        Next::Takes(x, y, n) => {
-            let first = activated(event);
-            let then = after(site, x, event.time, byte(agreement, 10));
+        Next::Goes {
+            from: x,
+            to: y,
+            at: a,
+        } => { inside(agreement, places, event, rs, site, s, x, y, a, ps, vs, out) }
+        Next::Takes {
+            from: x,
+            to: y,
+            values: n,
+        } => {
+            let first = then_event(event);
+            let then = then_site(site, x, event.time, byte(agreement, 10));
             let us = &cells[..n];
             activate(agreement, places, first, rs, then, &s[x..y], ps, us, out)
         }
@@ -122,7 +151,8 @@ fn act(
     }
 }
 
-// The clause in a part of the record s, at the time a. It stands apart so that `activate` copies no arguments before it knows the shape.
+// The clause in a part of the record s, at the time a. It stands apart so that `activate` copies no arguments before
+// it knows the shape.
 fn inside(
     agreement: &[u8],
     places: &[usize],
@@ -137,15 +167,19 @@ fn inside(
     vs: &[i64],
     out: &mut [i64],
 ) -> Reduced
-    requires { ⌜ Ready (now places) (now agreement) event (now rs) site (now ps) (now vs) × Fits (now agreement) site (now s) (now out) × (1 ≤ site .depth) × (from ≤ to) × (to ≤ length (now s)) × (a ≤ site .a + 2_000_000_000) ⌝ }
-    ensures { λ r. ⌜ Is (reduceAt event (now (rs .entry)) (now (agreement .entry)) (innerSite site from a) (part (now (s .entry)) from to) (now (ps .entry)) (now (vs .entry))) r (now (out .exit)) ⌝ }
+    requires { ⌜ Ready (now places) (now agreement) event (now rs) site (now ps) (now vs)
+        × Fits (now agreement) site (now s) (now out) × (1 ≤ site .depth)
+        × (from ≤ to) × (to ≤ length (now s)) × (a ≤ site .a + 2_000_000_000) ⌝ }
+    ensures { λ r. ⌜ Is (reduceAt event (now (rs .entry)) (now (agreement .entry)) (innerSite site from a)
+        (part (now (s .entry)) from to) (now (ps .entry)) (now (vs .entry))) r (now (out .exit)) ⌝ }
 {
-    let inner = within(site, from, a);
+    let inner = inner_site(site, from, a);
     let t = &s[from..to];
     activate(agreement, places, event, rs, inner, t, ps, vs, out)
 }
 
-// A clause with two sides, of which the right one begins at f: the right side first, the left side into the cells that are left, the join's unit below both.
+// A clause with two sides, of which the right one begins at f: the right side first, the left side into the cells
+// that are left, the join's unit below both.
 fn both(
     agreement: &[u8],
     places: &[usize],
@@ -159,13 +193,15 @@ fn both(
     vs: &[i64],
     out: &mut [i64],
 ) -> Reduced
-    requires { ⌜ Ready (now places) (now agreement) event (now rs) site (now ps) (now vs) × Fits (now agreement) site (now s) (now out) × Sided (site .depth) (length (now s)) kind f ⌝ }
-    ensures { λ r. ⌜ Is (joined (joinOf kind) (reduceAt event (now (rs .entry)) (now (agreement .entry)) (innerSite site 4 (site .a)) (part (now (s .entry)) 4 f) (now (ps .entry)) (now (vs .entry))) (reduceAt event (now (rs .entry)) (now (agreement .entry)) (innerSite site f (site .a)) (part (now (s .entry)) f (length (now (s .entry)))) (now (ps .entry)) (now (vs .entry)))) r (now (out .exit)) ⌝ }
+    requires { ⌜ Ready (now places) (now agreement) event (now rs) site (now ps) (now vs)
+        × Fits (now agreement) site (now s) (now out) × Sided (site .depth) (length (now s)) kind f ⌝ }
+    ensures { λ r. ⌜ Is (sidesReduced event (now (rs .entry)) (now (agreement .entry)) site (now (s .entry)) kind f
+        (now (ps .entry)) (now (vs .entry))) r (now (out .exit)) ⌝ }
 {
-    let right = within(site, f, site.a);
+    let right = inner_site(site, f, site.a);
     let r = activate(agreement, places, event, rs, right, &s[f..], ps, vs, out);
     let e = room_left(r, out.len());
-    let left = within(site, 4, site.a);
+    let left = inner_site(site, 4, site.a);
     let l = activate(
         agreement,
         places,
@@ -191,13 +227,14 @@ fn unfold(
     cells: &[i64],
     out: &mut [i64],
 ) -> Reduced
-    requires { ⌜ Ready (now places) (now agreement) event (now rs) site [] [] × Fits (now agreement) site [] (now out) × (k < site .below) × (length (now cells) ≡ 24) ⌝ }
-    ensures { λ r. ⌜ Is (reduceAt event (now (rs .entry)) (now (agreement .entry)) (bodySite (now (agreement .entry)) site k) (part (now (agreement .entry)) (bodyFrom (now (agreement .entry)) k) (bodyTo (now (agreement .entry)) k)) (take (headAt (now (agreement .entry)) k .params) (drop 16 (now (cells .entry)))) (take (length (headAt (now (agreement .entry)) k .values)) (now (cells .entry)))) r (now (out .exit)) ⌝ }
+    requires { ⌜ Ready (now places) (now agreement) event (now rs) site [] []
+        × Fits (now agreement) site [] (now out) × (k < site .below) × (length (now cells) ≡ 24) ⌝ }
+    ensures { λ r. ⌜ Is (bodyReduced event (now (rs .entry)) (now (agreement .entry)) site k (now (cells .entry))) r (now (out .exit)) ⌝ }
 {
     let b = body(agreement, places, k);
     let from = b.from;
     let to = b.to;
-    let inner = unfolded(site, k, from);
+    let inner = body_site(site, k, from);
     let vs = &cells[..value_count(agreement, places, k)];
     let ps = &cells[16..16 + param_count(agreement, places, k)];
     let s = &agreement[from..to];

@@ -7,7 +7,7 @@ use waits::Event;
 use waits::Step;
 
 // The site of a part of a clause that begins at `from`, and of a `then`, which may name any template.
-pub fn within(site: Site, from: usize, a: usize) -> Site
+pub fn inner_site(site: Site, from: usize, a: usize) -> Site
     requires { ⌜ (1 ≤ site .depth) × (site .place + from ≤ farthest) ⌝ }
     ensures { λ r. ⌜ r ≡ record { below = site .below; place = site .place + from; a = a; depth = site .depth - 1 } ⌝ }
 {
@@ -19,7 +19,7 @@ pub fn within(site: Site, from: usize, a: usize) -> Site
     }
 }
 
-pub fn after(site: Site, from: usize, a: usize, below: usize) -> Site
+pub fn then_site(site: Site, from: usize, a: usize, below: usize) -> Site
     requires { ⌜ (1 ≤ site .depth) × (site .place + from ≤ farthest) ⌝ }
     ensures { λ r. ⌜ r ≡ record { below = below; place = site .place + from; a = a; depth = site .depth - 1 } ⌝ }
 {
@@ -32,7 +32,7 @@ pub fn after(site: Site, from: usize, a: usize, below: usize) -> Site
 }
 
 // The site of the body of template k.
-pub fn unfolded(site: Site, k: usize, place: usize) -> Site
+pub fn body_site(site: Site, k: usize, place: usize) -> Site
     ensures { λ r. ⌜ r ≡ record { below = k; place = place; a = site .a; depth = 22 } ⌝ }
 {
     Site {
@@ -44,12 +44,12 @@ pub fn unfolded(site: Site, k: usize, place: usize) -> Site
 }
 
 // A `then` is activated, and takes no reading.
-pub fn activated(event: Event) -> Event
-    ensures { λ r. ⌜ r ≡ record { step = Step.Activate; time = event .time; sort = event .sort } ⌝ }
+pub fn then_event(event: Event) -> Event
+    ensures { λ r. ⌜ r ≡ record { step = Step.Activate; time = event .time; tag = event .tag } ⌝ }
 {
     Event {
         step: Step::Activate,
         time: event.time,
-        sort: event.sort,
+        tag: event.tag,
     }
 }

@@ -54,7 +54,7 @@ abbrev mainSite : ℕ → ℕ → ℕ → Site
 mainSite below place a = record { below = below; place = place; a = a; depth = 23 }
 
 abbrev startEvent : Event
-startEvent = record { step = Activate; time = 0; sort = 0 }
+startEvent = record { step = Activate; time = 0; tag = 0 }
 
 module _ (s : List ℕ) {n p t : ℕ} (en : n ≡ byte s 10) (et : t ≡ le32 s 4) where
   pub main-ready : {places : List ℕ} → Indexed places s → t < 4_294_967_296

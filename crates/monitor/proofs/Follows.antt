@@ -280,7 +280,7 @@ module _ {s places : List ℕ} {us : List ℤ} {sights : List ℕ} (o : Opened s
             → Fitted s bytes us (record {
               step = Follow;
               time = time;
-              sort = sort;
+              tag = sort;
             }) (take n values)
         read-fitted ez eb t =
             let f = fitting-read in

@@ -94,7 +94,7 @@ module _ (s mains : List ℕ) (ck : checked s ≡ accepted (agreementOf s) mains
           place = refl;
           within = place-within s p (ok .found .clause) (f .0) (f .1);
           since = refl;
-          early = omega (arith, ok .when .1);
+          dated = omega (arith, ok .when .1);
         }
 
     sort-waits : (k : Sort) → ltb (sortNumber k) 20 ≡ true

@@ -99,7 +99,7 @@ pub record Fitted (s bytes : List ℕ) (table : List ℤ) (e : Event) (rs : List
   pub typed : typedReading (agreementOf s) raw ≡ some reading
   pub follows : e .step ≡ Follow
   pub time : e .time ≡ reading .time
-  pub type : e .sort ≡ reading .type
+  pub type : e .tag ≡ reading .type
   pub cells : rs ≡ cellsOf (reading .values)
   pub few : length rs ≤ 4
   pub fits : e .time < 4_294_967_296

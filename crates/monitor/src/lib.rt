@@ -110,7 +110,7 @@ fn activated(agreement: &[u8], places: &[usize], out: &mut [i64]) -> Reduced
     let event = Event {
         step: Step::Activate,
         time: 0,
-        sort: 0,
+        tag: 0,
     };
     let site = Site {
         below: byte(agreement, 10),
@@ -299,7 +299,7 @@ fn read_on(
             let event = Event {
                 step: Step::Follow,
                 time: time,
-                sort: sort,
+                tag: sort,
             };
             let rs = &values[..n];
             step(agreement, places, state, sights, table, event, rs)
@@ -352,7 +352,7 @@ fn breach_ahead(
     let event = Event {
         step: Step::Forecast,
         time: 0,
-        sort: 0,
+        tag: 0,
     };
     match across(
         agreement,
@@ -365,7 +365,7 @@ fn breach_ahead(
         &mut out,
     ) {
         Reduced::Done => Foretold::Nothing,
-        Reduced::Breach(due, by) => {
+        Reduced::Breach { at: due, by: by } => {
             let time = minutes(due);
             Foretold::Breach { time, parties: by }
         }

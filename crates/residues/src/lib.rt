@@ -13,7 +13,7 @@ ghost use Rattle.residues.specs.Reduces.{Is, farthest, roomLeft, Counted
 // Fulfilled; a breach's time and its parties by bit; a residue of so many units, counted up to 129.
 pub enum Reduced {
     Done,
-    Breach(i64, usize),
+    Breach { at: i64, by: usize },
     Running(usize),
 }
 
@@ -60,7 +60,8 @@ pub fn copy(dst: &mut [i64], src: &[i64])
 
 // A unit's 24 cells.
 fn write_unit(unit: &mut [i64], sort: usize, place: usize, a: usize, params: &[i64], values: &[i64])
-    requires { ⌜ (length (now unit) ≡ 24) × (sort ≤ farthest) × (place ≤ farthest) × (a ≤ farthest) × (length (now params) ≤ 5) × (length (now values) ≤ 16) ⌝ }
+    requires { ⌜ (length (now unit) ≡ 24) × (sort ≤ farthest) × (place ≤ farthest) × (a ≤ farthest)
+        × (length (now params) ≤ 5) × (length (now values) ≤ 16) ⌝ }
     ensures { λ _. ⌜ now (unit .exit) ≡ unitOf sort place a (now (params .entry)) (now (values .entry)) ⌝ }
 {
     unit[0] = sort as i64;
@@ -97,7 +98,7 @@ pub fn room_left(r: Reduced, len: usize) -> usize
 {
     match r {
         Reduced::Done => len,
-        Reduced::Breach(_, _) => len,
+        Reduced::Breach { at: _, by: _ } => len,
         Reduced::Running(m) => {
             let used = 24 * m;
             if used < len {
@@ -113,12 +114,12 @@ fn earlier_breach(t: i64, b: usize, u: i64, c: usize) -> Reduced
     ensures { λ r. ⌜ BreachIs earlier t b u c r ⌝ }
 {
     if t < u {
-        return Reduced::Breach(t, b);
+        return Reduced::Breach { at: t, by: b };
     }
     if u < t {
-        return Reduced::Breach(u, c);
+        return Reduced::Breach { at: u, by: c };
     }
-    Reduced::Breach(t, b | c)
+    Reduced::Breach { at: t, by: b | c }
 }
 
 // The later of two breaches; the left one where they are at one time.
@@ -126,9 +127,9 @@ fn later_breach(t: i64, b: usize, u: i64, c: usize) -> Reduced
     ensures { λ r. ⌜ BreachIs later t b u c r ⌝ }
 {
     if t < u {
-        return Reduced::Breach(u, c);
+        return Reduced::Breach { at: u, by: c };
     }
-    Reduced::Breach(t, b)
+    Reduced::Breach { at: t, by: b }
 }
 
 // Units are counted up to 129.
@@ -138,7 +139,8 @@ fn capped(n: usize) -> usize
     if n < 129 { n } else { 129 }
 }
 
-// Two residues of n and m units, one below the other at the end of out, become one: the join's unit goes below both where there is room.
+// Two residues of n and m units, one below the other at the end of out, become one: the join's unit goes below both
+// where there is room.
 fn put_join(kind: usize, n: usize, m: usize, out: &mut [i64]) -> Reduced
     requires { ⌜ (20 ≤ kind) × (kind < 22) × (n ≤ 129) × (m ≤ 129) × (length (now out) ≤ 3072) ⌝ }
     ensures { λ r. ⌜ JoinIs (joinOf kind) (Reduced.Running n) (Reduced.Running m) (now (out .entry)) r (now (out .exit)) ⌝ }
@@ -160,14 +162,14 @@ fn join_both(l: Reduced, r: Reduced, out: &mut [i64]) -> Reduced
 {
     match l {
         Reduced::Done => r,
-        Reduced::Breach(t, b) => match r {
+        Reduced::Breach { at: t, by: b } => match r {
             Reduced::Done => l,
-            Reduced::Breach(u, c) => earlier_breach(t, b, u, c),
+            Reduced::Breach { at: u, by: c } => earlier_breach(t, b, u, c),
             Reduced::Running(_) => l,
         },
         Reduced::Running(n) => match r {
             Reduced::Done => l,
-            Reduced::Breach(_, _) => r,
+            Reduced::Breach { at: _, by: _ } => r,
             Reduced::Running(m) => put_join(20, n, m, out),
         },
     }
@@ -179,14 +181,14 @@ fn join_either(l: Reduced, r: Reduced, out: &mut [i64]) -> Reduced
 {
     match l {
         Reduced::Done => Reduced::Done,
-        Reduced::Breach(t, b) => match r {
+        Reduced::Breach { at: t, by: b } => match r {
             Reduced::Done => Reduced::Done,
-            Reduced::Breach(u, c) => later_breach(t, b, u, c),
+            Reduced::Breach { at: u, by: c } => later_breach(t, b, u, c),
             Reduced::Running(_) => r,
         },
         Reduced::Running(n) => match r {
             Reduced::Done => Reduced::Done,
-            Reduced::Breach(_, _) => l,
+            Reduced::Breach { at: _, by: _ } => l,
             Reduced::Running(m) => put_join(21, n, m, out),
         },
     }
@@ -198,7 +200,7 @@ fn same(r: Reduced) -> Reduced
 {
     match r {
         Reduced::Done => Reduced::Done,
-        Reduced::Breach(t, b) => Reduced::Breach(t, b),
+        Reduced::Breach { at: t, by: b } => Reduced::Breach { at: t, by: b },
         Reduced::Running(n) => Reduced::Running(n),
     }
 }
@@ -219,7 +221,7 @@ pub fn units_of(r: Reduced) -> usize
 {
     match r {
         Reduced::Done => 0,
-        Reduced::Breach(_, _) => 0,
+        Reduced::Breach { at: _, by: _ } => 0,
         Reduced::Running(n) => n,
     }
 }

@@ -44,7 +44,8 @@ fn copy_units(units: &mut [i64], residue: &[i64], n: usize)
     }
 }
 
-// Writes the table of a run at `time`, whose residue stands whole at the end of `out`, unless it has more than 128 units.
+// Writes the table of a run at `time`, whose residue stands whole at the end of `out`, unless it has more than 128
+// units.
 pub fn settle(table: &mut [i64], time: i64, r: Reduced, out: &[i64]) -> bool
     requires { ⌜ (length (now table) ≡ 3080) × Whole r (now out) × (time ≡ pos (natOf time)) × (bitsIn r < 65_536) ⌝ }
     ensures { λ settled. ⌜ Settles (natOf time) r (now (out .entry)) (now (table .entry)) (now (table .exit)) settled ⌝ }
@@ -54,7 +55,7 @@ pub fn settle(table: &mut [i64], time: i64, r: Reduced, out: &[i64]) -> bool
             put_head(table, 2, time, 0, 0, 0);
             true
         }
-        Reduced::Breach(t, b) => {
+        Reduced::Breach { at: t, by: b } => {
             put_head(table, 3, time, t, b, 0);
             true
         }

@@ -123,7 +123,7 @@ module _ (e : Event) (vs rs : List ℤ) (a : ℕ) (w : Wait) where
   unfolding FateIs fate
   becomes-late h x f = rw h (refl, read! f ∙ x .last, rw (read! f) (x .near))
 
-  pub becomes-followed : e .step ≡ Follow → (f : Fate) → FateIs (following (e .time) (e .sort) rs) vs a w f
+  pub becomes-followed : e .step ≡ Follow → (f : Fate) → FateIs (following (e .time) (e .tag) rs) vs a w f
       → FateIs (modeAt e rs) vs a w f
   becomes-followed h f x = rw h x
 

@@ -24,7 +24,7 @@ modeOf Follow t k rs = following t k rs
 
 -- ---- waits; what the code says of a wait in the record s holds whatever the place of s is
 abbrev pub modeAt : Event → List ℤ → Mode
-modeAt e rs = modeOf (e .step) (e .time) (e .sort) rs
+modeAt e rs = modeOf (e .step) (e .time) (e .tag) rs
 
 unfoldable pub conditionOf : List ℕ → ℕ → ℕ → List ℤ → Bool
 conditionOf s i d vs = isTrue (evalCells vs (waitAt (expr d) 0 s i .condition))

@@ -24,11 +24,11 @@ pub enum Step {
     Follow,
 }
 
-// A step, and for a reading that is followed its time and type.
+// A step, and for a reading that is followed its time and its type's number, the tag.
 pub struct Event {
     pub step: Step,
     pub time: usize,
-    pub sort: usize,
+    pub tag: usize,
 }
 
 // The first and the last minute of a wait.
@@ -72,7 +72,8 @@ fn window_at(s: &[u8], i: usize, values: &[i64], a: usize, depth: usize) -> Wind
 // The values in sight and the reading's go to the front of cells.
 fn sight(values: &[i64], reading: &[i64], cells: &mut [i64]) -> usize
     requires { ⌜ (length (now values) ≤ 16) × (length (now reading) ≤ 4) × (length (now cells) ≡ 24) ⌝ }
-    ensures { λ r. ⌜ (r ≡ length (now (values .entry) ++ now (reading .entry))) × (r ≤ 20) × (now (cells .exit) ≡ (now (values .entry) ++ now (reading .entry)) ++ drop r (now (cells .entry))) ⌝ }
+    ensures { λ r. ⌜ (r ≡ length (now (values .entry) ++ now (reading .entry))) × (r ≤ 20)
+        × (now (cells .exit) ≡ (now (values .entry) ++ now (reading .entry)) ++ drop r (now (cells .entry))) ⌝ }
 {
     let n = values.len();
     copy(cells, values);
@@ -96,7 +97,7 @@ fn holds(s: &[u8], i: usize, values: &[i64], reading: &[i64], depth: usize) -> b
 // What a reading makes of the wait at i in the record s.
 fn follow(
     time: usize,
-    sort: usize,
+    tag: usize,
     s: &[u8],
     i: usize,
     values: &[i64],
@@ -105,7 +106,8 @@ fn follow(
     depth: usize,
 ) -> Fate
     requires { ⌜ (time ≤ farthest) × (i ≤ 5) × (a ≤ farthest) × (length (now values) ≤ 16) × (length (now reading) ≤ 4) ⌝ }
-    ensures { λ r. ⌜ ((p : ℕ) → FateIs (following time sort (now (reading .entry))) (now (values .entry)) a (waitAt (expr depth) p (now (s .entry)) i) r) ⌝ }
+    ensures { λ r. ⌜ ((p : ℕ) → FateIs (following time tag (now (reading .entry))) (now (values .entry)) a
+        (waitAt (expr depth) p (now (s .entry)) i) r) ⌝ }
 {
     let w = window_at(s, i, values, a, depth);
     let t = time as i64;
@@ -113,7 +115,7 @@ fn follow(
     if last < t {
         return Fate::Late(last);
     }
-    if byte(s, i) != sort {
+    if byte(s, i) != tag {
         return Fate::Waits;
     }
     let first = w.first;
@@ -146,7 +148,7 @@ pub fn becomes(
             let last = w.last;
             Fate::Late(last)
         }
-        Step::Follow => follow(event.time, event.sort, s, i, values, reading, a, depth),
+        Step::Follow => follow(event.time, event.tag, s, i, values, reading, a, depth),
     }
 }
 
@@ -158,7 +160,8 @@ pub fn then_values(
     time: usize,
     cells: &mut [i64],
 ) -> usize
-    requires { ⌜ (length (now values) ≤ 16) × (length (now reading) ≤ 4) × (length (now cells) ≡ 24) × (time ≤ farthest) × Within (farthest + 2_000_000_000) last ⌝ }
+    requires { ⌜ (length (now values) ≤ 16) × (length (now reading) ≤ 4) × (length (now cells) ≡ 24)
+        × (time ≤ farthest) × Within (farthest + 2_000_000_000) last ⌝ }
     ensures { λ r. ⌜ (take r (now (cells .exit)) ≡ thenValues (now (values .entry)) (now (reading .entry)) (last -ℤ pos time)) × (r ≤ 16) ⌝ }
 {
     let left = exact_difference(last, time as i64);

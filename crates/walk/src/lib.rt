@@ -57,9 +57,13 @@ fn waiting_unit(
     table: &[i64],
     out: &mut [i64],
 ) -> Reduced
-    requires { ⌜ Indexed (now places) (now agreement) × (length (now rs) ≤ 4) × (event .time ≤ 4_294_967_296) × (length (now agreement) ≤ farthest) × (length (now out) ≤ 3072) ⌝ }
-    requires { ⌜ (24 ≤ length (now table)) × (2 ≤ length (now sights)) × Waiting (length (now agreement)) (getD (now sights) 0 0) (getD (now sights) 1 0) (take 24 (now table)) ⌝ }
-    ensures { λ r. ⌜ Is (unitReduced (modeAt event (now (rs .entry))) (now (agreement .entry)) (getD (now (sights .entry)) 0 0) (getD (now (sights .entry)) 1 0) (take 24 (now (table .entry)))) r (now (out .exit)) ⌝ }
+    requires { ⌜ Indexed (now places) (now agreement) × (length (now rs) ≤ 4) × (event .time ≤ 4_294_967_296)
+        × (length (now agreement) ≤ farthest) × (length (now out) ≤ 3072) ⌝ }
+    requires { ⌜ (24 ≤ length (now table)) × (2 ≤ length (now sights))
+        × Waiting (length (now agreement)) (getD (now sights) 0 0) (getD (now sights) 1 0) (take 24 (now table)) ⌝ }
+    ensures { λ r. ⌜ Is (unitReduced (modeAt event (now (rs .entry))) (now (agreement .entry))
+        (getD (now (sights .entry)) 0 0) (getD (now (sights .entry)) 1 0) (take 24 (now (table .entry)))) r
+        (now (out .exit)) ⌝ }
 {
     let params = sights[0];
     let values = sights[1];
@@ -86,7 +90,9 @@ fn waiting_unit(
     )
 }
 
-// What becomes of the tree of n units at the front of `table`, what runs of it standing at the end of `out`. A join is followed by all of its left side, then all of its right: the right side goes first, then the left side into the room that is left.
+// What becomes of the tree of n units at the front of `table`, what runs of it standing at the end of `out`. A join
+// is followed by all of its left side, then all of its right: the right side goes first, then the left side into the
+// room that is left.
 pub fn across(
     agreement: &[u8],
     places: &[usize],
@@ -97,9 +103,11 @@ pub fn across(
     n: usize,
     out: &mut [i64],
 ) -> Reduced
-    requires { ⌜ Indexed (now places) (now agreement) × (length (now rs) ≤ 4) × (event .time ≤ 4_294_967_296) × (length (now out) ≤ 3072) × (length (now agreement) ≤ farthest) ⌝ }
+    requires { ⌜ Indexed (now places) (now agreement) × (length (now rs) ≤ 4) × (event .time ≤ 4_294_967_296)
+        × (length (now out) ≤ 3072) × (length (now agreement) ≤ farthest) ⌝ }
     requires { ⌜ Tree (length (now agreement)) (now sights) (now table) n ⌝ }
-    ensures { λ r. ⌜ Is (treeReduced (modeAt event (now (rs .entry))) (now (agreement .entry)) n (now (sights .entry)) (now (table .entry))) r (now (out .exit)) ⌝ }
+    ensures { λ r. ⌜ Is (treeReduced (modeAt event (now (rs .entry))) (now (agreement .entry)) n (now (sights .entry))
+        (now (table .entry))) r (now (out .exit)) ⌝ }
 {
     if waits(table) {
         return waiting_unit(agreement, places, event, rs, sights, table, out);

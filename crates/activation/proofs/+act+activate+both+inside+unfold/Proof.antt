@@ -35,16 +35,16 @@ use Rattle.activation.proofs.+act+activate+both+inside+unfold.Lts-unfol
 use Rattle.arith.proofs.byte.Reads as byte-reads
 use Rattle.records.proofs.param_count.Reads as param-count-reads
 use Rattle.records.proofs.value_count.Reads as value-count-reads
-use Rattle.activation.proofs.sites.activated.Reads as activated-reads
-use Rattle.activation.proofs.sites.after.Reads as after-reads
+use Rattle.activation.proofs.sites.then_event.Reads as then-event-reads
+use Rattle.activation.proofs.sites.then_site.Reads as then-site-reads
 use Rattle.activation.proofs.instances.body.Reads as body-reads
 use Rattle.residues.proofs.join.Reads as join-reads
 use Rattle.activation.proofs.leads.leads_to.Reads as leads-to-reads
 use Rattle.activation.proofs.leads.outline.Reads as outline-reads
 use Rattle.residues.proofs.put_unit.Reads as put-unit-reads
 use Rattle.residues.proofs.room_left.Reads as room-left-reads
-use Rattle.activation.proofs.sites.unfolded.Reads as unfolded-reads
-use Rattle.activation.proofs.sites.within.Reads as within-reads
+use Rattle.activation.proofs.sites.body_site.Reads as body-site-reads
+use Rattle.activation.proofs.sites.inner_site.Reads as inner-site-reads
 use Rattle.activation.proofs.+act+activate+both+inside+unfold.{statement}
 use Rattle.activation.proofs.+act+activate+both+inside+unfold.Tie.{close}
 
@@ -103,12 +103,12 @@ act-claims t = (
   put-unit-reads.Learnt,
   inside-below t,
   inside.Post,
-  activated-reads.Asked,
-  activated-reads.Learnt,
+  then-event-reads.Asked,
+  then-event-reads.Learnt,
   byte-reads.Asked,
   byte-reads.Learnt,
-  after-reads.Asked,
-  after-reads.Learnt,
+  then-site-reads.Asked,
+  then-site-reads.Learnt,
   activate-below t,
   activate.Post,
   unfold-below t,
@@ -129,8 +129,8 @@ activate-claims t = (
 
 abbrev both-claims : ℕ → both-lts.Claims
 both-claims t = (
-  within-reads.Asked,
-  within-reads.Learnt,
+  inner-site-reads.Asked,
+  inner-site-reads.Learnt,
   activate-below t,
   activate.Post,
   room-left-reads.Asked,
@@ -140,14 +140,14 @@ both-claims t = (
 )
 
 abbrev inside-claims : ℕ → inside-lts.Claims
-inside-claims t = (within-reads.Asked, within-reads.Learnt, activate-below t, activate.Post)
+inside-claims t = (inner-site-reads.Asked, inner-site-reads.Learnt, activate-below t, activate.Post)
 
 abbrev unfold-claims : ℕ → unfold-lts.Claims
 unfold-claims t = (
   body-reads.Asked,
   body-reads.Learnt,
-  unfolded-reads.Asked,
-  unfolded-reads.Learnt,
+  body-site-reads.Asked,
+  body-site-reads.Learnt,
   value-count-reads.Asked,
   value-count-reads.Learnt,
   param-count-reads.Asked,
@@ -181,9 +181,9 @@ act-inside-requires t c κs =
     let g = rw (c .before .before .x .given .1) at (at-leads-to .leads-to .ensures) in
     (omega (arith, s .pre .0), (r, f, g .deep, g .order, g .inside, g .soon))
 
-act-after-requires : (t : ℕ) → act-lts.Need-after-requires (act-claims t) (act-at t) act.Post
+act-then-site-requires : (t : ℕ) → act-lts.Need-then-site-requires (act-claims t) (act-at t) act.Post
 unfolding Leads
-act-after-requires t c κs =
+act-then-site-requires t c κs =
     let at-x2 = c .before .before .before in
     let at-leads-to = at-x2 .before .before .before in
     let s = c .before .before .before .before .before .before .before .before .before .before .before in
@@ -255,17 +255,17 @@ act-part-activate-end t c =
 act-activate-requires : (t : ℕ) → act-lts.Need-activate-requires (act-claims t) (act-at t) act.Post
 unfolding Leads
 act-activate-requires t c κs =
-    let at-after = c .before .before .before in
-    let at-x2 = at-after .before .before .before .before in
+    let at-then-site = c .before .before .before in
+    let at-x2 = at-then-site .before .before .before .before in
     let at-leads-to = at-x2 .before .before .before in
     let s = c .before .before .before .before .before .before .before .before .before .before .before .before
     .before .before .before in
     let r = s .pre .1 .0 in
     let f = s .pre .1 .1 in
     let g = rw (at-x2 .x2 .given .1) at (at-leads-to .leads-to .ensures) in
-    let e = at-after .before .before .activated .ensures in
-    let h = at-after .after .ensures in
-    let n = at-after .before .byte .ensures .0 in (
+    let e = at-then-site .before .before .then-event .ensures in
+    let h = at-then-site .then-site .ensures in
+    let n = at-then-site .before .byte .ensures .0 in (
       omega (
         arith,
         s .pre .0,
@@ -366,8 +366,8 @@ act-returns-5 : (t : ℕ) → act-lts.Need-returns-5 (act-claims t) (act-at t) a
 unfolding Leads
 act-returns-5 t c =
     let activate = c .before .activate in
-    let at-after = c .before .before .before .before .before in
-    let at-x2 = at-after .before .before .before .before in
+    let at-then-site = c .before .before .before .before .before in
+    let at-x2 = at-then-site .before .before .before .before in
     let at-leads-to = at-x2 .before .before .before in
     let s = c .before .before .before .before .before .before .before .before .before .before .before .before
     .before .before .before .before .before in
@@ -381,9 +381,9 @@ act-returns-5 t c =
     (part (s .args .s .now) (at-x2 .x2 .given .0 .0) (at-x2 .x2 .given .0 .1 .0))) (s .args .ps .now)
     (take (at-x2 .x2 .given .0 .1 .1 .0) (at-leads-to .leads-to .last .1 .1 .1 .1 .1 .1 .1 .1 .0))
     (s .args .event .time)) (rw (
-      at-after .before .before .activated .ensures,
-      at-after .after .ensures,
-      at-after .before .byte .ensures .0,
+      at-then-site .before .before .then-event .ensures,
+      at-then-site .then-site .ensures,
+      at-then-site .before .byte .ensures .0,
     ) at (activate .ensures))
 
 act-returns-6 : (t : ℕ) → act-lts.Need-returns-6 (act-claims t) (act-at t) act.Post
@@ -477,7 +477,7 @@ activate-returns-3 t c =
 both-activate-requires : (t : ℕ) → both-lts.Need-activate-requires (both-claims t) (both-at t) both.Post
 both-activate-requires t c κs =
     let s = c .before .before .before .before .before .before in let r = s .pre .1 .0 in let f = s .pre .1 .1 in let
-    d = s .pre .1 .2 in let e = c .before .before .within .ensures in (
+    d = s .pre .1 .2 in let e = c .before .before .inner-site .ensures in (
       omega (
         arith,
         s .pre .0,
@@ -500,10 +500,10 @@ both-activate-requires t c κs =
 both-room-left-requires : (t : ℕ) → both-lts.Need-room-left-requires (both-claims t) (both-at t) both.Post
 both-room-left-requires t c κs =
     let activate = c .before .activate in
-    let at-within = c .before .before .before .before in
+    let at-inner-site = c .before .before .before .before in
     let s = c .before .before .before .before .before .before .before .before in
     is-counted (activate .last .1 .1 .1 .1 .1 .1 .1 .1 .0)
-    (reduceAt (s .args .event) (s .args .rs .now) (s .args .agreement .now) (at-within .within .result)
+    (reduceAt (s .args .event) (s .args .rs .now) (s .args .agreement .now) (at-inner-site .inner-site .result)
     (part (s .args .s .now) (s .args .f) (length (s .args .s .now))) (s .args .ps .now) (s .args .vs .now))
     (activate .result) (activate .ensures)
 
@@ -522,7 +522,7 @@ both-activate-requires-2 t c κs =
     let r = s .pre .1 .0 in
     let f = s .pre .1 .1 in
     let d = s .pre .1 .2 in
-    let e = c .before .before .within2 .ensures in (
+    let e = c .before .before .inner-site2 .ensures in (
       omega (
         arith,
         s .pre .0,
@@ -548,10 +548,10 @@ both-activate-requires-2 t c κs =
 both-join-requires : (t : ℕ) → both-lts.Need-join-requires (both-claims t) (both-at t) both.Post
 both-join-requires t c κs =
     let activate2 = c .before .before .activate2 in
-    let at-within2 = c .before .before .before .before .before in
-    let room-left = at-within2 .before .room-left in
-    let at-activate = at-within2 .before .before .before in
-    let at-within = at-activate .before .before .before in
+    let at-inner-site2 = c .before .before .before .before .before in
+    let room-left = at-inner-site2 .before .room-left in
+    let at-activate = at-inner-site2 .before .before .before in
+    let at-inner-site = at-activate .before .before .before in
     let s = c .before .before .before .before .before .before .before .before .before .before .before .before
     .before .before .before in
     let r = s .pre .1 .0 in
@@ -562,10 +562,10 @@ both-join-requires t c κs =
       d .from,
       d .to,
       is-counted u (reduceAt (s .args .event) (s .args .rs .now) (s .args .agreement .now)
-          (at-within2 .within2 .result) (part (s .args .s .now) 4 (s .args .f)) (s .args .ps .now) (s .args .vs .now))
+          (at-inner-site2 .inner-site2 .result) (part (s .args .s .now) 4 (s .args .f)) (s .args .ps .now) (s .args .vs .now))
           (activate2 .result) (activate2 .ensures),
       is-counted o
-          (reduceAt (s .args .event) (s .args .rs .now) (s .args .agreement .now) (at-within .within .result)
+          (reduceAt (s .args .event) (s .args .rs .now) (s .args .agreement .now) (at-inner-site .inner-site .result)
           (part (s .args .s .now) (s .args .f) (length (s .args .s .now))) (s .args .ps .now) (s .args .vs .now))
           (at-activate .activate .result) (at-activate .activate .ensures),
       rw
@@ -583,9 +583,9 @@ both-join-requires t c κs =
 both-returns : (t : ℕ) → both-lts.Need-returns (both-claims t) (both-at t) both.Post
 both-returns t c =
     let at-activate2 = c .before .before .before .before in
-    let at-within2 = at-activate2 .before .before .before in
-    let at-activate = at-within2 .before .before .before in
-    let at-within = at-activate .before .before .before in
+    let at-inner-site2 = at-activate2 .before .before .before in
+    let at-activate = at-inner-site2 .before .before .before in
+    let at-inner-site = at-activate .before .before .before in
     let s = c .before .before .before .before .before .before .before .before .before .before .before .before
     .before .before .before .before .before in
     let r = s .pre .1 .0 in
@@ -593,7 +593,7 @@ both-returns t c =
     let d = s .pre .1 .2 in
     let o = at-activate .activate .last .1 .1 .1 .1 .1 .1 .1 .1 .0 in
     let u = at-activate2 .activate2 .last .1 .1 .1 .1 .1 .1 .1 .1 .0 in
-    let m = at-within2 .before .room-left in
+    let m = at-inner-site2 .before .room-left in
     c .before .join .ensures .is (reduceAt (s .args .event) (s .args .rs .now) (s .args .agreement .now)
     (innerSite (s .args .site) 4 (s .args .site .a)) (part (s .args .s .now) 4 (s .args .f)) (s .args .ps .now)
     (s .args .vs .now)) (reduceAt (s .args .event) (s .args .rs .now) (s .args .agreement .now)
@@ -612,18 +612,18 @@ both-returns t c =
     (s .args .vs .now)) (reduceAt (s .args .event) (s .args .rs .now) (s .args .agreement .now)
     (innerSite (s .args .site) (s .args .f) (s .args .site .a))
     (part (s .args .s .now) (s .args .f) (length (s .args .s .now))) (s .args .ps .now) (s .args .vs .now))
-    (rw (at-within2 .within2 .ensures) at (at-activate2 .activate2 .ensures))
-    (rw (at-within .within .ensures) at (at-activate .activate .ensures)))
+    (rw (at-inner-site2 .inner-site2 .ensures) at (at-activate2 .activate2 .ensures))
+    (rw (at-inner-site .inner-site .ensures) at (at-activate .activate .ensures)))
 
-inside-within-requires : (t : ℕ) → inside-lts.Need-within-requires (inside-claims t) (inside-at t) inside.Post
-inside-within-requires t c κs =
+inside-inner-site-requires : (t : ℕ) → inside-lts.Need-inner-site-requires (inside-claims t) (inside-at t) inside.Post
+inside-inner-site-requires t c κs =
     let s = c .before .before .before in let f = s .pre .1 .1 in
     (s .pre .1 .2, omega (arith, s .pre .1 .3, s .pre .1 .4, f .inside, f .near))
 
 inside-activate-requires : (t : ℕ) → inside-lts.Need-activate-requires (inside-claims t) (inside-at t) inside.Post
 inside-activate-requires t c κs =
     let s = c .before .before .before .before .before .before in let r = s .pre .1 .0 in let f = s .pre .1 .1 in let
-    d = s .pre .1 .2 in let e = c .before .before .within .ensures in (
+    d = s .pre .1 .2 in let e = c .before .before .inner-site .ensures in (
       omega (
         arith,
         s .pre .0,
@@ -640,8 +640,8 @@ inside-activate-requires t c κs =
 
 inside-returns : (t : ℕ) → inside-lts.Need-returns (inside-claims t) (inside-at t) inside.Post
 inside-returns t c =
-    let at-within = c .before .before .before .before in
-    rw (at-within .within .ensures) at (c .before .activate .ensures)
+    let at-inner-site = c .before .before .before .before in
+    rw (at-inner-site .inner-site .ensures) at (c .before .activate .ensures)
 
 unfold-slice-aggregate-vs : (t : ℕ) → unfold-lts.Need-slice-aggregate-vs (unfold-claims t) (unfold-at t) unfold.Post
 unfold-slice-aggregate-vs t c =
@@ -653,13 +653,13 @@ unfold-slice-aggregate-vs t c =
 unfold-activate-requires : (t : ℕ) → unfold-lts.Need-activate-requires (unfold-claims t) (unfold-at t) unfold.Post
 unfold-activate-requires t c κs =
     let at-param-count = c .before .before .before in
-    let at-unfolded = at-param-count .before .before .before in
-    let body = at-unfolded .before .body in
+    let at-body-site = at-param-count .before .before .before in
+    let body = at-body-site .before .body in
     let s = c .before .before .before .before .before .before .before .before .before .before in
     let r = s .pre .1 .0 in
     let f = s .pre .1 .1 in
     let l = s .pre .1 .2 in
-    let e = at-unfolded .unfolded .ensures in
+    let e = at-body-site .body-site .ensures in
     let h = body .ensures in
     let n = at-param-count .before .before .value-count in
     let m = at-param-count .param-count in (
@@ -690,11 +690,11 @@ unfold-activate-requires t c κs =
 unfold-returns : (t : ℕ) → unfold-lts.Need-returns (unfold-claims t) (unfold-at t) unfold.Post
 unfold-returns t c =
     let at-param-count = c .before .before .before .before .before in
-    let at-unfolded = at-param-count .before .before .before in
+    let at-body-site = at-param-count .before .before .before in
     let s = c .before .before .before .before .before .before .before .before .before .before .before .before in
-    let h = at-unfolded .before .body .ensures in
+    let h = at-body-site .before .body .ensures in
     rw (
-      at-unfolded .unfolded .ensures,
+      at-body-site .body-site .ensures,
       few-more 16 (at-param-count .param-count .result),
       h .0,
       h .1,
@@ -708,7 +708,7 @@ pub +act+activate+both+inside+unfold-spec : {M : Type 1} → statement M
     (act-claims t) (act-at t) act.Post
     (λ c. search needs) (λ c κs. search needs) (λ c. search needs) (λ c. search needs) (λ c. search needs)
     (act-put-unit-requires t) (λ c. search needs) (act-inside-requires t)
-    (λ c. search needs) (λ c κs. search needs) (λ c κs. search needs) (act-after-requires t)
+    (λ c. search needs) (λ c κs. search needs) (λ c κs. search needs) (act-then-site-requires t)
     (act-array-share-prefix-cells t) (act-slice-aggregate-us t) (act-sub-activate t)
     (act-part-activate-start t) (act-part-activate-end t) (act-activate-requires t)
     (λ c. search needs) (λ c. search needs) (act-unfold-requires t) (act-returns t) (act-returns-2 t)
@@ -724,7 +724,7 @@ pub +act+activate+both+inside+unfold-spec : {M : Type 1} → statement M
     (both-room-left-requires t) (λ c κs. search needs) (λ c. search needs) (λ c. search needs)
     (λ c. search needs) (λ c. search needs) (both-slice-aggregate-activate t) (both-activate-requires-2 t)
     (both-join-requires t) (λ c. search needs) (both-returns t))
-    (λ t. inside-lts.spec (inside-claims t) (inside-at t) inside.Post (inside-within-requires t)
+    (λ t. inside-lts.spec (inside-claims t) (inside-at t) inside.Post (inside-inner-site-requires t)
     (λ c. search needs) (λ c. search needs) (λ c. search needs) (inside-activate-requires t)
     (λ c. search needs) (inside-returns t))
     λ t. unfold-lts.spec (unfold-claims t) (unfold-at t) unfold.Post

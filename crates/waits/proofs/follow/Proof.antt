@@ -9,7 +9,7 @@ use Rattle.waits.proofs.follow.Tie as tie
 returns : tie.Need-returns
 returns c =
     let s = c .before .before .before .before in let g = c .before .before in let t = c .before in λ p. follow-late
-    (s .args .values .now) (s .args .reading .now) (s .args .a) (s .args .time) (s .args .sort) (s .pre .0)
+    (s .args .values .now) (s .args .reading .now) (s .args .a) (s .args .time) (s .args .tag) (s .pre .0)
     (waitAt (expr (s .args .depth)) p (s .args .s .now) (s .args .i)) (g .window-at .ensures p)
     (t .struct-told .given .1 .0 .1) (c .if1 .taken)
 
@@ -18,7 +18,7 @@ unfolding waitAt
 returns-2 c =
     let s = c .before .before .before .before .before .before in let g = c .before .before .before .before in let t
     = c .before .before .before in λ p. follow-other (s .args .values .now) (s .args .reading .now) (s .args .a)
-    (s .args .time) (s .args .sort) (s .pre .0)
+    (s .args .time) (s .args .tag) (s .pre .0)
     (waitAt (expr (s .args .depth)) p (s .args .s .now) (s .args .i)) (g .window-at .ensures p)
     (t .struct-told .given .1 .0 .1) (c .before .before .if1 .left) (c .before .byte .ensures .0)
     (c .if2 .taken)
@@ -30,7 +30,7 @@ returns-3 c =
     let s = c .before .before .before .before .before .before .before .before in
     let g = c .before .before .before .before .before .before in
     let t = c .before .before .before .before .before in
-    λ p. follow-early (s .args .values .now) (s .args .reading .now) (s .args .a) (s .args .time) (s .args .sort)
+    λ p. follow-early (s .args .values .now) (s .args .reading .now) (s .args .a) (s .args .time) (s .args .tag)
     (s .pre .0) (waitAt (expr (s .args .depth)) p (s .args .s .now) (s .args .i)) (g .window-at .ensures p)
     (t .struct-told .given .1 .0 .1) (at-byte .before .if1 .left) (at-byte .byte .ensures .0)
     (c .before .before .if2 .left) (c .before .struct-told2 .given .0 .1) (c .if3 .taken)
@@ -43,7 +43,7 @@ returns-4 c =
     let s = c .before .before .before .before .before .before .before .before .before .before in
     let g = c .before .before .before .before .before .before .before .before in
     let t = c .before .before .before .before .before .before .before in
-    λ p. follow-taken (s .args .values .now) (s .args .reading .now) (s .args .a) (s .args .time) (s .args .sort)
+    λ p. follow-taken (s .args .values .now) (s .args .reading .now) (s .args .a) (s .args .time) (s .args .tag)
     (s .pre .0) (waitAt (expr (s .args .depth)) p (s .args .s .now) (s .args .i)) (g .window-at .ensures p)
     (t .struct-told .given .1 .0 .1) (at-if1 .if1 .left) (at-struct-told2 .before .before .byte .ensures .0)
     (at-struct-told2 .before .if2 .left) (at-struct-told2 .struct-told2 .given .0 .1)
@@ -57,7 +57,7 @@ returns-5 c =
     let s = c .before .before .before .before .before .before .before .before .before .before in
     let g = c .before .before .before .before .before .before .before .before in
     let t = c .before .before .before .before .before .before .before in
-    λ p. follow-false (s .args .values .now) (s .args .reading .now) (s .args .a) (s .args .time) (s .args .sort)
+    λ p. follow-false (s .args .values .now) (s .args .reading .now) (s .args .a) (s .args .time) (s .args .tag)
     (s .pre .0) (waitAt (expr (s .args .depth)) p (s .args .s .now) (s .args .i)) (g .window-at .ensures p)
     (t .struct-told .given .1 .0 .1) (at-if1 .if1 .left) (at-struct-told2 .before .before .byte .ensures .0)
     (at-struct-told2 .before .if2 .left) (at-struct-told2 .struct-told2 .given .0 .1)

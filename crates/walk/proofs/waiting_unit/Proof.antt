@@ -141,8 +141,8 @@ activate-requires c κs =
     let a : at-natural2 .natural2 .result ≡ natOf (getD (s .args .table .now) 2 (pos 0)) =
     at-natural2 .natural2 .ensures ∙ ap natOf
     (read! {z = getD (s .args .table .now) 2 (pos 0)} (at-natural2 .before .natural-arg2 .given)) in
-    let early : at-natural2 .natural2 .result ≤ 4_294_967_296 = omega
-    (arith, a, ap natOf (cell-at (s .args .table .now) 2 (omega arith)), w .early) in
+    let dated : at-natural2 .natural2 .result ≤ 4_294_967_296 = omega
+    (arith, a, ap natOf (cell-at (s .args .table .now) 2 (omega arith)), w .dated) in
     let few : byte .result ≤ 32 = omega (arith, byte .ensures .0, s .pre .0 .0 .fewTemplates) in (
       record {
         indexed = s .pre .0 .0;
@@ -161,7 +161,7 @@ activate-requires c κs =
         );
         reading = s .pre .0 .1;
         shallow = omega arith;
-        soon = omega (arith, early, few);
+        soon = omega (arith, dated, few);
         dated = s .pre .0 .2;
       },
       record {
