@@ -14,7 +14,7 @@ use Rattle.soundness.proofs.Walks.{Fair}
 use Rattle.soundness.proofs.Runs.{Inv}
 use Rattle.soundness.proofs.ReadBack.{well-typed}
 use Rattle.stream.specs.Records.{recordsOf}
-use Rattle.watch.specs.declared.Told.{Told}
+use Rattle.telling.specs.declared.Told.{Told}
 use Rattle.watch.specs.Steps.{Comes}
 use Rattle.watch.specs.Watched.{watched, zeros}
 use Rattle.watch.proofs.Session.{BeginCall, Session, watched-is}

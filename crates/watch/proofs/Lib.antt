@@ -1,4 +1,3 @@
-pub mod Says
 pub mod Taking
 pub mod Arrives
 pub mod Session

@@ -17,11 +17,11 @@ use Rattle.stream.specs.Records.{recordsOf}
 use Rattle.lines.specs.Lines.{startLine, readingLines, linesOf}
 use Rattle.watch.specs.declared.Stage.the-variants.{Ready, Waiting, Over}
 use Rattle.watch.specs.declared.Turn.{Turn}
-use Rattle.watch.specs.declared.Told.{Told}
+use Rattle.telling.specs.declared.Told.{Told}
 use Rattle.watch.specs.Steps.{left, Comes}
 use Rattle.watch.specs.Watched.{zeros, watchedRecords, watched}
-use Rattle.watch.proofs.begin.Kinds as begin-kinds
-use Rattle.watch.proofs.begin.Reads as begin
+use Rattle.telling.proofs.begin.Kinds as begin-kinds
+use Rattle.telling.proofs.begin.Reads as begin
 use Rattle.watch.proofs.drain.Kinds as drain-kinds
 use Rattle.watch.proofs.drain.Reads as drain
 

@@ -19,8 +19,9 @@ use Rattle.lines.specs.Lines.{readingLine, readingLines}
 use Rattle.watch.specs.declared.Stage.{Stage}
 use Rattle.watch.specs.declared.Stage.the-variants.{Ready, Waiting, Over}
 use Rattle.watch.specs.declared.Turn.{Turn}
-use Rattle.watch.specs.declared.Told.{Told}
-use Rattle.watch.specs.Steps.{lineRoom, left, Comes, stageAfter, Follows, Turns}
+use Rattle.telling.specs.declared.Told.{Told}
+use Rattle.telling.specs.Told.{lineRoom, Follows}
+use Rattle.watch.specs.Steps.{left, Comes, stageAfter, Turns}
 
 -- the rest of a slice
 pub rest-is : (l : List ℕ) (from : ℕ) → part l from (length l) ≡ drop from l

@@ -1,38 +1,15 @@
 -- What the steps of the program promise.
 use mathlib.Core.Path.{_≡_}
-use mathlib.Core.Bool.{Bool, true, false, not}
+use mathlib.Core.Bool.{Bool, true, false}
 use mathlib.Core.List.{List, [], _++_}
 use Prim.Native.Nat.{ℕ, _+_, _≤_, _<_}
-use lib.Dec.{eqb}
 use lib.IntN.{ℤ}
 use lib.ListN.{length, take, drop}
-use Rattle.csl.specs.Entries.{startOf, readingOf}
 use Rattle.stream.specs.Records.{isWhole, recordsOf}
-use Rattle.lines.specs.Put.{Put}
-use Rattle.lines.specs.Lines.{startLine, readingLine, readingLines}
-use Rattle.watch.specs.declared.Told.{Told}
+use Rattle.lines.specs.Lines.{readingLines}
 use Rattle.watch.specs.declared.Stage.{Stage}
 use Rattle.watch.specs.declared.Stage.the-variants.{Ready, Waiting, Over}
 use Rattle.watch.specs.declared.Turn.{Turn}
-
--- no line is longer
-abbrev pub lineRoom : ℕ
-lineRoom = 96
-
--- ---- a start: its line is put, the table is the answer's, and only an accepted one goes on
-pub record Begins (s : List ℕ) (cells cells₂ : List ℤ) (out out₂ : List ℕ) (t : Told) : Type 0 where
-  pub line : Put (startLine s (startOf s cells)) out 0 out₂ (t .at)
-  pub table : cells₂ ≡ (startOf s cells) .table
-  pub goes : t .go ≡ eqb ((startOf s cells) .number) 0
-  pub room : t .at ≤ lineRoom
-
--- ---- a reading b at line n, put at `at`: only 8 ends the run
-pub record Follows (s : List ℕ) (cells cells₂ : List ℤ) (n : ℕ) (b : List ℕ) (out : List ℕ) (at : ℕ) (out₂ : List ℕ)
-    (t : Told) : Type 0 where
-  pub line : Put (readingLine s n b (readingOf s cells b)) out at out₂ (t .at)
-  pub table : cells₂ ≡ (readingOf s cells b) .table
-  pub goes : t .go ≡ not (eqb ((readingOf s cells b) .number) 8)
-  pub room : t .at ≤ at + lineRoom
 
 abbrev pub stageAfter : Bool → Stage
 stageAfter true = Ready

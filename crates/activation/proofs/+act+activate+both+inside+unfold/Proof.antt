@@ -562,7 +562,8 @@ both-join-requires t c κs =
       d .from,
       d .to,
       is-counted u (reduceAt (s .args .event) (s .args .rs .now) (s .args .agreement .now)
-          (at-inner-site2 .inner-site2 .result) (part (s .args .s .now) 4 (s .args .f)) (s .args .ps .now) (s .args .vs .now))
+          (at-inner-site2 .inner-site2 .result) (part (s .args .s .now) 4 (s .args .f))
+          (s .args .ps .now) (s .args .vs .now))
           (activate2 .result) (activate2 .ensures),
       is-counted o
           (reduceAt (s .args .event) (s .args .rs .now) (s .args .agreement .now) (at-inner-site .inner-site .result)

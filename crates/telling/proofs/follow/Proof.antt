@@ -1,17 +1,17 @@
 -- `follow` is right, case by case of `reading`'s answer.
 use native.Mathlib.Omega.{arith}
-use Rattle.watch.proofs.Says.{follows-refused, follows-accepted}
+use Rattle.telling.proofs.Says.{follows-refused, follows-accepted}
 use borrow.Author.Needs.{needs}
-use Rattle.watch.proofs.follow.Statement.{statement}
-use Rattle.watch.proofs.follow.Tie as tie
-use Rattle.watch.proofs.follow.Reads as reads
-use Rattle.watch.proofs.follow.Lts as lts
+use Rattle.telling.proofs.follow.Statement.{statement}
+use Rattle.telling.proofs.follow.Tie as tie
+use Rattle.telling.proofs.follow.Reads as reads
+use Rattle.telling.proofs.follow.Lts as lts
 use Rattle.arith.proofs.unsigned32.Reads as unsigned32-reads
 use Rattle.monitor.proofs.number.Reads as number-reads
 use Rattle.monitor.proofs.reading.Reads as reading-reads
-use Rattle.watch.proofs.put_refused.Reads as put-refused-reads
-use Rattle.watch.proofs.put_time.Reads as put-time-reads
-use Rattle.watch.proofs.put_verdict.Reads as put-verdict-reads
+use Rattle.telling.proofs.put_refused.Reads as put-refused-reads
+use Rattle.telling.proofs.put_time.Reads as put-time-reads
+use Rattle.telling.proofs.put_verdict.Reads as put-verdict-reads
 
 reading-requires : tie.Need-reading-requires
 reading-requires c κs = search needs

@@ -6,10 +6,10 @@ use Rattle.lines.specs.Text.{fields}
 use Rattle.lines.specs.Lines.{forecastFields}
 use Rattle.lines.proofs.Puts.{then, same-put}
 use borrow.Author.Needs.{needs}
-use Rattle.watch.proofs.put_forecast.Statement.{statement}
-use Rattle.watch.proofs.put_forecast.Tie as tie
-use Rattle.watch.proofs.put_forecast.Reads as reads
-use Rattle.watch.proofs.put_forecast.Lts as lts
+use Rattle.telling.proofs.put_forecast.Statement.{statement}
+use Rattle.telling.proofs.put_forecast.Tie as tie
+use Rattle.telling.proofs.put_forecast.Reads as reads
+use Rattle.telling.proofs.put_forecast.Lts as lts
 use Rattle.lines.proofs.put_bytes.Reads as put-bytes-reads
 use Rattle.lines.proofs.put_next.Reads as put-next-reads
 

@@ -1,18 +1,18 @@
 -- `begin` is right, case by case of `start`'s answer.
 use native.Mathlib.Omega.{arith}
-use Rattle.watch.proofs.Says.{begins-refused, begins-begun}
+use Rattle.telling.proofs.Says.{begins-refused, begins-begun}
 use borrow.Author.Needs.{needs}
-use Rattle.watch.proofs.begin.Statement.{statement}
-use Rattle.watch.proofs.begin.Tie as tie
-use Rattle.watch.proofs.begin.Reads as reads
-use Rattle.watch.proofs.begin.Lts as lts
+use Rattle.telling.proofs.begin.Statement.{statement}
+use Rattle.telling.proofs.begin.Tie as tie
+use Rattle.telling.proofs.begin.Reads as reads
+use Rattle.telling.proofs.begin.Lts as lts
 use Rattle.arith.proofs.unsigned32.Reads as unsigned32-reads
 use Rattle.lines.proofs.put_refusal.Reads as put-refusal-reads
 use Rattle.monitor.proofs.number.Reads as number-reads
 use Rattle.monitor.proofs.start.Reads as start-reads
-use Rattle.watch.proofs.put_time.Reads as put-time-reads
-use Rattle.watch.proofs.put_timeless.Reads as put-timeless-reads
-use Rattle.watch.proofs.put_verdict.Reads as put-verdict-reads
+use Rattle.telling.proofs.put_time.Reads as put-time-reads
+use Rattle.telling.proofs.put_timeless.Reads as put-timeless-reads
+use Rattle.telling.proofs.put_verdict.Reads as put-verdict-reads
 
 start-requires : tie.Need-start-requires
 start-requires c κs = search needs

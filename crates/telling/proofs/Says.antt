@@ -23,7 +23,7 @@ use Rattle.lines.specs.Text.{decimal, fields, line, space, dash, live, done, br
 use Rattle.lines.specs.Lines.{forecastFields, stateBy, stateFields, verdictFields, refusalFields, answerFields}
 use Rattle.lines.specs.Lines.{timeField, startTime, startLine, readingTime, readingLine}
 use Rattle.lines.specs.Put.{Put}
-use Rattle.watch.specs.Steps.{lineRoom, Begins, Follows}
+use Rattle.telling.specs.Told.{lineRoom, Begins, Follows}
 use Rattle.lines.proofs.Puts.{then, same-put}
 
 -- ---- a line: number and first field, then the other fields
