@@ -18,14 +18,14 @@ use telling::begin;
 use telling::follow;
 
 // Where a run stands: a record may be there, or more input is needed, or it has ended.
-pub enum Stage {
+enum Stage {
     Ready,
     Waiting,
     Over,
 }
 
 // The stage; how many bytes of the input are taken, and of the output's buffer in use; the next line's number.
-pub struct Turn {
+struct Turn {
     stage: Stage,
     from: usize,
     at: usize,
@@ -79,7 +79,7 @@ fn stage_after(go: bool) -> Stage
 }
 
 // All records that are there, as long as a line has room: what is written stands at the front of out.
-pub fn drain(
+fn drain(
     agreement: &[u8],
     table: &mut [i64],
     input: &[u8],
