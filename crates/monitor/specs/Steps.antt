@@ -45,8 +45,8 @@ indexLength = 49
 abbrev pub sightsLength : ℕ
 sightsLength = 256
 
-abbrev pub unitCells : ℕ
-unitCells = 3072
+abbrev pub roomLength : ℕ
+roomLength = 3072
 
 -- ---- what is lent
 -- the agreement is accepted, and the index of its records is filled

@@ -10,7 +10,7 @@ ghost use Rattle.csl.specs.Table.{tableLength};
 ghost use Rattle.records.specs.Index.{Indexed};
 ghost use Rattle.rules.specs.Reduces.{Is};
 ghost use Rattle.monitor.specs.Answers.{numberOf, checkAnswer, startAnswer, takenAnswer, forecastAnswer};
-ghost use Rattle.monitor.specs.Steps.{indexLength, sightsLength, unitCells, Goes, Verified, Admitted, Opened, Opens};
+ghost use Rattle.monitor.specs.Steps.{indexLength, sightsLength, roomLength, Goes, Verified, Admitted, Opened, Opens};
 ghost use Rattle.monitor.specs.Steps.{mainReduced, Due, reduced, Advances, Tried, SomeReading, ReadAs};
 use arith::byte;
 use arith::less;
@@ -29,29 +29,38 @@ use state::State;
 use state::state_of;
 use typing::Typed;
 
-// The places of an agreement's index.
+// The byte places of an agreement's start time and of its number of templates, and the places of its index.
+const START: usize = 4;
+
+const TEMPLATES: usize = 10;
+
 const PLACES: usize = 49;
 
-// A table's cells, those of its head, and the one of them that has the last reading time.
-const TABLE_CELLS: usize = 3080;
-
+// A table has a head, of which one cell is the last reading time, and then the cells of units.
 const HEAD_CELLS: usize = 8;
 
 const LAST_TIME: usize = 1;
 
-// A unit's cells, the most units that a table has, and two numbers for each of them that say what is in sight there.
-const CELLS: usize = 24;
+const UNIT_CELLS: usize = 24;
 
-const UNITS: usize = 128;
+const MOST_UNITS: usize = 128;
 
-const UNIT_CELLS: usize = 3072;
+const TABLE_CELLS: usize = HEAD_CELLS + MOST_UNITS * UNIT_CELLS;
 
-const SIGHTS: usize = 256;
+// What is in sight at a unit is said by two numbers.
+const SIGHTS: usize = 2 * MOST_UNITS;
 
-// A residue is first tried in room for so many units: to clear more room costs more than most readings do.
+// Room for all units, and for so few that to clear it costs little: to clear more costs more than most readings do.
 const FEW_UNITS: usize = 16;
 
-const FEW_CELLS: usize = 384;
+const ROOM: usize = MOST_UNITS * UNIT_CELLS;
+
+const FEW_ROOM: usize = FEW_UNITS * UNIT_CELLS;
+
+// The most values of a reading, and the depths within a main clause.
+const VALUES: usize = 4;
+
+const DEPTHS: usize = 23;
 
 // Why an entry refuses. The paper's numbers are given by `numberOf`.
 pub enum Refusal {
@@ -170,7 +179,7 @@ fn open_run(agreement: &[u8], table: &[i64], places: &mut [usize], sights: &mut 
 
 // The main clause activated at the start time; a residue grows downward from the end of out.
 fn activate_main(agreement: &[u8], places: &[usize], out: &mut [i64]) -> Reduced
-    requires { ⌜ Indexed (now places) (now agreement) × (length (now agreement) ≤ 16_384) × (length (now out) ≤ unitCells) ⌝ }
+    requires { ⌜ Indexed (now places) (now agreement) × (length (now agreement) ≤ 16_384) × (length (now out) ≤ roomLength) ⌝ }
     ensures { λ r. ⌜ Is (mainReduced (now (agreement .entry))) r (now (out .exit)) ⌝ }
 {
     let from = main_place(agreement, places);
@@ -182,10 +191,10 @@ fn activate_main(agreement: &[u8], places: &[usize], out: &mut [i64]) -> Reduced
         sort: 0,
     };
     let site = Site {
-        below: byte(agreement, 10),
+        below: byte(agreement, TEMPLATES),
         place: from,
-        a: unsigned32(agreement, 4),
-        depth: 23,
+        a: unsigned32(agreement, START),
+        depth: DEPTHS,
     };
     let s = &agreement[from..];
     activate(agreement, places, event, none, site, s, none, none, out)
@@ -202,7 +211,7 @@ fn reduce(
     rs: &[i64],
     out: &mut [i64],
 ) -> Reduced
-    requires { ⌜ Due (now agreement) (now places) (now sights) (now table) used event (now rs) × (length (now out) ≤ unitCells) ⌝ }
+    requires { ⌜ Due (now agreement) (now places) (now sights) (now table) used event (now rs) × (length (now out) ≤ roomLength) ⌝ }
     ensures { λ r. ⌜ Is (reduced (now (agreement .entry)) (now (sights .entry)) (now (table .entry)) used event (now (rs .entry))) r (now (out .exit)) ⌝ }
 {
     let step = event.step;
@@ -224,13 +233,13 @@ fn reduce_within(
     rs: &[i64],
     out: &mut [i64],
 ) -> usize
-    requires { ⌜ Due (now agreement) (now places) (now sights) (now table) used event (now rs) × (length (now out) ≤ unitCells) ⌝ }
+    requires { ⌜ Due (now agreement) (now places) (now sights) (now table) used event (now rs) × (length (now out) ≤ roomLength) ⌝ }
     ensures { λ n. ⌜ Tried (now (agreement .entry)) (now (sights .entry)) (now (table .entry)) used event (now (rs .entry))
         (now (out .entry)) (now (table .exit)) n ⌝ }
 {
     let r = reduce(agreement, places, sights, table, used, event, rs, out);
     let units = units_of(r);
-    if CELLS * units > out.len() {
+    if UNIT_CELLS * units > out.len() {
         return units;
     }
     settle(table, event.time as i64, r, out);
@@ -250,9 +259,9 @@ fn advance_widely(
     requires { ⌜ Due (now agreement) (now places) (now sights) (now table) used event (now rs) ⌝ }
     ensures { λ fits. ⌜ Advances (now (agreement .entry)) (now (sights .entry)) (now (table .entry)) used event (now (rs .entry)) (now (table .exit)) fits ⌝ }
 {
-    let mut out = [0i64; UNIT_CELLS];
+    let mut out = [0i64; ROOM];
     let units = reduce_within(agreement, places, sights, table, used, event, rs, &mut out);
-    if units > UNITS {
+    if units > MOST_UNITS {
         return false;
     }
     true
@@ -274,9 +283,9 @@ fn advance(
     if used > FEW_UNITS {
         return advance_widely(agreement, places, sights, table, used, event, rs);
     }
-    let mut out = [0i64; FEW_CELLS];
+    let mut out = [0i64; FEW_ROOM];
     let units = reduce_within(agreement, places, sights, table, used, event, rs, &mut out);
-    if units > UNITS {
+    if units > MOST_UNITS {
         return false;
     }
     if units > FEW_UNITS {
@@ -294,7 +303,7 @@ fn begin(agreement: &[u8], places: &[usize], table: &mut [i64]) -> Started
     let none = [0i64; 1];
     let event = Event {
         step: Step::Activate,
-        time: unsigned32(agreement, 4),
+        time: unsigned32(agreement, START),
         sort: 0,
     };
     if !advance(agreement, places, &sights, table, 0, event, &none) {
@@ -358,7 +367,7 @@ fn read_on(
     requires { ⌜ Opened (now agreement) (now places) (now table) (now sights) run ⌝ }
     ensures { λ r. ⌜ takenAnswer r (now (table .exit)) ≡ readingOf (now (agreement .entry)) (now (table .entry)) (now (reading .entry)) ⌝ }
 {
-    let mut values = [0i64; 4];
+    let mut values = [0i64; VALUES];
     match readings::take(agreement, places, reading, &mut values) {
         Fitting::Malformed => Taken::Refused(Refusal::ReadingForm),
         Fitting::Untyped => Taken::Refused(Refusal::ReadingTyping),

@@ -121,7 +121,8 @@ pub fn begin(agreement: &[u8], table: &mut [i64], out: &mut [u8]) -> Told
 // The line of a refused reading: one refused with 8 has no time.
 fn put_refused(out: &mut [u8], at: usize, n: u64, reading: &[u8], number: u32) -> usize
     requires { ⌜ at + lineRoom ≤ length (now out) ⌝ }
-    ensures { λ r. ⌜ Put (line n (readingTime (now (reading .entry)) number ∷ refusalFields number)) (now (out .entry)) at (now (out .exit)) r × (r ≤ at + lineRoom) ⌝ }
+    ensures { λ r. ⌜ Put (line n (readingTime (now (reading .entry)) number ∷ refusalFields number))
+        (now (out .entry)) at (now (out .exit)) r × (r ≤ at + lineRoom) ⌝ }
 {
     if number == 8 {
         let a = put_timeless(out, at, n);
@@ -141,7 +142,8 @@ pub fn follow(
     n: u64,
 ) -> Told
     requires { ⌜ at + lineRoom ≤ length (now out) ⌝ }
-    ensures { λ r. ⌜ Follows (now (agreement .entry)) (now (table .entry)) (now (table .exit)) n (now (reading .entry)) (now (out .entry)) at (now (out .exit)) r ⌝ }
+    ensures { λ r. ⌜ Follows (now (agreement .entry)) (now (table .entry)) (now (table .exit)) n (now (reading .entry))
+        (now (out .entry)) at (now (out .exit)) r ⌝ }
 {
     match monitor::reading(agreement, table, reading) {
         Taken::Refused(why) => {
@@ -188,7 +190,8 @@ fn step(
     line: u64,
 ) -> Turn
     requires { ⌜ (from ≤ length (now input)) × (at + lineRoom ≤ length (now out)) × (line + length (now input) < 2 ^ 64 + from) ⌝ }
-    ensures { λ r. ⌜ Turns (now (agreement .entry)) (now (table .entry)) (now (table .exit)) line (now (input .entry)) ended from (now (out .entry)) at (now (out .exit)) r × (r .stage ≡ Ready → from < r .from) ⌝ }
+    ensures { λ r. ⌜ Turns (now (agreement .entry)) (now (table .entry)) (now (table .exit)) line (now (input .entry)) ended from
+        (now (out .entry)) at (now (out .exit)) r × (r .stage ≡ Ready → from < r .from) ⌝ }
 {
     match next_record(&input[from..], ended) {
         Next::Wait => Turn {
@@ -232,7 +235,8 @@ pub fn drain(
     line: u64,
 ) -> Turn
     requires { ⌜ line + length (now input) < 2 ^ 64 ⌝ }
-    ensures { λ r. ⌜ Turns (now (agreement .entry)) (now (table .entry)) (now (table .exit)) line (now (input .entry)) ended 0 (now (out .entry)) 0 (now (out .exit)) r ⌝ }
+    ensures { λ r. ⌜ Turns (now (agreement .entry)) (now (table .entry)) (now (table .exit)) line (now (input .entry)) ended 0
+        (now (out .entry)) 0 (now (out .exit)) r ⌝ }
 {
     let mut from = 0;
     let mut at = 0;

@@ -5,9 +5,7 @@ use Rattle.monitor.proofs.forecast.Statement.{statement}
 use Rattle.monitor.proofs.forecast.Tie as tie
 
 foretell-requires : tie.Need-foretell-requires
-foretell-requires c κs =
-    let at-run = c .before .before .before in
-    opens-yes _ _ _ _ (at-run .before .before .before .before .open-run .ensures) (at-run .run .given .1)
+foretell-requires c κs = search (opens-yes, needs)
 
 returns : tie.Need-returns
 returns c =

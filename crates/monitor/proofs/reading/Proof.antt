@@ -5,9 +5,7 @@ use Rattle.monitor.proofs.reading.Statement.{statement}
 use Rattle.monitor.proofs.reading.Tie as tie
 
 read-on-requires : tie.Need-read-on-requires
-read-on-requires c κs =
-    let at-run = c .before .before .before .before in
-    opens-yes _ _ _ _ (at-run .before .before .before .before .open-run .ensures) (at-run .run .given .1)
+read-on-requires c κs = search (opens-yes, needs)
 
 returns : tie.Need-returns
 returns c =
