@@ -51,7 +51,8 @@ pub extern "C" fn givuntha_forecast(
     time: &mut u64,
     parties: &mut u64,
 ) -> u32
-    ensures { λ r. ⌜ record { number = r; time = now (time .exit); parties = now (parties .exit) } ≡ forecastNumbers (forecastOf (now (agreement .entry)) (now (table .entry))) ⌝ }
+    ensures { λ r. ⌜ record { number = r; time = now (time .exit); parties = now (parties .exit) }
+        ≡ forecastNumbers (forecastOf (now (agreement .entry)) (now (table .entry))) ⌝ }
 {
     match monitor::forecast(agreement, table) {
         Foretold::Nothing => {

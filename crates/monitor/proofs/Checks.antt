@@ -24,7 +24,8 @@ use Rattle.typing.specs.declared.Typed.the-variants.{Parties, Untyped}
 use Rattle.typing.specs.Clauses.{typedAs}
 use Rattle.monitor.specs.declared.Checked.{Checked}
 use Rattle.monitor.specs.declared.Checked.the-variants.{Accepted, Refused}
-use Rattle.monitor.specs.Answers.{checkAnswer, Goes, Verified}
+use Rattle.monitor.specs.Answers.{checkAnswer}
+use Rattle.monitor.specs.Steps.{Goes, Verified}
 
 -- ---- what typing answered
 pub untyped : (o : Option (List ℕ)) → Untyped ≡ typedAs o → o ≡ none

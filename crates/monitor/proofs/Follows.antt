@@ -1,83 +1,61 @@
 -- Laws for a reading: what each part of the code learned, as csl's answer.
-use mathlib.Core.Path.{_≡_, refl, sym, ap, ap₂, _∙_}
-use mathlib.Core.Bool.{Bool, true, false, not, false≢true}
+use mathlib.Core.Path.{_≡_, refl, sym, ap, ap₂, subst, _∙_}
+use mathlib.Core.Bool.{Bool, true, false, not}
 use mathlib.Core.List.{List, [], _∷_}
 use mathlib.Core.Option.{none, some}
-use Prim.Native.Nat.{ℕ, _-_, _*_, _≤_, _<_}
+use Prim.Native.Nat.{ℕ, _*_, _≤_, _<_}
 use native.Mathlib.Omega.{arith}
-use borrow.Author.Tests.{ltb-true, ltb-false}
+use borrow.Author.Tests.{not-true, not-false, ltb-true, ltb-false}
 use mir.Syntax.{w64}
 use mir.Val.{toZ, SFits}
 use mir.ValLaws.{toZ-pos}
 use lib.Dec.{ltb}
 use lib.IntN.{ℤ, pos}
 use lib.Signed.{ltZ}
-use lib.ListN.{length, getD, take, drop, set, length-drop, length-take}
-use lib.Seq.{take-all}
+use lib.ListN.{length, getD, take, drop, set, length-take}
 use Rattle.arith.proofs.Ints.{small}
 use Rattle.csl.specs.Lists.{_>>=_}
-use Rattle.csl.specs.Parties.{bitsOf}
 use Rattle.csl.specs.Syntax.{Agreement}
 use Rattle.csl.specs.Decode.{agreementOf}
 use Rattle.csl.specs.Check.{checked, accepted}
 use Rattle.csl.specs.Outcomes.{Residue, units, done}
-use Rattle.csl.specs.Run.{Run, rawReading}
+use Rattle.csl.specs.Run as csl
+use Rattle.csl.specs.Run.{rawReading}
 use Rattle.csl.specs.Table.{tableOf, padded, headCells, natCells, cellsOf}
 use Rattle.csl.specs.Entries.{readingOf}
 use Rattle.csl.specs.Demand3.{fitting}
 use Rattle.soundness.proofs.Readings.{reading-ok}
 use Rattle.soundness.proofs.Runs.{isFair, runAt}
 use Rattle.soundness.proofs.ReadBack.{table-back}
-use Rattle.records.specs.Index.{Indexed}
 use Rattle.cells.specs.Reduce as cells
 use Rattle.cells.specs.Across as table
-use Rattle.places.specs.Locate.{Accepted, mainsOf, mainsIn}
+use Rattle.places.specs.Locate.{mainsOf}
 use Rattle.bridge.proofs.Across.{follow-across}
 use Rattle.bridge.proofs.Tables as bridge
-use Rattle.bridge.proofs.Refusals.{answer, reading-refused, reading-six, reading-seven}
+use Rattle.bridge.proofs.Refusals.{answer}
 use Rattle.bridge.proofs.Entries.{keptCells, reading-eight, reading-nine, reading-ten, reading-done, reading-breach}
 use Rattle.bridge.proofs.Entries.{reading-running}
 use Rattle.readings.specs.Taking.{TakenIs, UntypedRead, FittingRead}
 use Rattle.readings.specs.declared.Taken.{Taken as Fitting}
 use Rattle.readings.specs.declared.Taken.the-variants.{Malformed, Untyped, Fits}
 use Rattle.waits.specs.Fates.{modeAt}
-use Rattle.residues.specs.Reduces.{Is}
-use Rattle.settling.specs.Settles.{Settles}
-use Rattle.residues.specs.Reduces.{unitsOf, bitsIn}
 use Rattle.walk.specs.Tree.{Tree, treeReduced}
 use Rattle.waits.specs.declared.Event.{Event}
 use Rattle.waits.specs.declared.Step.the-variants.{Follow}
-use Rattle.residues.specs.declared.Reduced.{Reduced}
-use Rattle.residues.proofs.Few.{outcome-few, answer-few}
 use Rattle.walk.proofs.Trees.{tree-only}
 use Rattle.units.specs.Units.{sightNumbers}
-use Rattle.state.specs.Shown.{RunShows, RunningAs, BreachedAs, Shows, runIn}
-use Rattle.state.specs.declared.State.{State}
-use Rattle.state.specs.declared.State.the-variants.{Damaged, Running, Fulfilled, Breached}
-use Rattle.monitor.specs.declared.Checked.{Checked}
-use Rattle.monitor.specs.declared.Checked.the-variants.{Accepted as acceptedAgreement, Refused}
-use Rattle.monitor.specs.declared.Refusal.{Refusal}
-use Rattle.monitor.specs.declared.Refusal.the-variants.{TableLength, TableContent, ReadingForm, ReadingTyping}
-use Rattle.monitor.specs.declared.Refusal.the-variants.{ReadingTime, Units as tooManyUnits}
+use Rattle.state.specs.Shown.{RunShows, runIn}
+use Rattle.monitor.specs.declared.Refusal.the-variants.{ReadingForm, ReadingTyping, ReadingTime}
+use Rattle.monitor.specs.declared.Refusal.the-variants.{Units as tooManyUnits}
 use Rattle.monitor.specs.declared.Taken.the-variants.{Accepted as acceptedReading, Refused as refusedReading}
-use Rattle.monitor.specs.Answers.{numberOf, takenAnswer, Goes, Verified, Opened, Fitted, isDamaged}
-use Rattle.monitor.proofs.Begins.{goes-on, kept-no, kept-yes, written-few}
+use Rattle.monitor.specs.declared.Run.{Run}
+use Rattle.monitor.specs.declared.Run.the-variants.{Running, Fulfilled, Breached}
+use Rattle.monitor.specs.Answers.{takenAnswer}
+use Rattle.monitor.specs.Steps.{ShowsRun, Opened, mainReduced, UnitsDue, DueBy, Due, reducedBy, reduced, advanced}
+use Rattle.monitor.specs.Steps.{Advances, Fitted, SomeReading, ReadAs}
+use Rattle.monitor.proofs.Begins.{short}
+use Rattle.monitor.proofs.Opens.{accepts}
 use Rattle.monitor.proofs.Tabled.{founds, sighted, has-tree}
-
--- ---- the main clause's parties are those that check found
-mains-same : {s places : List ℕ} {p : ℕ} (g : Goes s places p) → mainsOf s ≡ g .mains
-unfolding mainsOf mainsIn
-mains-same g = ap mainsIn (g .isAccepted)
-
-pub accepts : {s places : List ℕ} {p : ℕ} → Goes s places p → checked s ≡ accepted (agreementOf s) (mainsOf s)
-accepts {s = s} g = g .isAccepted ∙ ap (accepted (agreementOf s)) (sym (mains-same g))
-
-pub main-parties : {s places : List ℕ} {p : ℕ} → Goes s places p → p ≡ bitsOf (mainsOf s)
-main-parties g = g .isParties ∙ ap bitsOf (sym (mains-same g))
-
--- ---- the cells behind the head
-pub behind-head : (us : List ℤ) → take (length us - 8) (drop 8 us) ≡ drop 8 us
-behind-head us = take-all (length us - 8) (drop 8 us) (rw (length-drop 8 us) (omega arith))
 
 fits-as : {s bytes : List ℕ} {us : List ℤ} {e : Event} {rs : List ℤ} (f : Fitted s bytes us e rs)
     → fitting (agreementOf s) bytes ≡ some (f .reading)
@@ -102,7 +80,7 @@ moved : (us : List ℤ) (now t : ℕ) → us ≡ tableOf (runAt now done) → se
 unfolding tableOf padded headCells natCells bridge.reducedTable
 moved us now t e = rw e refl
 
-module _ {s places : List ℕ} {us : List ℤ} {sights : List ℕ} (o : Opened s places us sights) where
+module _ {s places : List ℕ} {us : List ℤ} {sights : List ℕ} {run : Run} (o : Opened s places us sights run) where
   abbrev ag : Agreement
   ag = agreementOf s
 
@@ -113,212 +91,179 @@ module _ {s places : List ℕ} {us : List ℤ} {sights : List ℕ} (o : Opened s
       (r : RunShows (runIn s us) us q) → r .now ≤ f .reading .time
   in-order f r = omega (arith, f .inOrder (r .now) (r .cell), f .time)
 
-  -- ---- a running run
-  module _ {n : ℕ} (run : RunningAs (runIn s us) us sights n) where
-    abbrev res : Residue
-    res = run .residue
+-- ---- a running run
+module _ {s places : List ℕ} {us : List ℤ} {sights : List ℕ} {n : ℕ} (o : Opened s places us sights (Running n)) where
+  abbrev res : Residue
+  res = o .shows .residue
 
-    pub residue-sights : take (2 * units res) sights ≡ sightNumbers res
-    residue-sights = rw (run .count) at (run .sighted)
+  abbrev now : ℕ
+  now = o .shows .shows .now
 
-    pub units-ready : Tree (length s) sights (take (length us - 8) (drop 8 us)) n
-    units-ready = rw (behind-head us, run .count)
-        (has-tree s (mainsOf s) ck (run .shows .now) res us (o .isTable) (run .shows .is) sights residue-sights)
+  pub residue-sights : take (2 * units res) sights ≡ sightNumbers res
+  residue-sights = rw (o .shows .count) at (o .shows .sighted)
 
+  pub units-ready : Tree (length s) sights (drop 8 us) n
+  units-ready = rw (o .shows .count)
+      (has-tree s (mainsOf s) (ck o) now res us (o .isTable) (o .shows .shows .is) sights residue-sights)
+
+  module _ {bytes : List ℕ} {e : Event} {rs : List ℤ} (f : Fitted s bytes us e rs) where
     -- what the rules on cells give for a reading
-    record Given (bytes : List ℕ) (e : Event) (rs : List ℤ) : Type 0 where
+    record Given : Type 0 where
       given : cells.Reduced
-      is : table.across (modeAt e rs) s n sights (take (length us - 8) (drop 8 us)) ≡ given ∷ []
+      is : table.across (modeAt e rs) s n sights (drop 8 us) ≡ given ∷ []
       reads : readingOf s us bytes ≡ keptCells (e .time) us given
 
-    following : (bytes : List ℕ) (e : Event) (rs : List ℤ) → Fitted s bytes us e rs → Given bytes e rs
-    following bytes e rs f =
+    following : Given
+    following =
         let d = f .reading in
         let more = drop (2 * units res) sights in
-        let le = in-order f (run .shows) in
-        let w = follow-across s (mainsOf s) (isFair s ag (mainsOf s) ck) (founds s (mainsOf s) ck) (run .shows .now)
-        res us (o .isTable) (run .shows .is) more d ((reading-ok ag (f .raw) d (f .typed)) .0) le in
-        let seen = sighted s (mainsOf s) ck (run .shows .now) res us (o .isTable) (run .shows .is) sights
+        let le = in-order o f (o .shows .shows) in
+        let w = follow-across s (mainsOf s) (isFair s (ag o) (mainsOf s) (ck o)) (founds s (mainsOf s) (ck o)) now
+        res us (o .isTable) (o .shows .shows .is) more d ((reading-ok (ag o) (f .raw) d (f .typed)) .0) le in
+        let seen = sighted s (mainsOf s) (ck o) now res us (o .isTable) (o .shows .shows .is) sights
         residue-sights in
         record {
           given = w .given;
-          is = ap₂ (λ m cs. table.across m s n sights cs) (mode-as f) (behind-head us)
+          is = ap (λ m. table.across m s n sights (drop 8 us)) (mode-as f)
               ∙ ap₂ (λ k q. table.across (cells.following (d .time) (d .type) (cellsOf (d .values))) s k q
-              (drop 8 us)) (run .count) seen ∙ w .only;
-          reads = reading-running s (mainsOf s) ck us (o .isTable) (run .shows .now) bytes d (fits-as f) le
-              (founds s (mainsOf s) ck) res more (w .given) (run .shows .is) (w .only)
+              (drop 8 us)) (o .shows .count) seen ∙ w .only;
+          reads = reading-running s (mainsOf s) (ck o) us (o .isTable) now bytes d (fits-as f) le
+              (founds s (mainsOf s) (ck o)) res more (w .given) (o .shows .shows .is) (w .only)
               ∙ ap (λ t. keptCells t us (w .given)) (sym (f .time));
         }
 
-    module _ (e : Event) (rs : List ℤ) (r : Reduced) (out : List ℤ)
-        (h : Is (treeReduced (modeAt e rs) s n sights (take (length us - 8) (drop 8 us))) r out) where
-      given-is : {bytes : List ℕ} (g : Given bytes e rs) → Is (g .given) r out
-      given-is g = rw (tree-only (g .is)) at h
+    follows-as : reduced s sights us n e rs ≡ following .given
+    unfolding reduced
+    follows-as = ap (λ k. reducedBy k (mainReduced s) (treeReduced (modeAt e rs) s n sights (drop 8 us))) (f .follows)
+        ∙ tree-only (following .is)
 
-      pub follow-few : (bytes : List ℕ) × Fitted s bytes us e rs → bitsIn r < 65_536
-      follow-few f = let g = following (f .0) e rs (f .1) in
-          answer-few (g .given) r out (outcome-few (modeAt e rs) s n sights (take (length us - 8) (drop 8 us))
-          (g .is)) (given-is g)
+    reads-as : {fits : Bool} {after : List ℤ} → Advances s sights us n e rs after fits
+        → advanced fits after ≡ readingOf s us bytes
+    reads-as a = a .is ∙ ap (keptCells (e .time) us) follows-as ∙ sym (following .reads)
 
-      module _ {t : ℕ} (et : t ≡ e .time) {after : List ℤ} {q : Bool} (settles : Settles t r out us after q)
-          (bytes : List ℕ) (f : Fitted s bytes us e rs) where
-        reads-as : (g : Given bytes e rs) → keptCells t us (g .given) ≡ readingOf s us bytes
-        reads-as g = ap (λ k. keptCells k us (g .given)) et ∙ sym (g .reads)
+  module _ {e : Event} {rs : List ℤ} where
+    pub follow-due : SomeReading s us e rs → Due s places sights us n e rs
+    follow-due r =
+        let f = r .1 in
+        let all : UnitsDue s sights us n e rs = record {
+          tree = units-ready;
+          outcome = following f .given;
+          one = following f .is;
+        } in
+        record {
+          indexed = o .goes .indexed;
+          short = short (o .goes);
+          isTable = o .isTable;
+          few = f .few;
+          soon = f .fits;
+          units = subst (λ k. DueBy k (UnitsDue s sights us n e rs)) (sym (f .follows)) all;
+        }
 
-        pub follow-no : not q ≡ true → takenAnswer (refusedReading tooManyUnits) after ≡ readingOf s us bytes
-        follow-no p = let g = following bytes e rs f in kept-no settles (g .given) (given-is g) p ∙ reads-as g
+    module _ {fits : Bool} {after : List ℤ} (a : Advances s sights us n e rs after fits) where
+      pub follow-no : not fits ≡ true → ReadAs s us e rs (refusedReading tooManyUnits) after
+      follow-no q = record { is = λ bytes f. ap (λ b. advanced b after) (sym (not-true fits q)) ∙ reads-as f a }
 
-        pub follow-yes : not q ≡ false → takenAnswer acceptedReading after ≡ readingOf s us bytes
-        follow-yes p = let g = following bytes e rs f in kept-yes settles (g .given) (given-is g) p ∙ reads-as g
+      pub follow-yes : not fits ≡ false → ReadAs s us e rs acceptedReading after
+      follow-yes q = record { is = λ bytes f. ap (λ b. advanced b after) (sym (not-false fits q)) ∙ reads-as f a }
 
-        pub follow-little : unitsOf r ≤ 128 → takenAnswer acceptedReading after ≡ readingOf s us bytes
-        follow-little k = let g = following bytes e rs f in follow-yes (written-few settles (g .given) (given-is g) k)
+-- ---- a breached run, and a fulfilled one
+module _ {s places : List ℕ} {us : List ℤ} {sights : List ℕ} {e : Event} {rs : List ℤ} where
+  pub read-breached : {t : ℤ} {b : ℕ} → Opened s places us sights (Breached t b)
+      → ReadAs s us e rs acceptedReading us
+  read-breached o =
+      let b = o .shows in
+      record {
+        is = λ bytes f. sym (reading-breach s (mainsOf s) (ck o) us (o .isTable) (b .shows .now) bytes (f .reading)
+            (fits-as f) (in-order o f (b .shows)) (b .time) _ (b .shows .is));
+      }
 
-  -- ---- by the state
-  module _ {st : State} (v : Shows (runIn s us) us sights st) where
-    pub shown-running : {n : ℕ} → st ≡ Running n → RunningAs (runIn s us) us sights n
-    unfolding Shows
-    shown-running e = rw e at v
+  pub read-done : Opened s places us sights Fulfilled
+      → ReadAs s us e rs acceptedReading (set us 1 (toZ w64 (e .time)))
+  read-done o =
+      let r = o .shows in
+      let back = sym (table-back (ag o) (mainsOf s) us (runAt (r .now) done) (r .is) (o .isTable)) in
+      record {
+        is = λ bytes f.
+            ap (answer 0) (ap (set us 1) (toZ-pos w64 (e .time) (omega (arith, f .fits)) ∙ ap pos (f .time))
+            ∙ moved us (r .now) (f .reading .time) back)
+            ∙ sym (reading-done s (mainsOf s) (ck o) us (o .isTable) (r .now) bytes (f .reading) (fits-as f)
+            (in-order o f r) (r .is));
+      }
 
-    pub shown-done : st ≡ Fulfilled → RunShows (runIn s us) us done
-    unfolding Shows
-    shown-done e = rw e at v
+-- ---- before the reading is known to fit
+record SomeRun (s : List ℕ) (us : List ℤ) : Type 0 where
+  run : csl.Run
+  is : runIn s us ≡ some run
+  cell : getD us 1 (pos 0) ≡ pos (run .lastTime)
 
-    pub shown-breached : {t : ℤ} {b : ℕ} → st ≡ Breached t b → BreachedAs (runIn s us) us t b
-    unfolding Shows
-    shown-breached e = rw e at v
+some-run : (s : List ℕ) (us : List ℤ) (sights : List ℕ) (r : Run) → ShowsRun s us sights r → SomeRun s us
+some-run s us sights (Running n) v = record { run = _; is = v .shows .is; cell = v .shows .cell }
+some-run s us sights Fulfilled v = record { run = _; is = v .is; cell = v .cell }
+some-run s us sights (Breached t b) v = record { run = _; is = v .shows .is; cell = v .shows .cell }
 
-    pub shown-damaged : st ≡ Damaged → runIn s us ≡ none
-    unfolding Shows
-    shown-damaged e = rw e at v
+module _ {s places : List ℕ} {us : List ℤ} {sights : List ℕ} {r : Run} (o : Opened s places us sights r)
+    (bytes : List ℕ) (values : List ℤ) (t : Fitting) (h : TakenIs s bytes t values) where
+  abbrev shown : SomeRun s us
+  shown = some-run s us sights r (o .shows)
 
-    pub read-damaged : st ≡ Damaged → (bytes : List ℕ)
-        → takenAnswer (refusedReading TableContent) us ≡ readingOf s us bytes
-    read-damaged e bytes = sym (reading-seven us s ag (mainsOf s) ck (o .isTable) bytes (shown-damaged e))
+  pub read-eight : t ≡ Malformed → takenAnswer (refusedReading ReadingForm) us ≡ readingOf s us bytes
+  read-eight g =
+      let f : rawReading bytes ≡ none = rw g at h in
+      sym (reading-eight s (mainsOf s) (ck o) us (o .isTable) (shown .run) (shown .is) bytes f)
 
-    module _ (bytes : List ℕ) {e : Event} {rs : List ℤ} (f : Fitted s bytes us e rs) where
-      pub read-breached : {t : ℤ} {b : ℕ} → st ≡ Breached t b → takenAnswer acceptedReading us ≡ readingOf s us bytes
-      read-breached e =
-          let b = shown-breached e in
-          sym (reading-breach s (mainsOf s) ck us (o .isTable) (b .shows .now) bytes (f .reading) (fits-as f)
-          (in-order f (b .shows)) (b .time) _ (b .shows .is))
+  pub read-nine : t ≡ Untyped → takenAnswer (refusedReading ReadingTyping) us ≡ readingOf s us bytes
+  read-nine g =
+      let f : UntypedRead s bytes = rw g at h in
+      sym (reading-nine s (mainsOf s) (ck o) us (o .isTable) (shown .run) (shown .is) bytes (f .raw) (f .is)
+      (f .untyped))
 
-      pub read-done : st ≡ Fulfilled → takenAnswer acceptedReading (set us 1 (toZ w64 (e .time))) ≡ readingOf s us bytes
-      read-done g =
-          let r = shown-done g in
-          let d = f .reading in
-          let back = sym (table-back ag (mainsOf s) us (runAt (r .now) done) (r .is) (o .isTable)) in
-          ap (answer 0) (ap (set us 1) (toZ-pos w64 (e .time) (omega (arith, f .fits)) ∙ ap pos (f .time))
-          ∙ moved us (r .now) (d .time) back)
-          ∙ sym (reading-done s (mainsOf s) ck us (o .isTable) (r .now) bytes d (fits-as f) (in-order f r) (r .is))
+  module _ {time sort n : ℕ} (g : t ≡ Fits time sort n) where
+    abbrev fitting-read : FittingRead s bytes values time sort n
+    fitting-read = rw g at h
 
-  -- ---- before the reading is known to fit
-  damaged-run : (st : State) → Shows (runIn s us) us sights st → isDamaged st ≡ true → runIn s us ≡ none
-  unfolding Shows
-  damaged-run Damaged v e = v
-  damaged-run (Running n) v e = absurd (false≢true e)
-  damaged-run Fulfilled v e = absurd (false≢true e)
-  damaged-run (Breached t b) v e = absurd (false≢true e)
+    pub read-few : n ≤ 4
+    read-few = fitting-read .few
 
-  pub record SomeRun : Type 0 where
-    pub run : Run
-    pub is : runIn s us ≡ some run
-    pub cell : getD us 1 (pos 0) ≡ pos (run .lastTime)
+    pub read-soon : time < 4_294_967_296
+    read-soon = fitting-read .early
 
-  sound-run : (st : State) → Shows (runIn s us) us sights st → isDamaged st ≡ false → SomeRun
-  unfolding Shows
-  sound-run Damaged v e = absurd (false≢true (sym e))
-  sound-run (Running n) v e = record { run = _; is = v .shows .is; cell = v .shows .cell }
-  sound-run Fulfilled v e = record { run = _; is = v .is; cell = v .cell }
-  sound-run (Breached t b) v e = record { run = _; is = v .shows .is; cell = v .shows .cell }
+    -- the time of the last reading, as the code compares
+    earlier : {z : ℤ} {b : Bool} → z ≡ getD us 1 (pos 0) → b ≡ ltZ (toZ w64 time) z
+        → b ≡ ltb time (shown .run .lastTime)
+    unfolding ltZ
+    earlier ez eb = eb ∙ ap₂ ltZ (toZ-pos w64 time (omega (arith, read-soon))) (ez ∙ shown .cell)
 
-  module _ (st : State) (v : Shows (runIn s us) us sights st) {d : Bool} (de : d ≡ isDamaged st) (bytes : List ℕ) where
-    pub read-seven : d ≡ true → takenAnswer (refusedReading TableContent) us ≡ readingOf s us bytes
-    read-seven e = sym (reading-seven us s ag (mainsOf s) ck (o .isTable) bytes (damaged-run st v (sym de ∙ e)))
+    pub read-ten : {z : ℤ} {b : Bool} → z ≡ getD us 1 (pos 0) → b ≡ ltZ (toZ w64 time) z → b ≡ true
+        → takenAnswer (refusedReading ReadingTime) us ≡ readingOf s us bytes
+    unfolding fitting _>>=_
+    read-ten ez eb t =
+        let f = fitting-read in
+        let fits : fitting (ag o) bytes ≡ some (f .reading) = rw (f .is) (f .typed) in
+        sym (reading-ten s (mainsOf s) (ck o) us (o .isTable) (shown .run) (shown .is) bytes (f .reading) fits
+        (omega (arith, ltb-true time (shown .run .lastTime) (sym (earlier ez eb) ∙ t), f .time)))
 
-    module _ (e : d ≡ false) (values : List ℤ) (t : Fitting) (h : TakenIs s bytes t values) where
-      abbrev shown : SomeRun
-      shown = sound-run st v (sym de ∙ e)
-
-      pub read-eight : t ≡ Malformed → takenAnswer (refusedReading ReadingForm) us ≡ readingOf s us bytes
-      read-eight g =
-          let f : rawReading bytes ≡ none = rw g at h in
-          sym (reading-eight s (mainsOf s) ck us (o .isTable) (shown .run) (shown .is) bytes f)
-
-      pub read-nine : t ≡ Untyped → takenAnswer (refusedReading ReadingTyping) us ≡ readingOf s us bytes
-      read-nine g =
-          let f : UntypedRead s bytes = rw g at h in
-          sym (reading-nine s (mainsOf s) ck us (o .isTable) (shown .run) (shown .is) bytes (f .raw) (f .is)
-          (f .untyped))
-
-      module _ {time sort n : ℕ} (g : t ≡ Fits time sort n) where
-        abbrev fitting-read : FittingRead s bytes values time sort n
-        fitting-read = rw g at h
-
-        pub read-few : n ≤ 4
-        read-few = fitting-read .few
-
-        pub read-soon : time < 4_294_967_296
-        read-soon = fitting-read .early
-
-        -- the time of the last reading, as the code compares
-        earlier : {z : ℤ} {b : Bool} → z ≡ getD us 1 (pos 0) → b ≡ ltZ (toZ w64 time) z
-            → b ≡ ltb time (shown .run .lastTime)
-        unfolding ltZ
-        earlier ez eb = eb ∙ ap₂ ltZ (toZ-pos w64 time (omega (arith, read-soon))) (ez ∙ shown .cell)
-
-        pub read-ten : {z : ℤ} {b : Bool} → z ≡ getD us 1 (pos 0) → b ≡ ltZ (toZ w64 time) z → b ≡ true
-            → takenAnswer (refusedReading ReadingTime) us ≡ readingOf s us bytes
-        unfolding fitting _>>=_
-        read-ten ez eb t =
-            let f = fitting-read in
-            let fits : fitting ag bytes ≡ some (f .reading) = rw (f .is) (f .typed) in
-            sym (reading-ten s (mainsOf s) ck us (o .isTable) (shown .run) (shown .is) bytes (f .reading) fits
-            (omega (arith, ltb-true time (shown .run .lastTime) (sym (earlier ez eb) ∙ t), f .time)))
-
-        pub read-fitted : {z : ℤ} {b : Bool} → z ≡ getD us 1 (pos 0) → b ≡ ltZ (toZ w64 time) z → b ≡ false
-            → Fitted s bytes us (record {
-              step = Follow;
-              time = time;
-              tag = sort;
-            }) (take n values)
-        read-fitted ez eb t =
-            let f = fitting-read in
-            record {
-              raw = f .raw;
-              reading = f .reading;
-              is = f .is;
-              typed = f .typed;
-              follows = refl;
-              time = f .time;
-              type = f .type;
-              cells = f .cells;
-              few = omega (arith, f .few, length-take n values);
-              fits = f .early;
-              inOrder = λ now e. omega (
-                arith,
-                ltb-false time (shown .run .lastTime) (sym (earlier ez eb) ∙ t),
-                same-number (sym e ∙ shown .cell),
-              );
-            }
-
--- ---- refusals 1 to 6, and what goes on
-pub read-checked : (s places : List ℕ) (us : List ℤ) (bytes : List ℕ) {c : Checked} {why : Refusal}
-    → Verified s places c → c ≡ Refused why → takenAnswer (refusedReading why) us ≡ readingOf s us bytes
-read-checked s places us bytes {why = why} v e = let w : Verified s places (Refused why) = rw e at v in
-    sym (reading-refused us s (numberOf why) w bytes)
-
-pub read-table : (s places : List ℕ) (us : List ℤ) (bytes : List ℕ) {c : Checked} {p : ℕ} → Verified s places c
-    → c ≡ acceptedAgreement p → (length us ≡ 3080 → ⊥)
-    → takenAnswer (refusedReading TableLength) us ≡ readingOf s us bytes
-read-table s places us bytes v e h = let g = goes-on s places v e in
-    sym (reading-six us s (agreementOf s) (g .mains) (g .isAccepted) h bytes)
-
--- what `state_of` asks
-pub state-asked : (s places : List ℕ) {c : Checked} {p : ℕ} → Verified s places c → c ≡ acceptedAgreement p
-    → Indexed places s × Accepted s × (p ≡ bitsOf (mainsOf s))
-state-asked s places v e = let g = goes-on s places v e in (g .indexed, record { is = accepts g }, main-parties g)
-
-pub opened : (s places : List ℕ) {us : List ℤ} {sights : List ℕ} {c : Checked} {p : ℕ} → Verified s places c
-    → c ≡ acceptedAgreement p → length us ≡ 3080 → length sights ≡ 256 → Opened s places us sights
-opened s places {p = p} v e l r = record { parties = p; goes = goes-on s places v e; isTable = l; room = r }
+    pub read-fitted : {z : ℤ} {b : Bool} → z ≡ getD us 1 (pos 0) → b ≡ ltZ (toZ w64 time) z → b ≡ false
+        → Fitted s bytes us (record {
+          step = Follow;
+          time = time;
+          tag = sort;
+        }) (take n values)
+    read-fitted ez eb t =
+        let f = fitting-read in
+        record {
+          raw = f .raw;
+          reading = f .reading;
+          is = f .is;
+          typed = f .typed;
+          follows = refl;
+          time = f .time;
+          type = f .type;
+          cells = f .cells;
+          few = omega (arith, f .few, length-take n values);
+          fits = f .early;
+          inOrder = λ now e. omega (
+            arith,
+            ltb-false time (shown .run .lastTime) (sym (earlier ez eb) ∙ t),
+            same-number (sym e ∙ shown .cell),
+          );
+        }

@@ -1,17 +1,17 @@
 -- Laws for a forecast.
 use mathlib.Core.Path.{_≡_, sym, ap, ap₂, subst, _∙_}
-use mathlib.Core.List.{List}
-use Prim.Native.Nat.{ℕ, _-_, _*_, _^_, _<_}
+use mathlib.Core.List.{List, [], _∷_}
+use Prim.Native.Nat.{ℕ, _*_, _^_, _<_}
 use native.Mathlib.Omega.{arith}
 use lib.Dec.{le→leb}
 use lib.IntN.{ℤ, pos}
 use lib.Signed.{mag, _≤ℤ_}
-use lib.ListN.{length, take, drop}
+use lib.ListN.{length, drop}
 use Rattle.arith.proofs.Ints.{seen, read! }
 use Rattle.csl.specs.Parties.{members}
 use Rattle.csl.specs.Decode.{agreementOf}
 use Rattle.csl.specs.Check.{checked, accepted}
-use Rattle.csl.specs.Outcomes.{units}
+use Rattle.csl.specs.Outcomes.{Residue, units}
 use Rattle.csl.specs.Entries as entries
 use Rattle.csl.specs.Entries.{forecastOf}
 use Rattle.soundness.proofs.Bits.{bits-members}
@@ -20,28 +20,22 @@ use Rattle.cells.specs.Reduce as cells
 use Rattle.cells.specs.Across as table
 use Rattle.places.specs.Locate.{mainsOf}
 use Rattle.bridge.proofs.Across.{forecast-across}
-use Rattle.bridge.proofs.Refusals.{forecast-refused, forecast-six, forecast-seven}
 use Rattle.bridge.proofs.Entries.{foretold, forecast-done, forecast-breach, forecast-running}
 use Rattle.residues.specs.Reduces.{Is}
-use Rattle.walk.specs.Tree.{treeReduced}
+use Rattle.waits.specs.declared.Event.{Event}
+use Rattle.waits.specs.declared.Step.the-variants.{Forecast}
 use Rattle.residues.specs.declared.Reduced.{Reduced}
 use Rattle.residues.specs.declared.Reduced.the-variants.{Done, Breach, Running}
 use Rattle.residues.proofs.Reduces.{is-done, is-breach, is-running}
 use Rattle.walk.proofs.Trees.{tree-only}
-use Rattle.state.specs.Shown.{RunningAs, Shows, runIn}
-use Rattle.state.specs.declared.State.{State}
-use Rattle.state.specs.declared.State.the-variants.{Damaged, Fulfilled, Breached}
-use Rattle.monitor.specs.declared.Checked.{Checked}
-use Rattle.monitor.specs.declared.Checked.the-variants.{Accepted, Refused}
-use Rattle.monitor.specs.declared.Refusal.{Refusal}
-use Rattle.monitor.specs.declared.Refusal.the-variants.{TableLength, TableContent}
 use Rattle.monitor.specs.declared.Foretold.the-variants.{Nothing, Breach as breachForetold}
-use Rattle.monitor.specs.declared.Foretold.the-variants.{Refused as refusedForecast}
-use Rattle.monitor.specs.Answers.{numberOf, forecastAnswer, Verified, Opened}
-use Rattle.monitor.proofs.Begins.{goes-on}
+use Rattle.monitor.specs.declared.Run.the-variants as run
+use Rattle.monitor.specs.Answers.{forecastAnswer}
+use Rattle.monitor.specs.Steps.{Opened, Due, reduced}
+use Rattle.monitor.proofs.Begins.{short}
+use Rattle.monitor.proofs.Opens.{accepts}
 use Rattle.monitor.proofs.Tabled.{founds, sighted}
-use Rattle.monitor.proofs.Follows.{accepts, behind-head, residue-sights, shown-done, shown-breached}
-use Rattle.monitor.proofs.Follows.{shown-damaged}
+use Rattle.monitor.proofs.Follows.{residue-sights, units-ready}
 
 -- ---- a time u in a cell t, read as m
 module _ {t : ℤ} {u : ℕ} (fits : mag t < 2 ^ 63) (is : t ≡ pos u) where
@@ -54,46 +48,58 @@ module _ {t : ℤ} {u : ℕ} (fits : mag t < 2 ^ 63) (is : t ≡ pos u) where
       same : pos m ≡ pos u → m ≡ u
       same h = cc
 
-module _ {s places : List ℕ} {us : List ℤ} {sights : List ℕ} (o : Opened s places us sights) where
-  abbrev ck : checked s ≡ accepted (agreementOf s) (mainsOf s)
-  ck = accepts (o .goes)
+-- ---- a running run, without readings
+abbrev aheadEvent : Event
+aheadEvent = record { step = Forecast; time = 0; tag = 0 }
 
-  -- ---- a running run
-  module _ {n : ℕ} (run : RunningAs (runIn s us) us sights n) (r : Reduced) (out : List ℤ)
-      (h : Is (treeReduced cells.forecasting s n sights (take (length us - 8) (drop 8 us))) r out) where
-    record Given : Type 0 where
-      given : cells.Reduced
-      isFor : Is given r out
-      answers : forecastOf s us ≡ foretold given
-      ends : (vs : List ℤ) → given ≡ cells.running vs → ⊥
+module _ {s places : List ℕ} {us : List ℤ} {sights : List ℕ} {n : ℕ}
+    (o : Opened s places us sights (run.Running n)) where
+  record Given : Type 0 where
+    given : cells.Reduced
+    is : table.across cells.forecasting s n sights (drop 8 us) ≡ given ∷ []
+    answers : forecastOf s us ≡ foretold given
+    ends : (vs : List ℤ) → given ≡ cells.running vs → ⊥
 
-    ahead : Given
-    ahead =
-        let res = run .residue in
-        let now = run .shows .now in
-        let more = drop (2 * units res) sights in
-        let w = forecast-across s (mainsOf s) (isFair s (agreementOf s) (mainsOf s) ck) (founds s (mainsOf s) ck) now
-        res us (o .isTable) (run .shows .is) more in
-        let f = forecast-running s (mainsOf s) ck us (o .isTable) (founds s (mainsOf s) ck) now res more (w .given)
-        (run .shows .is) (w .only) in
-        let same = sighted s (mainsOf s) ck now res us (o .isTable) (run .shows .is) sights (residue-sights o run) in
-        record {
-          given = w .given;
-          isFor = rw (tree-only {x = w .given} (ap (table.across cells.forecasting s n sights) (behind-head us)
-              ∙ ap₂ (λ k q. table.across cells.forecasting s k q (drop 8 us)) (run .count) same ∙ w .only)) at h;
-          answers = f .0;
-          ends = f .1;
-        }
+  ahead : Given
+  ahead =
+      let ck = accepts (o .goes) in
+      let shown = o .shows .shows in
+      let res = o .shows .residue in
+      let more = drop (2 * units res) sights in
+      let w = forecast-across s (mainsOf s) (isFair s (agreementOf s) (mainsOf s) ck) (founds s (mainsOf s) ck)
+      (shown .now) res us (o .isTable) (shown .is) more in
+      let f = forecast-running s (mainsOf s) ck us (o .isTable) (founds s (mainsOf s) ck) (shown .now) res more
+      (w .given) (shown .is) (w .only) in
+      let same = sighted s (mainsOf s) ck (shown .now) res us (o .isTable) (shown .is) sights (residue-sights o) in
+      record {
+        given = w .given;
+        is = ap₂ (λ k q. table.across cells.forecasting s k q (drop 8 us)) (o .shows .count) same ∙ w .only;
+        answers = f .0;
+        ends = f .1;
+      }
+
+  pub ahead-due : Due s places sights us n aheadEvent []
+  ahead-due = record {
+    indexed = o .goes .indexed;
+    short = short (o .goes);
+    isTable = o .isTable;
+    few = omega arith;
+    soon = omega arith;
+    units = record { tree = units-ready o; outcome = ahead .given; one = ahead .is };
+  }
+
+  module _ (r : Reduced) (out : List ℤ) (h : Is (reduced s sights us n aheadEvent []) r out) where
+    is-for : {q : Reduced} → r ≡ q → Is (ahead .given) q out
+    unfolding reduced
+    is-for e = subst (λ q. Is (ahead .given) q out) e (subst (λ x. Is x r out) (tree-only (ahead .is)) h)
 
     pub ahead-none : r ≡ Done → forecastAnswer Nothing ≡ forecastOf s us
     unfolding foretold
-    ahead-none e =
-        let i : Is (ahead .given) Done out = subst (λ q. Is (ahead .given) q out) e (ahead .isFor) in
-        sym (ahead .answers ∙ ap foretold (is-done out (ahead .given) i))
+    ahead-none e = sym (ahead .answers ∙ ap foretold (is-done out (ahead .given) (is-for e)))
 
     module _ {t : ℤ} {b : ℕ} (fits : mag t < 2 ^ 63) (e : r ≡ Breach t b) where
       dated : (u : ℕ) × (ahead .given ≡ cells.breach u b) × (t ≡ pos u)
-      dated = is-breach out (ahead .given) (subst (λ q. Is (ahead .given) q out) e (ahead .isFor))
+      dated = is-breach out (ahead .given) (is-for e)
 
       pub ahead-time : pos 0 ≤ℤ seen t
       ahead-time = not-below fits (dated .2)
@@ -104,37 +110,21 @@ module _ {s places : List ℕ} {us : List ℤ} {sights : List ℕ} (o : Opened s
           ∙ sym (ahead .answers ∙ ap foretold (dated .1))
 
     pub ahead-running : {m : ℕ} → r ≡ Running m → forecastAnswer Nothing ≡ forecastOf s us
-    ahead-running {m = m} e =
-        let i : Is (ahead .given) (Running m) out = subst (λ q. Is (ahead .given) q out) e (ahead .isFor) in
-        let g = is-running out (ahead .given) i in
-        absurd (ahead .ends (g .0) (g .1))
+    ahead-running e = let g = is-running out (ahead .given) (is-for e) in absurd (ahead .ends (g .0) (g .1))
 
-  -- ---- by the state
-  module _ {st : State} (v : Shows (runIn s us) us sights st) where
-    pub foretell-damaged : st ≡ Damaged → forecastAnswer (refusedForecast TableContent) ≡ forecastOf s us
-    foretell-damaged e = sym (forecast-seven us s (agreementOf s) (mainsOf s) ck (o .isTable) (shown-damaged o v e))
+-- ---- a fulfilled run, and a breached one
+module _ {s places : List ℕ} {us : List ℤ} {sights : List ℕ} where
+  pub foretell-done : Opened s places us sights run.Fulfilled → forecastAnswer Nothing ≡ forecastOf s us
+  foretell-done o = let r = o .shows in
+      sym (forecast-done s (mainsOf s) (accepts (o .goes)) us (o .isTable) (r .now) (r .is))
 
-    pub foretell-done : st ≡ Fulfilled → forecastAnswer Nothing ≡ forecastOf s us
-    foretell-done e = let r = shown-done o v e in sym (forecast-done s (mainsOf s) ck us (o .isTable) (r .now) (r .is))
+  module _ {t : ℤ} {b : ℕ} (fits : mag t < 2 ^ 63) (o : Opened s places us sights (run.Breached t b)) where
+    pub foretell-time : pos 0 ≤ℤ seen t
+    foretell-time = not-below fits (o .shows .isTime)
 
-    module _ {t : ℤ} {b : ℕ} (fits : mag t < 2 ^ 63) (e : st ≡ Breached t b) where
-      pub foretell-time : pos 0 ≤ℤ seen t
-      foretell-time = not-below fits (shown-breached o v e .isTime)
-
-      pub foretell-breach : {m : ℕ} → pos m ≡ seen t → forecastAnswer (breachForetold m b) ≡ forecastOf s us
-      foretell-breach h =
-          let r = shown-breached o v e in
-          ap₂ entries.breachAt (time-read fits (r .isTime) h) (sym (bits-members b (omega (arith, r .small))))
-          ∙ sym (forecast-breach s (mainsOf s) ck us (o .isTable) (r .shows .now) (r .time) (members b)
-          (r .shows .is))
-
--- ---- refusals 1 to 6
-pub foretell-checked : (s places : List ℕ) (us : List ℤ) {c : Checked} {why : Refusal} → Verified s places c
-    → c ≡ Refused why → forecastAnswer (refusedForecast why) ≡ forecastOf s us
-foretell-checked s places us {why = why} v e = let w : Verified s places (Refused why) = rw e at v in
-    sym (forecast-refused us s (numberOf why) w)
-
-pub foretell-table : (s places : List ℕ) (us : List ℤ) {c : Checked} {p : ℕ} → Verified s places c → c ≡ Accepted p
-    → (length us ≡ 3080 → ⊥) → forecastAnswer (refusedForecast TableLength) ≡ forecastOf s us
-foretell-table s places us v e h = let g = goes-on s places v e in
-    sym (forecast-six us s (agreementOf s) (g .mains) (g .isAccepted) h)
+    pub foretell-breach : {m : ℕ} → pos m ≡ seen t → forecastAnswer (breachForetold m b) ≡ forecastOf s us
+    foretell-breach h =
+        let r = o .shows in
+        ap₂ entries.breachAt (time-read fits (r .isTime) h) (sym (bits-members b (omega (arith, r .small))))
+        ∙ sym (forecast-breach s (mainsOf s) (accepts (o .goes)) us (o .isTable) (r .shows .now) (r .time)
+        (members b) (r .shows .is))

@@ -1,4 +1,6 @@
 pub mod Checks
+pub mod Opens
+pub mod Advances
 pub mod Begins
 pub mod Tabled
 pub mod Follows

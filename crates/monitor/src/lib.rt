@@ -1,16 +1,17 @@
 // The public entries of paper 01. No entry relies on an earlier check.
 ghost use mathlib.Core.Path.{_≡_};
-ghost use mathlib.Core.List.{List};
 ghost use Prim.Native.Nat.{ℕ, _≤_};
 ghost use lib.IntN.{pos};
 ghost use lib.ListN.{length};
 ghost use lib.Signed.{_≤ℤ_};
 ghost use Rattle.csl.specs.Check.{checkOf};
 ghost use Rattle.csl.specs.Entries.{startOf, readingOf, forecastOf};
+ghost use Rattle.csl.specs.Table.{tableLength};
 ghost use Rattle.records.specs.Index.{Indexed};
 ghost use Rattle.residues.specs.Reduces.{Is};
-ghost use Rattle.state.specs.Shown.{RunningAs, Shows, runIn};
-ghost use Rattle.monitor.specs.Answers.{numberOf, checkAnswer, startAnswer, takenAnswer, forecastAnswer, Goes, Verified, mainReduced, Opened, Fitted, isDamaged};
+ghost use Rattle.monitor.specs.Answers.{numberOf, checkAnswer, startAnswer, takenAnswer, forecastAnswer};
+ghost use Rattle.monitor.specs.Steps.{indexLength, sightsLength, roomLength, Goes, Verified, Admitted, Opened, Opens};
+ghost use Rattle.monitor.specs.Steps.{mainReduced, Due, reduced, Advances, Tried, SomeReading, ReadAs};
 use activation::Site;
 use activation::activate;
 use arith::byte;
@@ -27,6 +28,39 @@ use typing::Typed;
 use waits::Event;
 use waits::Step;
 use walk::across;
+
+// The byte places of an agreement's start time and of its number of templates, and the places of its index.
+const START: usize = 4;
+
+const TEMPLATES: usize = 10;
+
+const PLACES: usize = 49;
+
+// A table has a head, of which one cell is the last reading time, and then the cells of units.
+const HEAD_CELLS: usize = 8;
+
+const LAST_TIME: usize = 1;
+
+const UNIT_CELLS: usize = 24;
+
+const MOST_UNITS: usize = 128;
+
+const TABLE_CELLS: usize = HEAD_CELLS + MOST_UNITS * UNIT_CELLS;
+
+// What is in sight at a unit is said by two numbers.
+const SIGHTS: usize = 2 * MOST_UNITS;
+
+// Room for all units, and for so few that to clear it costs little: to clear more costs more than most readings do.
+const FEW_UNITS: usize = 16;
+
+const ROOM: usize = MOST_UNITS * UNIT_CELLS;
+
+const FEW_ROOM: usize = FEW_UNITS * UNIT_CELLS;
+
+// The most values of a reading, and the depths within a main clause.
+const VALUES: usize = 4;
+
+const DEPTHS: usize = 23;
 
 // Why an entry refuses. The paper's numbers are given by `numberOf`.
 pub enum Refusal {
@@ -68,7 +102,7 @@ pub enum Foretold {
 
 // Refusals 1 to 5, each judged over the whole agreement before the next; the index is filled on the way.
 fn verify(agreement: &[u8], places: &mut [usize]) -> Checked
-    requires { ⌜ length (now places) ≡ 49 ⌝ }
+    requires { ⌜ length (now places) ≡ indexLength ⌝ }
     ensures { λ r. ⌜ Verified (now (agreement .entry)) (now (places .exit)) r ⌝ }
 {
     if !records::sized(agreement) {
@@ -95,13 +129,57 @@ fn verify(agreement: &[u8], places: &mut [usize]) -> Checked
 pub fn check(agreement: &[u8]) -> Checked
     ensures { λ r. ⌜ checkAnswer r ≡ checkOf (now (agreement .entry)) ⌝ }
 {
-    let mut places = [0usize; 49];
+    let mut places = [0usize; PLACES];
     verify(agreement, &mut places)
 }
 
+// Refusals 1 to 6.
+fn admit(agreement: &[u8], table: &[i64], places: &mut [usize]) -> Checked
+    requires { ⌜ length (now places) ≡ indexLength ⌝ }
+    ensures { λ r. ⌜ Admitted (now (agreement .entry)) (now (places .exit)) (now (table .entry)) r ⌝ }
+{
+    let checked = verify(agreement, places);
+    let Checked::Accepted(_) = checked else {
+        return checked;
+    };
+    if table.len() != TABLE_CELLS {
+        return Checked::Refused(Refusal::TableLength);
+    }
+    checked
+}
+
+// The run that a table shows: with so many units in use; fulfilled; breached at a time, by parties by bit.
+enum Run {
+    Running(usize),
+    Fulfilled,
+    Breached { time: i64, parties: usize },
+}
+
+// What is lent is refused, or shows a run.
+enum Opening {
+    Refused(Refusal),
+    Shows(Run),
+}
+
+// Refusals 1 to 7; the index is filled on the way, and the sights of a running run's units.
+fn open_run(agreement: &[u8], table: &[i64], places: &mut [usize], sights: &mut [usize]) -> Opening
+    requires { ⌜ (length (now places) ≡ indexLength) × (length (now sights) ≡ sightsLength) ⌝ }
+    ensures { λ r. ⌜ Opens (now (agreement .entry)) (now (places .exit)) (now (table .entry)) (now (sights .exit)) r ⌝ }
+{
+    match admit(agreement, table, places) {
+        Checked::Refused(why) => Opening::Refused(why),
+        Checked::Accepted(mains) => match state_of(agreement, places, mains, table, sights) {
+            State::Damaged => Opening::Refused(Refusal::TableContent),
+            State::Running(used) => Opening::Shows(Run::Running(used)),
+            State::Fulfilled => Opening::Shows(Run::Fulfilled),
+            State::Breached { time, parties } => Opening::Shows(Run::Breached { time, parties }),
+        },
+    }
+}
+
 // The main clause activated at the start time; a residue grows downward from the end of out.
-fn activated(agreement: &[u8], places: &[usize], out: &mut [i64]) -> Reduced
-    requires { ⌜ Indexed (now places) (now agreement) × (length (now agreement) ≤ 16_384) × (length (now out) ≤ 3072) ⌝ }
+fn activate_main(agreement: &[u8], places: &[usize], out: &mut [i64]) -> Reduced
+    requires { ⌜ Indexed (now places) (now agreement) × (length (now agreement) ≤ 16_384) × (length (now out) ≤ roomLength) ⌝ }
     ensures { λ r. ⌜ Is (mainReduced (now (agreement .entry))) r (now (out .exit)) ⌝ }
 {
     let from = main_place(agreement, places);
@@ -113,41 +191,124 @@ fn activated(agreement: &[u8], places: &[usize], out: &mut [i64]) -> Reduced
         tag: 0,
     };
     let site = Site {
-        below: byte(agreement, 10),
+        below: byte(agreement, TEMPLATES),
         place: from,
-        a: unsigned32(agreement, 4),
-        depth: 23,
+        a: unsigned32(agreement, START),
+        depth: DEPTHS,
     };
     let s = &agreement[from..];
     activate(agreement, places, event, none, site, s, none, none, out)
 }
 
-// Start, for an accepted agreement and a table's cells, with room for as many units as a table has.
-fn begin_wide(agreement: &[u8], places: &[usize], table: &mut [i64]) -> Started
-    requires { ⌜ ((parties : ℕ) × Goes (now agreement) (now places) parties) × (length (now table) ≡ 3080) ⌝ }
-    ensures { λ r. ⌜ startAnswer r (now (table .exit)) ≡ startOf (now (agreement .entry)) (now (table .entry)) ⌝ }
+// What an event makes of the main clause, at the start, or of a table's units; a residue stands at the end of out.
+fn reduce(
+    agreement: &[u8],
+    places: &[usize],
+    sights: &[usize],
+    table: &[i64],
+    used: usize,
+    event: Event,
+    rs: &[i64],
+    out: &mut [i64],
+) -> Reduced
+    requires { ⌜ Due (now agreement) (now places) (now sights) (now table) used event (now rs) × (length (now out) ≤ roomLength) ⌝ }
+    ensures { λ r. ⌜ Is (reduced (now (agreement .entry)) (now (sights .entry)) (now (table .entry)) used event (now (rs .entry))) r (now (out .exit)) ⌝ }
 {
-    let mut out = [0i64; 3072];
-    let r = activated(agreement, places, &mut out);
-    let time = unsigned32(agreement, 4) as i64;
-    if settle(table, time, r, &out) {
-        return Started::Begun;
+    let step = event.step;
+    if let Step::Activate = step {
+        return activate_main(agreement, places, out);
     }
-    Started::Refused(Refusal::Units)
+    let units = &table[HEAD_CELLS..];
+    across(agreement, places, event, rs, sights, units, used, out)
 }
 
-// The same, with room for 16 units at first: to clear more room costs more than most starts do.
+// The table is written where `out` has room for the residue. The answer is the units that it needs, counted up to 129.
+fn reduce_within(
+    agreement: &[u8],
+    places: &[usize],
+    sights: &[usize],
+    table: &mut [i64],
+    used: usize,
+    event: Event,
+    rs: &[i64],
+    out: &mut [i64],
+) -> usize
+    requires { ⌜ Due (now agreement) (now places) (now sights) (now table) used event (now rs) × (length (now out) ≤ roomLength) ⌝ }
+    ensures { λ n. ⌜ Tried (now (agreement .entry)) (now (sights .entry)) (now (table .entry)) used event (now (rs .entry))
+        (now (out .entry)) (now (table .exit)) n ⌝ }
+{
+    let r = reduce(agreement, places, sights, table, used, event, rs, out);
+    let units = units_of(r);
+    if UNIT_CELLS * units > out.len() {
+        return units;
+    }
+    settle(table, event.time as i64, r, out);
+    units
+}
+
+// With room for as many units as a table has.
+fn advance_widely(
+    agreement: &[u8],
+    places: &[usize],
+    sights: &[usize],
+    table: &mut [i64],
+    used: usize,
+    event: Event,
+    rs: &[i64],
+) -> bool
+    requires { ⌜ Due (now agreement) (now places) (now sights) (now table) used event (now rs) ⌝ }
+    ensures { λ fits. ⌜ Advances (now (agreement .entry)) (now (sights .entry)) (now (table .entry)) used event (now (rs .entry)) (now (table .exit)) fits ⌝ }
+{
+    let mut out = [0i64; ROOM];
+    let units = reduce_within(agreement, places, sights, table, used, event, rs, &mut out);
+    if units > MOST_UNITS {
+        return false;
+    }
+    true
+}
+
+// Whether the table that an event leads to has few enough units; if so, it is written.
+fn advance(
+    agreement: &[u8],
+    places: &[usize],
+    sights: &[usize],
+    table: &mut [i64],
+    used: usize,
+    event: Event,
+    rs: &[i64],
+) -> bool
+    requires { ⌜ Due (now agreement) (now places) (now sights) (now table) used event (now rs) ⌝ }
+    ensures { λ fits. ⌜ Advances (now (agreement .entry)) (now (sights .entry)) (now (table .entry)) used event (now (rs .entry)) (now (table .exit)) fits ⌝ }
+{
+    if used > FEW_UNITS {
+        return advance_widely(agreement, places, sights, table, used, event, rs);
+    }
+    let mut out = [0i64; FEW_ROOM];
+    let units = reduce_within(agreement, places, sights, table, used, event, rs, &mut out);
+    if units > MOST_UNITS {
+        return false;
+    }
+    if units > FEW_UNITS {
+        return advance_widely(agreement, places, sights, table, used, event, rs);
+    }
+    true
+}
+
+// Start, for an accepted agreement and a table's cells.
 fn begin(agreement: &[u8], places: &[usize], table: &mut [i64]) -> Started
-    requires { ⌜ ((parties : ℕ) × Goes (now agreement) (now places) parties) × (length (now table) ≡ 3080) ⌝ }
+    requires { ⌜ ((parties : ℕ) × Goes (now agreement) (now places) parties) × (length (now table) ≡ tableLength) ⌝ }
     ensures { λ r. ⌜ startAnswer r (now (table .exit)) ≡ startOf (now (agreement .entry)) (now (table .entry)) ⌝ }
 {
-    let mut out = [0i64; 384];
-    let r = activated(agreement, places, &mut out);
-    if units_of(r) > 16 {
-        return begin_wide(agreement, places, table);
+    let sights = [0usize; 1];
+    let none = [0i64; 1];
+    let event = Event {
+        step: Step::Activate,
+        time: unsigned32(agreement, START),
+        tag: 0,
+    };
+    if !advance(agreement, places, &sights, table, 0, event, &none) {
+        return Started::Refused(Refusal::Units);
     }
-    let time = unsigned32(agreement, 4) as i64;
-    settle(table, time, r, &out);
     Started::Begun
 }
 
@@ -155,119 +316,42 @@ fn begin(agreement: &[u8], places: &[usize], table: &mut [i64]) -> Started
 pub fn start(agreement: &[u8], table: &mut [i64]) -> Started
     ensures { λ r. ⌜ startAnswer r (now (table .exit)) ≡ startOf (now (agreement .entry)) (now (table .entry)) ⌝ }
 {
-    let mut places = [0usize; 49];
-    match verify(agreement, &mut places) {
+    let mut places = [0usize; PLACES];
+    match admit(agreement, table, &mut places) {
         Checked::Refused(why) => Started::Refused(why),
-        Checked::Accepted(_) => {
-            if table.len() != 3080 {
-                return Started::Refused(Refusal::TableLength);
-            }
-            begin(agreement, &places, table)
-        }
+        Checked::Accepted(_) => begin(agreement, &places, table),
     }
 }
 
-// A running run's units follow a reading, with room for as many units as a table has.
-fn follow_wide(
-    agreement: &[u8],
-    places: &[usize],
-    sights: &[usize],
-    table: &mut [i64],
-    used: usize,
-    event: Event,
-    rs: &[i64],
-) -> Taken
-    requires { ⌜ Opened (now agreement) (now places) (now table) (now sights) ⌝ }
-    requires { ⌜ RunningAs (runIn (now agreement) (now table)) (now table) (now sights) used × ((bytes : List ℕ) × Fitted (now agreement) bytes (now table) event (now rs)) ⌝ }
-    ensures { λ r. ⌜ ((bytes : List ℕ) → Fitted (now (agreement .entry)) bytes (now (table .entry)) event (now (rs .entry)) → takenAnswer r (now (table .exit)) ≡ readingOf (now (agreement .entry)) (now (table .entry)) bytes) ⌝ }
-{
-    let mut out = [0i64; 3072];
-    let r = across(
-        agreement,
-        places,
-        event,
-        rs,
-        sights,
-        &table[8..],
-        used,
-        &mut out,
-    );
-    let time = event.time as i64;
-    if !settle(table, time, r, &out) {
-        return Taken::Refused(Refusal::Units);
-    }
-    Taken::Accepted
-}
-
-// The same, with room for 16 units at first.
-fn follow(
-    agreement: &[u8],
-    places: &[usize],
-    sights: &[usize],
-    table: &mut [i64],
-    used: usize,
-    event: Event,
-    rs: &[i64],
-) -> Taken
-    requires { ⌜ Opened (now agreement) (now places) (now table) (now sights) ⌝ }
-    requires { ⌜ RunningAs (runIn (now agreement) (now table)) (now table) (now sights) used × ((bytes : List ℕ) × Fitted (now agreement) bytes (now table) event (now rs)) ⌝ }
-    ensures { λ r. ⌜ ((bytes : List ℕ) → Fitted (now (agreement .entry)) bytes (now (table .entry)) event (now (rs .entry)) → takenAnswer r (now (table .exit)) ≡ readingOf (now (agreement .entry)) (now (table .entry)) bytes) ⌝ }
-{
-    if used > 16 {
-        return follow_wide(agreement, places, sights, table, used, event, rs);
-    }
-    let mut out = [0i64; 384];
-    let r = across(
-        agreement,
-        places,
-        event,
-        rs,
-        sights,
-        &table[8..],
-        used,
-        &mut out,
-    );
-    if units_of(r) > 16 {
-        return follow_wide(agreement, places, sights, table, used, event, rs);
-    }
-    let time = event.time as i64;
-    settle(table, time, r, &out);
-    Taken::Accepted
-}
-
-// A reading that fits and is not early. A breached run is left as it is; of a fulfilled one the last reading time moves.
+// A reading that fits and is not before the last. A breached run is left as it is; of a fulfilled one the last reading time moves.
 fn step(
     agreement: &[u8],
     places: &[usize],
-    state: State,
     sights: &[usize],
+    run: Run,
     table: &mut [i64],
     event: Event,
     rs: &[i64],
 ) -> Taken
-    requires { ⌜ Opened (now agreement) (now places) (now table) (now sights) ⌝ }
-    requires { ⌜ Shows (runIn (now agreement) (now table)) (now table) (now sights) state × ((bytes : List ℕ) × Fitted (now agreement) bytes (now table) event (now rs)) ⌝ }
-    ensures { λ r. ⌜ ((bytes : List ℕ) → Fitted (now (agreement .entry)) bytes (now (table .entry)) event (now (rs .entry)) → takenAnswer r (now (table .exit)) ≡ readingOf (now (agreement .entry)) (now (table .entry)) bytes) ⌝ }
+    requires { ⌜ Opened (now agreement) (now places) (now table) (now sights) run ⌝ }
+    requires { ⌜ SomeReading (now agreement) (now table) event (now rs) ⌝ }
+    ensures { λ r. ⌜ ReadAs (now (agreement .entry)) (now (table .entry)) event (now (rs .entry)) r (now (table .exit)) ⌝ }
 {
-    match state {
-        State::Damaged => Taken::Refused(Refusal::TableContent),
-        State::Running(used) => follow(agreement, places, sights, table, used, event, rs),
-        State::Fulfilled => {
-            table[1] = event.time as i64;
+    match run {
+        Run::Running(used) => {
+            if !advance(agreement, places, sights, table, used, event, rs) {
+                return Taken::Refused(Refusal::Units);
+            }
             Taken::Accepted
         }
-        State::Breached(_, _) => Taken::Accepted,
-    }
-}
-
-fn is_damaged(state: State) -> bool
-    ensures { λ r. ⌜ r ≡ isDamaged state ⌝ }
-{
-    match state {
-        State::Damaged => true,
-        State::Running(_) => false,
-        State::Fulfilled => false,
-        State::Breached(_, _) => false,
+        Run::Fulfilled => {
+            table[LAST_TIME] = event.time as i64;
+            Taken::Accepted
+        }
+        Run::Breached {
+            time: _,
+            parties: _,
+        } => Taken::Accepted,
     }
 }
 
@@ -275,34 +359,30 @@ fn is_damaged(state: State) -> bool
 fn read_on(
     agreement: &[u8],
     places: &[usize],
-    state: State,
     sights: &[usize],
+    run: Run,
     table: &mut [i64],
     reading: &[u8],
 ) -> Taken
-    requires { ⌜ Opened (now agreement) (now places) (now table) (now sights) ⌝ }
-    requires { ⌜ Shows (runIn (now agreement) (now table)) (now table) (now sights) state ⌝ }
+    requires { ⌜ Opened (now agreement) (now places) (now table) (now sights) run ⌝ }
     ensures { λ r. ⌜ takenAnswer r (now (table .exit)) ≡ readingOf (now (agreement .entry)) (now (table .entry)) (now (reading .entry)) ⌝ }
 {
-    if is_damaged(state) {
-        return Taken::Refused(Refusal::TableContent);
-    }
-    let mut values = [0i64; 4];
+    let mut values = [0i64; VALUES];
     match readings::take(agreement, places, reading, &mut values) {
         Fitting::Malformed => Taken::Refused(Refusal::ReadingForm),
         Fitting::Untyped => Taken::Refused(Refusal::ReadingTyping),
-        Fitting::Fits(time, sort, n) => {
-            let last = table[1];
+        Fitting::Fits(time, tag, n) => {
+            let last = table[LAST_TIME];
             if less(time as i64, last) {
                 return Taken::Refused(Refusal::ReadingTime);
             }
             let event = Event {
                 step: Step::Follow,
                 time: time,
-                tag: sort,
+                tag,
             };
             let rs = &values[..n];
-            step(agreement, places, state, sights, table, event, rs)
+            step(agreement, places, sights, run, table, event, rs)
         }
     }
 }
@@ -311,17 +391,11 @@ fn read_on(
 pub fn reading(agreement: &[u8], table: &mut [i64], reading: &[u8]) -> Taken
     ensures { λ r. ⌜ takenAnswer r (now (table .exit)) ≡ readingOf (now (agreement .entry)) (now (table .entry)) (now (reading .entry)) ⌝ }
 {
-    let mut places = [0usize; 49];
-    match verify(agreement, &mut places) {
-        Checked::Refused(why) => Taken::Refused(why),
-        Checked::Accepted(parties) => {
-            if table.len() != 3080 {
-                return Taken::Refused(Refusal::TableLength);
-            }
-            let mut sights = [0usize; 256];
-            let state = state_of(agreement, &places, parties, table, &mut sights);
-            read_on(agreement, &places, state, &sights, table, reading)
-        }
+    let mut places = [0usize; PLACES];
+    let mut sights = [0usize; SIGHTS];
+    match open_run(agreement, table, &mut places, &mut sights) {
+        Opening::Refused(why) => Taken::Refused(why),
+        Opening::Shows(run) => read_on(agreement, &places, &sights, run, table, reading),
     }
 }
 
@@ -341,8 +415,7 @@ fn breach_ahead(
     table: &[i64],
     used: usize,
 ) -> Foretold
-    requires { ⌜ Opened (now agreement) (now places) (now table) (now sights) ⌝ }
-    requires { ⌜ RunningAs (runIn (now agreement) (now table)) (now table) (now sights) used ⌝ }
+    requires { ⌜ Opened (now agreement) (now places) (now table) (now sights) (Run.Running used) ⌝ }
     ensures { λ r. ⌜ forecastAnswer r ≡ forecastOf (now (agreement .entry)) (now (table .entry)) ⌝ }
 {
     // nothing waits on, so nothing needs room
@@ -354,14 +427,14 @@ fn breach_ahead(
         time: 0,
         tag: 0,
     };
-    match across(
+    match reduce(
         agreement,
         places,
+        sights,
+        table,
+        used,
         event,
         none,
-        sights,
-        &table[8..],
-        used,
         &mut out,
     ) {
         Reduced::Done => Foretold::Nothing,
@@ -377,21 +450,19 @@ fn breach_ahead(
 fn foretell(
     agreement: &[u8],
     places: &[usize],
-    state: State,
     sights: &[usize],
+    run: Run,
     table: &[i64],
 ) -> Foretold
-    requires { ⌜ Opened (now agreement) (now places) (now table) (now sights) ⌝ }
-    requires { ⌜ Shows (runIn (now agreement) (now table)) (now table) (now sights) state ⌝ }
+    requires { ⌜ Opened (now agreement) (now places) (now table) (now sights) run ⌝ }
     ensures { λ r. ⌜ forecastAnswer r ≡ forecastOf (now (agreement .entry)) (now (table .entry)) ⌝ }
 {
-    match state {
-        State::Damaged => Foretold::Refused(Refusal::TableContent),
-        State::Running(used) => breach_ahead(agreement, places, sights, table, used),
-        State::Fulfilled => Foretold::Nothing,
-        State::Breached(t, b) => {
+    match run {
+        Run::Running(used) => breach_ahead(agreement, places, sights, table, used),
+        Run::Fulfilled => Foretold::Nothing,
+        Run::Breached { time: t, parties } => {
             let time = minutes(t);
-            Foretold::Breach { time, parties: b }
+            Foretold::Breach { time, parties }
         }
     }
 }
@@ -400,17 +471,11 @@ fn foretell(
 pub fn forecast(agreement: &[u8], table: &[i64]) -> Foretold
     ensures { λ r. ⌜ forecastAnswer r ≡ forecastOf (now (agreement .entry)) (now (table .entry)) ⌝ }
 {
-    let mut places = [0usize; 49];
-    match verify(agreement, &mut places) {
-        Checked::Refused(why) => Foretold::Refused(why),
-        Checked::Accepted(parties) => {
-            if table.len() != 3080 {
-                return Foretold::Refused(Refusal::TableLength);
-            }
-            let mut sights = [0usize; 256];
-            let state = state_of(agreement, &places, parties, table, &mut sights);
-            foretell(agreement, &places, state, &sights, table)
-        }
+    let mut places = [0usize; PLACES];
+    let mut sights = [0usize; SIGHTS];
+    match open_run(agreement, table, &mut places, &mut sights) {
+        Opening::Refused(why) => Foretold::Refused(why),
+        Opening::Shows(run) => foretell(agreement, &places, &sights, run, table),
     }
 }
 

@@ -34,7 +34,7 @@ pub enum State {
     Damaged,
     Running(usize),
     Fulfilled,
-    Breached(i64, usize),
+    Breached { time: i64, parties: usize },
 }
 
 // A waiting unit at the front of the cells.
@@ -190,7 +190,10 @@ fn breached(agreement: &[u8], mains: usize, time: usize, table: &[i64]) -> State
         return State::Damaged;
     }
     let t = table[2];
-    State::Breached(t, bits)
+    State::Breached {
+        time: t,
+        parties: bits,
+    }
 }
 
 // Running: the units show one residue.

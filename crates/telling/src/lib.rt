@@ -113,7 +113,8 @@ pub fn begin(agreement: &[u8], table: &mut [i64], out: &mut [u8]) -> Told
 // The line of a refused reading: one refused with 8 has no time.
 fn put_refused(out: &mut [u8], at: usize, n: u64, reading: &[u8], number: u32) -> usize
     requires { ⌜ at + lineRoom ≤ length (now out) ⌝ }
-    ensures { λ r. ⌜ Put (line n (readingTime (now (reading .entry)) number ∷ refusalFields number)) (now (out .entry)) at (now (out .exit)) r × (r ≤ at + lineRoom) ⌝ }
+    ensures { λ r. ⌜ Put (line n (readingTime (now (reading .entry)) number ∷ refusalFields number))
+        (now (out .entry)) at (now (out .exit)) r × (r ≤ at + lineRoom) ⌝ }
 {
     if number == 8 {
         let a = put_timeless(out, at, n);
@@ -133,7 +134,8 @@ pub fn follow(
     n: u64,
 ) -> Told
     requires { ⌜ at + lineRoom ≤ length (now out) ⌝ }
-    ensures { λ r. ⌜ Follows (now (agreement .entry)) (now (table .entry)) (now (table .exit)) n (now (reading .entry)) (now (out .entry)) at (now (out .exit)) r ⌝ }
+    ensures { λ r. ⌜ Follows (now (agreement .entry)) (now (table .entry)) (now (table .exit)) n
+        (now (reading .entry)) (now (out .entry)) at (now (out .exit)) r ⌝ }
 {
     match monitor::reading(agreement, table, reading) {
         Taken::Refused(why) => {

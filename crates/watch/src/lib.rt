@@ -1,4 +1,5 @@
-// The program: the agreement, then readings, from standard input; a line for each, written before more input is waited for.
+// The program: the agreement, then readings, from standard input; a line for each, written before more input is
+// waited for.
 ghost use mathlib.Core.Path.{_≡_};
 ghost use Prim.Native.Nat.{_+_, _^_, _≤_, _<_};
 ghost use lib.ListN.{length, take};
@@ -44,7 +45,8 @@ fn step(
     line: u64,
 ) -> Turn
     requires { ⌜ (from ≤ length (now input)) × (at + lineRoom ≤ length (now out)) × (line + length (now input) < 2 ^ 64 + from) ⌝ }
-    ensures { λ r. ⌜ Turns (now (agreement .entry)) (now (table .entry)) (now (table .exit)) line (now (input .entry)) ended from (now (out .entry)) at (now (out .exit)) r × (r .stage ≡ Ready → from < r .from) ⌝ }
+    ensures { λ r. ⌜ Turns (now (agreement .entry)) (now (table .entry)) (now (table .exit)) line (now (input .entry))
+        ended from (now (out .entry)) at (now (out .exit)) r × (r .stage ≡ Ready → from < r .from) ⌝ }
 {
     match next_record(&input[from..], ended) {
         Next::Wait => Turn {
@@ -88,7 +90,8 @@ fn drain(
     line: u64,
 ) -> Turn
     requires { ⌜ line + length (now input) < 2 ^ 64 ⌝ }
-    ensures { λ r. ⌜ Turns (now (agreement .entry)) (now (table .entry)) (now (table .exit)) line (now (input .entry)) ended 0 (now (out .entry)) 0 (now (out .exit)) r ⌝ }
+    ensures { λ r. ⌜ Turns (now (agreement .entry)) (now (table .entry)) (now (table .exit)) line (now (input .entry))
+        ended 0 (now (out .entry)) 0 (now (out .exit)) r ⌝ }
 {
     let mut from = 0;
     let mut at = 0;
@@ -222,7 +225,8 @@ fn serve(
     await_more(buf, left, ended, stage, t.line)
 }
 
-// Readings until the run ends. A proved loop has to end, and nothing says that the input does: so there are at most 2^47 turns.
+// Readings until the run ends. A proved loop has to end, and nothing says that the input does: so there are at most
+// 2^47 turns.
 fn run(agreement: &[u8], table: &mut [i64], buf: &mut [u8], held: usize, over: bool, out: &mut [u8])
     requires { ⌜ (held ≤ length (now buf)) × (length (now buf) ≡ 65_536) ⌝ }
 {
@@ -282,7 +286,8 @@ fn look(buf: &mut [u8], size: usize, ended: bool) -> First
     }
 }
 
-// Each read brings a byte or the end of the input: so the first record is found within as many turns as it can have bytes.
+// Each read brings a byte or the end of the input: so the first record is found within as many turns as it can have
+// bytes.
 fn first_record(buf: &mut [u8]) -> First
     requires { ⌜ length (now buf) ≡ 65_536 ⌝ }
     ensures { λ r. ⌜ (r .record ≤ r .size) × (r .size ≤ 65_536) ⌝ }

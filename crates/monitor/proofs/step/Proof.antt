@@ -1,36 +1,39 @@
--- Damaged is 7; a running run follows; of a fulfilled one the time moves; a breached one is left.
+-- A running run's units advance; of a fulfilled run the time moves; a breached one is left.
 use borrow.Author.Needs.{needs}
-use Rattle.monitor.proofs.Follows.{shown-running, read-damaged, read-done, read-breached}
+use Rattle.monitor.proofs.Opens.{opened-as}
+use Rattle.monitor.proofs.Follows.{follow-due, follow-no, follow-yes, read-done, read-breached}
 use Rattle.monitor.proofs.step.Statement.{statement}
 use Rattle.monitor.proofs.step.Tie as tie
 
-follow-requires : tie.Need-follow-requires
-follow-requires c κs =
-    let at-start = c .before .before .before .before .before .before .before in (
-      at-start .pre .0,
-      (
-        shown-running (at-start .pre .0) (at-start .pre .1 .0) (c .before .before .state .given .1),
-        at-start .pre .1 .1,
-      ),
-    )
+advance-requires : tie.Need-advance-requires
+advance-requires c κs =
+    let at-start = c .before .before .before .before .before .before .before in
+    follow-due (opened-as (at-start .pre .0) (c .before .before .run .given .1)) (at-start .pre .1)
 
 returns : tie.Need-returns
 returns c =
-    let at-start = c .before .before .before .before .before in
-    λ bytes f. read-damaged (at-start .pre .0) (at-start .pre .1 .0) (c .enum-told .given .1) bytes
+    let at-run = c .before .before .before .before .before in
+    let at-start = at-run .before .before .before .before .before in
+    follow-no (opened-as (at-start .pre .0) (at-run .run .given .1)) (c .before .before .advance .ensures)
+    (c .if1 .taken)
+
+returns-2 : tie.Need-returns-2
+returns-2 c =
+    let at-run = c .before .before .before .before .before in
+    let at-start = at-run .before .before .before .before .before in
+    follow-yes (opened-as (at-start .pre .0) (at-run .run .given .1)) (c .before .before .advance .ensures)
+    (c .if1 .left)
 
 returns-3 : tie.Need-returns-3
-returns-3 c =
-    let at-start = c .before .before .before .before .before .before in
-    λ bytes f. read-done (at-start .pre .0) (at-start .pre .1 .0) bytes f (c .before .enum-told2 .given .1)
+returns-3 c = let at-start = c .before .before .before .before .before .before in
+    read-done (opened-as (at-start .pre .0) (c .before .enum-told .given .1))
 
 returns-4 : tie.Need-returns-4
-returns-4 c =
-    let at-start = c .before .before .before .before .before in
-    λ bytes f. read-breached (at-start .pre .0) (at-start .pre .1 .0) bytes f (c .enum-told3 .given .1)
+returns-4 c = let at-start = c .before .before .before .before .before in
+    read-breached (opened-as (at-start .pre .0) (c .enum-told2 .given .1))
 
 pub step-spec : {M : Type 1} → statement M
 step-spec = tie.close (tie.spec
-    (λ c. search needs) (λ c. search needs) follow-requires (λ c. search needs) (λ c. search needs)
-    (λ c. search needs) (λ c. search needs) returns (λ c. search needs) (λ c. search needs)
+    (λ c. search needs) advance-requires (λ c. search needs) returns (λ c. search needs)
+    (λ c. search needs) (λ c. search needs) (λ c. search needs) (λ c. search needs) returns-2
     (λ c. search needs) returns-3 returns-4)

@@ -1,8 +1,8 @@
 -- The main clause stands where the index says, and nothing is in sight of it.
 use borrow.Author.Needs.{needs}
 use Rattle.monitor.proofs.Begins.{main-ready, main-fits, main-is}
-use Rattle.monitor.proofs.activated.Statement.{statement}
-use Rattle.monitor.proofs.activated.Tie as tie
+use Rattle.monitor.proofs.activate_main.Statement.{statement}
+use Rattle.monitor.proofs.activate_main.Tie as tie
 
 activate-requires : tie.Need-activate-requires
 activate-requires c κs =
@@ -21,8 +21,8 @@ returns c =
     main-is _ (at-unsigned32 .before .byte .ensures .0) (at-unsigned32 .unsigned32 .ensures .0) _ _
     (at-main-place .main-place .ensures .0) (c .before .activate .ensures)
 
-pub activated-spec : {M : Type 1} → statement M
-activated-spec = tie.close (tie.spec
+pub activate-main-spec : {M : Type 1} → statement M
+activate-main-spec = tie.close (tie.spec
     (λ c κs. search needs) (λ c. search needs) (λ c. search needs) (λ c κs. search needs)
     (λ c κs. search needs) (λ c. search needs) (λ c. search needs) (λ c. search needs) activate-requires
     (λ c. search needs) returns)

@@ -1,0 +1,194 @@
+-- Laws for a step: what the rules on cells give is written where there is room for it, and over 128 units are 11.
+use mathlib.Core.Path.{_≡_, refl, sym, ap, subst, _∙_}
+use mathlib.Core.Bool.{Bool, true, false}
+use mathlib.Core.Logic.{inl, inr, _⊎_}
+use mathlib.Core.List.{List, [], _∷_}
+use Prim.Native.Nat.{ℕ, _-_, _*_, _/_, _≤_, _<_, min}
+use native.Mathlib.Omega.{arith}
+use borrow.Author.Tests.{le-leb, lt-ltb, le-ltb}
+use denote.Enum.Declared.{tagOf}
+use mir.Syntax.{w64}
+use mir.Val.{toZ}
+use mir.ValLaws.{toZ-pos}
+use lib.Dec.{ltb}
+use lib.IntN.{ℤ, pos}
+use lib.ListN.{length, take, drop, length-drop}
+use lib.Seq.{take-all}
+use Rattle.cells.specs.Reduce as cells
+use Rattle.cells.specs.Across.{natOf}
+use Rattle.bridge.proofs.Tables as bridge
+use Rattle.bridge.proofs.Tables.{unitsIn}
+use Rattle.bridge.proofs.Refusals.{answer}
+use Rattle.bridge.proofs.Entries.{keptCells}
+use Rattle.residues.specs.Reduces.{Is}
+use Rattle.waits.specs.Fates.{modeAt}
+use Rattle.walk.specs.Tree.{Tree, treeReduced}
+use Rattle.settling.specs.Settles as settling
+use Rattle.settling.specs.Settles.{Settles}
+use Rattle.residues.specs.Reduces.{unitsOf, bitsIn}
+use Rattle.waits.specs.declared.Event.{Event}
+use Rattle.waits.specs.declared.Step.{Step}
+use Rattle.waits.specs.declared.Step.the-variants.{Activate, Forecast, Follow}
+use Rattle.residues.specs.declared.Reduced.{Reduced}
+use Rattle.residues.specs.declared.Reduced.the-variants.{Done, Breach, Running}
+use Rattle.waits.proofs.Step.{the-type}
+use Rattle.residues.proofs.Few.{reduce-few, outcome-few, answer-few}
+use Rattle.walk.proofs.Trees.{tree-only}
+use Rattle.monitor.specs.Steps.{mainReduced, UnitsDue, DueBy, Due, reducedBy, reduced, Advances, Tried}
+
+-- a time's cell
+pub time-cell : {t : ℕ} → t < 4_294_967_296 → (toZ w64 t ≡ pos (natOf (toZ w64 t))) × (natOf (toZ w64 t) ≡ t)
+unfolding natOf
+time-cell {t = t} h = rw (toZ-pos w64 t (omega arith)) (refl, refl)
+
+-- the cells behind the head
+behind-head : (us : List ℤ) → take (length us - 8) (drop 8 us) ≡ drop 8 us
+behind-head us = take-all (length us - 8) (drop 8 us) (rw (length-drop 8 us) (omega arith))
+
+-- ---- the units that an answer counts
+over : (u : ℕ) {n l : ℕ} → n ≡ min u 129 → l ≡ 24 * u → 128 < n → 128 < l / 24
+over u e f h = omega arith
+
+within : (u : ℕ) {n l : ℕ} → n ≡ min u 129 → l ≡ 24 * u → n ≤ 128 → l / 24 ≤ 128
+within u e f h = omega arith
+
+counted : (u : ℕ) {n : ℕ} → n ≡ min u 129 → n ≤ 129
+counted u e = omega arith
+
+-- they are over 128 just where the residue's are
+module _ (out : List ℤ) where
+  more-units : (x : cells.Reduced) (r : Reduced) → Is x r out → 128 < unitsOf r → ltb 128 (unitsIn x) ≡ true
+  unfolding Is unitsIn
+  more-units x Done i h = absurd (omega arith)
+  more-units x (Breach t b) i h = absurd (omega arith)
+  more-units cells.done (Running n) i h = absurd i
+  more-units (cells.breach u c) (Running n) i h = absurd i
+  more-units (cells.running cs) (Running n) i h = lt-ltb 128 (length cs / 24) (over (i .units) (i .count) (i .size) h)
+
+  few-units : (x : cells.Reduced) (r : Reduced) → Is x r out → unitsOf r ≤ 128 → ltb 128 (unitsIn x) ≡ false
+  unfolding Is unitsIn
+  few-units cells.done r i h = refl
+  few-units (cells.breach u c) r i h = refl
+  few-units (cells.running cs) Done i h = absurd i
+  few-units (cells.running cs) (Breach t b) i h = absurd i
+  few-units (cells.running cs) (Running n) i h = le-ltb 128 (length cs / 24) (within (i .units) (i .count) (i .size) h)
+
+  pub units-counted : (x : cells.Reduced) (r : Reduced) → Is x r out → unitsOf r ≤ 129
+  unfolding Is
+  units-counted x Done i = omega arith
+  units-counted x (Breach t b) i = omega arith
+  units-counted cells.done (Running n) i = absurd i
+  units-counted (cells.breach u c) (Running n) i = absurd i
+  units-counted (cells.running cs) (Running n) i = counted (i .units) (i .count)
+
+same-table : (now : ℕ) (x : cells.Reduced) → settling.reducedTable now x ≡ bridge.reducedTable now x
+unfolding settling.reducedTable bridge.reducedTable
+same-table now cells.done = refl
+same-table now (cells.breach t b) = refl
+same-table now (cells.running cs) = refl
+
+module _ (r : Reduced) (out : List ℤ) (x : cells.Reduced) (i : Is x r out) (now : ℕ) (before : List ℤ) where
+  kept-over : 128 < unitsOf r → answer 11 before ≡ keptCells now before x
+  unfolding keptCells
+  kept-over h = rw (more-units out x r i h) refl
+
+  kept-few : {after : List ℤ} {q : Bool} → Settles now r out before after q → unitsOf r ≤ 128
+      → answer 0 after ≡ keptCells now before x
+  unfolding keptCells
+  kept-few settles h = rw (
+    few-units out x r i h,
+    settles .wrote (settles .fits ∙ le-leb (unitsOf r) 128 h) x i,
+    same-table now x,
+  ) refl
+
+-- ---- what an event makes of the main clause or of units
+-- the code's test: the step is not that of the start
+abbrev OnUnits : Step → Type 0
+OnUnits k = (tagOf the-type k ≡ 1) ⊎ (tagOf the-type k ≡ 2)
+
+no-units : OnUnits Activate → ⊥
+no-units (inl e) = omega arith
+no-units (inr e) = omega arith
+
+by-units : (k : Step) (main units : cells.Reduced) → OnUnits k → reducedBy k main units ≡ units
+by-units Activate main units f = absurd (no-units f)
+by-units Forecast main units f = refl
+by-units Follow main units f = refl
+
+due-by : (k : Step) (U : Type 0) → OnUnits k → DueBy k U → U
+due-by Activate U f d = absurd (no-units f)
+due-by Forecast U f d = d
+due-by Follow U f d = d
+
+module _ {s places sights : List ℕ} {us : List ℤ} {n : ℕ} {e : Event} {rs : List ℤ}
+    (d : Due s places sights us n e rs) where
+  pub units-due : OnUnits (e .step) → Tree (length s) sights (take (length us - 8) (drop 8 us)) n
+  units-due f = let u = due-by (e .step) (UnitsDue s sights us n e rs) f (d .units) in rw (behind-head us) (u .tree)
+
+  module _ (r : Reduced) (out : List ℤ) where
+    pub reduced-main : e .step ≡ Activate → Is (mainReduced s) r out → Is (reduced s sights us n e rs) r out
+    unfolding reduced
+    reduced-main f i = subst (λ k. Is (reducedBy k (mainReduced s)
+        (treeReduced (modeAt e rs) s n sights (drop 8 us))) r out) (sym f) i
+
+    pub reduced-units : OnUnits (e .step)
+        → Is (treeReduced (modeAt e rs) s n sights (take (length us - 8) (drop 8 us))) r out
+        → Is (reduced s sights us n e rs) r out
+    unfolding reduced
+    reduced-units f i = subst (λ x. Is x r out)
+        (ap (treeReduced (modeAt e rs) s n sights) (behind-head us) ∙ sym (by-units (e .step) (mainReduced s) _ f)) i
+
+    main-few : Is (mainReduced s) r out → bitsIn r < 65_536
+    unfolding mainReduced
+    main-few i = answer-few (mainReduced s) r out (reduce-few cells.activating _ _ _ _ _) i
+
+    units-few : UnitsDue s sights us n e rs → Is (treeReduced (modeAt e rs) s n sights (drop 8 us)) r out
+        → bitsIn r < 65_536
+    units-few u i = answer-few (u .outcome) r out (outcome-few (modeAt e rs) s n sights (drop 8 us) (u .one))
+        (subst (λ x. Is x r out) (tree-only (u .one)) i)
+
+    bits-few : (k : Step) → DueBy k (UnitsDue s sights us n e rs)
+        → Is (reducedBy k (mainReduced s) (treeReduced (modeAt e rs) s n sights (drop 8 us))) r out → bitsIn r < 65_536
+    bits-few Activate u i = main-few i
+    bits-few Forecast u i = units-few u i
+    bits-few Follow u i = units-few u i
+
+    module _ (i : Is (reduced s sights us n e rs) r out) where
+      -- what `settle` asks of the answer
+      pub reduced-few : bitsIn r < 65_536
+      unfolding reduced
+      reduced-few = bits-few (e .step) (d .units) i
+
+      pub tried-none : {room : List ℤ} {u : ℕ} → length room ≡ length out → u ≡ unitsOf r → length out < 24 * u
+          → Tried s sights us n e rs room us u
+      tried-none same eu h = record {
+        fits = λ k. absurd (omega arith);
+        kept = λ k. refl;
+        over = λ k. record { is = kept-over r out (reduced s sights us n e rs) i (e .time) us (omega (arith, eu)) };
+      }
+
+      pub tried-room : {room : List ℤ} {u t : ℕ} {after : List ℤ} {q : Bool} → length room ≡ length out
+          → u ≡ unitsOf r → 24 * u ≤ length out → length out ≤ 3072 → t ≡ e .time → Settles t r out us after q
+          → Tried s sights us n e rs room after u
+      tried-room {after = after} same eu h l et settles = record {
+        fits = λ k. record {
+          is = subst (λ t. answer 0 after ≡ keptCells t us (reduced s sights us n e rs)) et
+              (kept-few r out (reduced s sights us n e rs) i _ us settles (omega (arith, eu)));
+        };
+        kept = λ k. absurd (omega arith);
+        over = λ k. absurd (omega arith);
+      }
+
+-- ---- one room after another
+module _ {s sights : List ℕ} {us : List ℤ} {n : ℕ} {e : Event} {rs room after : List ℤ} {u : ℕ}
+    (t : Tried s sights us n e rs room after u) where
+  pub tried-over : length room ≤ 3072 → 128 < u → Advances s sights us n e rs after false
+  tried-over l h = subst (λ a. Advances s sights us n e rs a false) (sym (t .kept (omega arith))) (t .over h)
+
+  module _ (h : length room < 24 * u) where
+    pub due-again : {places : List ℕ} → Due s places sights us n e rs → Due s places sights after n e rs
+    due-again {places = places} d = subst (λ a. Due s places sights a n e rs) (sym (t .kept h)) d
+
+    pub advances-again : {last : List ℤ} {fits : Bool} → Advances s sights after n e rs last fits
+        → Advances s sights us n e rs last fits
+    advances-again {last = last} {fits = fits} a = subst (λ a. Advances s sights a n e rs last fits) (t .kept h) a

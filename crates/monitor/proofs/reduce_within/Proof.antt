@@ -1,0 +1,44 @@
+-- What the step comes to is settled where its units have room in `out`, and else nothing is written.
+use borrow.Author.Needs.{needs}
+use native.Mathlib.Omega.{arith}
+use Rattle.monitor.proofs.Advances.{time-cell, units-counted, reduced-few, tried-none, tried-room}
+use Rattle.monitor.proofs.reduce_within.Statement.{statement}
+use Rattle.monitor.proofs.reduce_within.Tie as tie
+
+mul-if1 : tie.Need-mul-if1
+mul-if1 c =
+    let few = units-counted _ _ _ (c .before .before .reduce .ensures) in
+    record { fits = omega (arith, few, c .units-of .ensures) }
+
+returns : tie.Need-returns
+returns c =
+    let at-reduce = c .before .before .before in
+    let at-start = at-reduce .before .before .before .before .before .before in
+    tried-none (at-start .pre .0) _ _ (at-reduce .reduce .ensures) (search needs) (c .before .units-of .ensures)
+    (c .if1 .taken)
+
+settle-requires : tie.Need-settle-requires
+settle-requires c κs =
+    let at-if1 = c .before .before .before in
+    let at-reduce = at-if1 .before .before .before in
+    let at-start = at-reduce .before .before .before .before .before .before in
+    let due = at-start .pre .0 in (
+      due .isTable,
+      record { room = λ h. omega (arith, at-if1 .before .units-of .ensures, at-if1 .if1 .left) },
+      (time-cell (due .soon)) .0,
+      reduced-few due _ _ (at-reduce .reduce .ensures),
+    )
+
+returns-2 : tie.Need-returns-2
+returns-2 c =
+    let at-if1 = c .before .before .before .before .before in
+    let at-reduce = at-if1 .before .before .before in
+    let at-start = at-reduce .before .before .before .before .before .before in
+    tried-room (at-start .pre .0) _ _ (at-reduce .reduce .ensures) (search needs) (at-if1 .before .units-of .ensures)
+    (omega (arith, at-if1 .if1 .left)) (search needs) ((time-cell (at-start .pre .0 .soon)) .1)
+    (c .before .settle .ensures)
+
+pub reduce-within-spec : {M : Type 1} → statement M
+reduce-within-spec = tie.close (tie.spec
+    (λ c κs. search needs) (λ c κs. search needs) mul-if1 (λ c. search needs) (λ c. search needs) returns
+    (λ c. search needs) settle-requires (λ c. search needs) (λ c. search needs) returns-2)
