@@ -17,7 +17,7 @@ use Rattle.csl.specs.Values.{Val, num, bool, who, valuesOf, eval}
 use Rattle.csl.specs.Outcomes.{Sight, Sort, anObligation, aChoice, Residue, unit, both, Outcome, done, breach, running, stuck, joined}
 use Rattle.csl.specs.Run.{Run, Stepped, started, step}
 use Rattle.csl.specs.Rules.{activate}
-use Rattle.csl.specs.Table.{isSort, tableOf, runOf}
+use Rattle.csl.specs.Table.{cellsOf, isSort, tableOf, runOf}
 use Rattle.csl.specs.Entries.{refusedForecast, noForecast, shown, startOf, readingOf, forecastOf, forecastRun}
 use Rattle.csl.specs.Build.{le2, le4, recordOf, lit, truthOf, yes′, partyOf, var, opposite, op, nothing, owesTyped, owes, simply, may, mayTyped, ifs, all′, any′, inst, readingTypeOf, templateOf, agreementOf, agreement, readingWith, reading, mark, sample, zeros, filled, unitOf, joinOf, flat, runningTable, fulfilledTable}
 use Rattle.csl.specs.Trials.{Trial, Seen, checks, answers, forecasts, steps, reads, becomes, decides, evaluates, holds, gives, follows, live, breaches, harness}
@@ -203,6 +203,8 @@ unfoldable pub runs : List Trial
 runs =
     taken "sums, differences, products, quotients" (every sums)
     ∷ taken "what is equal, less and both" (every equations)
+    ∷ taken "not true and false" (opposite (op 41 yes′ (truthOf 0)))
+    ∷ taken "not false and true" (opposite (op 41 (truthOf 0) yes′))
     ∷ obeys "a choice waits, is taken, and its `then` does not see the reading again"
     (main (may (op 42 (lit (pos 5)) (var 0)) (pos 0) (pos 50) (simply 1 (pos 20)) nothing))
     (reading 110 (pos 5) ∷ reading 120 (pos 7) ∷ []) (
@@ -234,6 +236,9 @@ runs =
     ∷ after 0 115 (waits anObligation 27 110 (0 ∷ 1 ∷ []) (nums (6 ∷ 9 ∷ []))) (by 125 1)
     ∷ after 0 120 (waits anObligation 48 120 (0 ∷ 1 ∷ []) (nums (6 ∷ 9 ∷ 8 ∷ 5 ∷ []))) (by 133 0)
     ∷ after 0 134 (by 133 0) (by 133 0) ∷ [])
+    ∷ obeys "the second template's clause waits"
+    (agreement (template 0 nothing ∷ template 1 (simply 0 (pos 60)) ∷ []) (call 1)) (mark 161 ∷ [])
+    (after 0 100 (owed 37 100) (by 160 0) ∷ after 0 161 (by 160 0) (by 160 0) ∷ [])
     ∷ obeys "an else sees the values and the parameters"
     (agreement (templateOf (1 ∷ 1 ∷ []) 2 0
     (mayTyped 1 yes′ (lit (pos 0)) (var 0) nothing (owesTyped 129 1 yes′ (lit (pos 0)) (var 1) nothing)) ∷ [])
@@ -593,6 +598,7 @@ widths =
     ∷ narrow "a body of 256, an obligation of 1" (body widest ∷ [])
     (both′ (calls 5) (both′ (calls 3)
     (both′ (calls 1) (both′ (both′ (next′ widest) fulfilled) (both′ badClause (next′ widest))))))
+    ∷ narrow "a body that is no clause" (body badClause ∷ []) fulfilled
     ∷ over "257" [] tooWide
     ∷ over "257 by an obligation" [] (wide′ (both′ (next′ fulfilled) fulfilled))
     ∷ over "257 by an if" [] (wide′ (if′ fulfilled fulfilled))
@@ -731,6 +737,7 @@ tables =
     ∷ alone′ anObligation 273 [] (7 ∷ 50 ∷ [])
     ∷ alone′ aChoice 26 (0 ∷ 0 ∷ []) (9 ∷ [])
     ∷ reads none ∷ [])
+    ∷ shows "truths in cells" (gives 0 (cellsOf (bool false ∷ bool true ∷ [])) ∷ []) (gives 0 (pos 0 ∷ pos 1 ∷ []) ∷ [])
     ∷ rejects "7: a state that is none"
     (set 0 (pos 0) good ∷ set 0 (pos 4) good ∷ set 0 (negsuc 0) good ∷ take 7 (full 100) ∷ [])
     ∷ rejects "7: a last reading time outside its range"
