@@ -16,13 +16,19 @@ pub data Checked : Type 0 where
   accepted : Agreement → List ℕ → Checked
 
 unfoldable pub checkTyped : Agreement → List ℕ → Checked
-checkTyped a ps = elim (guardedFrom 0 (a .templates)) [ false ↦ refused 4 | true ↦ elim (narrowAll a) [ false ↦ refused 5 | true ↦ accepted a ps ] ]
+checkTyped a ps = elim (guardedFrom 0 (a .templates)) [
+  | false ↦ refused 4
+  | true ↦ elim (narrowAll a) [ false ↦ refused 5 | true ↦ accepted a ps ]
+]
 
 unfoldable pub checkDecoded : Agreement → Checked
 checkDecoded a = elim (typed a) [ none ↦ refused 3 | some ps ↦ checkTyped a ps ]
 
 unfoldable pub checked : List ℕ → Checked
-checked bytes = elim (sized bytes) [ false ↦ refused 1 | true ↦ elim (decode bytes) [ none ↦ refused 2 | some a ↦ checkDecoded a ] ]
+checked bytes = elim (sized bytes) [
+  | false ↦ refused 1
+  | true ↦ elim (decode bytes) [ none ↦ refused 2 | some a ↦ checkDecoded a ]
+]
 
 -- ---- the entry: "check also returns the main clause's parties"
 pub record CheckAnswer : Type 0 where

@@ -10,17 +10,24 @@ use Prim.Native.String.{String}
 use lib.IntN.{ℤ, pos, negsuc}
 use lib.ListN.{length, replicate, take}
 use Rattle.csl.specs.Numbers.{plus}
-use Rattle.csl.specs.Syntax.{number, truth, party, arithmetic, conj, less, equal, Expr, numberLit, truthLit, partyLit, binary, badExpr, Op, Join, and, or, Wait, Clause, fulfilled, obligation, choice, if, join, instance, badClause, Template, Agreement}
+use Rattle.csl.specs.Syntax.{number, truth, party, arithmetic, conj, less, equal, Expr, numberLit, truthLit}
+use Rattle.csl.specs.Syntax.{partyLit, binary, badExpr, Op, Join, and, or, Wait, Clause, fulfilled, obligation}
+use Rattle.csl.specs.Syntax.{choice, if, join, instance, badClause, Template, Agreement}
 use Rattle.csl.specs.Decode.{countsOk, sized}
 use Rattle.csl.specs.Check.{Checked, refused, accepted, checked, checkDecoded, checkTyped, checkOf}
 use Rattle.csl.specs.Values.{Val, num, bool, who, valuesOf, eval}
-use Rattle.csl.specs.Outcomes.{Sight, Sort, anObligation, aChoice, Residue, unit, both, Outcome, done, breach, running, stuck, joined}
+use Rattle.csl.specs.Outcomes.{Sight, Sort, anObligation, aChoice, Residue, unit, both, Outcome, done, breach}
+use Rattle.csl.specs.Outcomes.{running, stuck, joined}
 use Rattle.csl.specs.Run.{Run, Stepped, started, step}
 use Rattle.csl.specs.Rules.{activate}
 use Rattle.csl.specs.Table.{cellsOf, isSort, tableOf, runOf}
 use Rattle.csl.specs.Entries.{refusedForecast, noForecast, shown, startOf, readingOf, forecastOf, forecastRun}
-use Rattle.csl.specs.Build.{le2, le4, recordOf, lit, truthOf, yes′, partyOf, var, opposite, op, nothing, owesTyped, owes, simply, may, mayTyped, ifs, all′, any′, inst, readingTypeOf, templateOf, agreementOf, agreement, readingWith, reading, mark, sample, zeros, filled, unitOf, joinOf, flat, runningTable, fulfilledTable}
-use Rattle.csl.specs.Trials.{Trial, Seen, checks, answers, forecasts, steps, reads, becomes, decides, evaluates, holds, gives, follows, live, breaches, harness}
+use Rattle.csl.specs.Build.{le2, le4, recordOf, lit, truthOf, yes′, partyOf, var, opposite, op, nothing}
+use Rattle.csl.specs.Build.{owesTyped, owes, simply, may, mayTyped, ifs, all′, any′, inst, readingTypeOf}
+use Rattle.csl.specs.Build.{templateOf, agreementOf, agreement, readingWith, reading, mark, sample, zeros, filled}
+use Rattle.csl.specs.Build.{unitOf, joinOf, flat, runningTable, fulfilledTable}
+use Rattle.csl.specs.Trials.{Trial, Seen, checks, answers, forecasts, steps, reads, becomes, decides, evaluates}
+use Rattle.csl.specs.Trials.{holds, gives, follows, live, breaches, harness}
 
 -- ---- forms of a trial
 unfoldable pub shows : String → List Seen → List Seen → Trial
@@ -630,7 +637,8 @@ mixed = agreementOf 3 (readingTypeOf (1 ∷ 2 ∷ 3 ∷ []) ∷ [])
     (all′ (owes 0 (var 1) (pos 0) (pos 60) (otherwise (simply 0 (pos 20))))
     (any′ (inst 0 (lit (pos 50) ∷ []) (1 ∷ 1 ∷ [])) (owes 1 (opposite (var 1)) (pos 0) (pos 60) nothing)))
 
--- after the reading (110; 7, true, party 2): an `and`, the choice, an `or`, the template's and the main clause's obligation
+-- after the reading (110; 7, true, party 2): an `and`, the choice, an `or`,
+-- the template's and the main clause's obligation
 unfoldable pub lent : ℕ → ℕ → List ℤ
 lent p q = unitOf 17 28 100 (pos p ∷ pos q ∷ []) (pos 50 ∷ [])
 
@@ -753,7 +761,7 @@ tables =
     ∷ short 110 (lent 1 1 ∷ lent 1 1 ∷ []) ∷ [])
     ∷ rejects "7: a unit's sort"
     (alter 4 0 (pos 16) ∷ alter 4 0 (pos 19) ∷ alter 4 0 (pos 22) ∷ alter 4 0 (negsuc 16) ∷ alter 4 0 (pos 18)
-    ∷ alter 1 0 (pos 17) ∷ [])
+    ∷ alter 1 0 (pos 17) ∷ alter 1 0 (pos 19) ∷ [])
     ∷ rejects "7: a place that is no waiting clause"
     (alter 4 1 (pos 0) ∷ alter 4 1 (negsuc 0) ∷ alter 4 1 (pos 68) ∷ alter 4 1 (pos 210) ∷ [])
     ∷ rejects "7: an A before the start or after the last reading"
@@ -857,5 +865,11 @@ further = runs ++ (joins ++ (readings ++
     (records ++ (types ++ (guards ++ (widths ++ (tables ++ (entries ++ unreached))))))))
 
 pub further-pass : map (λ t. t .shown) further ≡ map (λ t. t .expected) further
-unfolding harness says accepts refuses five refusesAll stepsOf runSeen obeys after waits owed chosen by shows saying nested one asking afterIs withinIs next otherwise chooses main aNumber counting template beside call lending every is isNot calculated most least sums equations taken chain nums runs pairs becoming left right joins values refused′ readings records named inSight types guards ladder wide calls both′ body ladder′ wide′ waiting next′ either′ if′ widest tooWide laddered narrow over widths mixed lent offered units′ short good ended broke full set alter readBy rejects running′ lent′ residue sound ends sights alone alone′ inPlace tables begun two crowd entries bare asked op′ still tooFew unreached further
+unfolding harness says accepts refuses five refusesAll stepsOf runSeen obeys after waits owed chosen by shows saying
+    nested one asking afterIs withinIs next otherwise chooses main aNumber counting template beside call lending every
+    is isNot calculated most least sums equations taken chain nums runs pairs becoming left right joins values refused′
+    readings records named inSight types guards ladder wide calls both′ body ladder′ wide′ waiting next′ either′ if′
+    widest tooWide laddered narrow over widths mixed lent offered units′ short good ended broke full set alter readBy
+    rejects running′ lent′ residue sound ends sights alone alone′ inPlace tables begun two crowd entries bare asked op′
+    still tooFew unreached further
 further-pass = refl

@@ -32,11 +32,15 @@ use Rattle.csl.specs.Outcomes.{Outcome}
 use Rattle.csl.specs.Run.{Run, Stepped, started, step}
 use Rattle.csl.specs.Table.{tableOf}
 use Rattle.csl.specs.Entries.{Answer, Forecast, noBreach, breachAt, startOf, readingOf, forecastOf}
-use Rattle.csl.specs.Build.{lit, yes′, op, nothing, owes, simply, may, all′, any′, inst, templateOf, agreement, reading, mark, sample, zeros, unitOf, joinOf, runningTable, fulfilledTable, breachedTable}
+use Rattle.csl.specs.Build.{lit, yes′, op, nothing, owes, simply, may, all′, any′, inst, templateOf, agreement}
+use Rattle.csl.specs.Build.{reading, mark, sample, zeros, unitOf, joinOf, runningTable, fulfilledTable}
+use Rattle.csl.specs.Build.{breachedTable}
 
 -- everything that the trials compute with
 unfoldable pub computes : Unit {0}
-unfolding Lists.computes Numbers.computes Bytes.computes Parties.computes Decode.computes Typing.computes Guards.computes Widths.computes Check.computes Values.computes Outcomes.computes Rules.computes Places.computes Run.computes Table.computes Entries.computes Build.computes
+unfolding Lists.computes Numbers.computes Bytes.computes Parties.computes Decode.computes Typing.computes
+    Guards.computes Widths.computes Check.computes Values.computes Outcomes.computes Rules.computes Places.computes
+    Run.computes Table.computes Entries.computes Build.computes
 computes = tt
 
 -- ---- a trial: what is computed, and what it must be
@@ -222,9 +226,11 @@ trials = p1to4 ∷ p5and6 ∷ p7 ∷ p8 ∷ p9 ∷ p10 ∷ p11 ∷ p12a ∷ p12b
 
 -- what a proof by computation unfolds
 unfoldable pub harness : Unit {0}
-unfolding computes gives byEntries byReadings byRules rulesOf ofEntries ofRules follows grows live fulfils breaches refusing owed chosen
+unfolding computes gives byEntries byReadings byRules rulesOf ofEntries ofRules follows grows live fulfils breaches
+    refusing owed chosen
 harness = tt
 
 pub trials-pass : map (λ t. t .shown) trials ≡ map (λ t. t .expected) trials
-unfolding harness unmet p1to4 p5and6 p7 pair p8 p9 p10 p11 choosing p12a p12b asks p13 p14 self doubling doubled p15 trials
+unfolding harness unmet p1to4 p5and6 p7 pair p8 p9 p10 p11 choosing p12a p12b asks p13 p14 self doubling doubled p15
+    trials
 trials-pass = refl

@@ -12,12 +12,13 @@ use lib.ListN.{length}
 use Rattle.csl.specs.Lists.{all}
 use Rattle.csl.specs.Bytes.{byte, signed32, part, isRecord, kindNumber, recordEnd}
 use Rattle.csl.specs.Syntax.{Expr, numberLit, truthLit, partyLit, variable, badExpr}
-use Rattle.csl.specs.Decode.{truthKind, partyKind, variableKind, leafKind, exprKind, ofLength, exprBody, expr}
+use Rattle.csl.specs.Decode.{truthKind, partyKind, variableKind, exprKind, ofLength, exprBody, expr}
 use Rattle.csl.specs.Decode.{wholeExpr, waitAt, wholeWait, argumentsEnd, arguments}
 use Rattle.arith.proofs.Bytes.{whole-from, record-no, record-end-within}
 use Rattle.arith.proofs.Lists.{length-part}
 use Rattle.records.proofs.Trees.{expr-zero, expr-none, expr-at, kind-number, kind-leaf, kind-not, kind-binary}
 use Rattle.records.proofs.Trees.{kind-no-expr-low, kind-no-expr-high}
+use Rattle.records.specs.Kinds.{leafKind}
 
 -- ---- `x && y`
 pub both-on : (a b : Bool) {x y : Bool} → x ≡ a → x ≡ true → y ≡ b → y ≡ (a && b)

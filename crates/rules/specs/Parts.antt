@@ -5,7 +5,8 @@ use mathlib.Core.List.{List}
 use Prim.Native.Nat.{ℕ, _+_}
 use lib.IntN.{ℤ, pos}
 use Rattle.csl.specs.Syntax.{Expr, badExpr, Wait}
-use Rattle.csl.specs.Decode.{leafKind, exprBody, expr, waitAt}
+use Rattle.csl.specs.Decode.{exprBody, expr, waitAt}
+use Rattle.records.specs.Kinds.{leafKind}
 use Rattle.cells.specs.Evaluate.{isTrue, evalCells}
 use Rattle.cells.specs.Reduce.{Mode, fate, waits, late, taken, firstOf, lastOf}
 use Rattle.arith.specs.Within.{Within}
