@@ -9,7 +9,7 @@ use lib.IntN.{ℤ}
 use lib.ListN.{length}
 use Rattle.csl.specs.Parties.{bitsOf}
 use Rattle.csl.specs.Syntax.{Agreement}
-use Rattle.csl.specs.Check.{Checked, refused, accepted, checked}
+use Rattle.csl.specs.Check.{CheckResult, refused, accepted, checked}
 use Rattle.csl.specs.Outcomes.{Outcome, done, breach, running, stuck}
 use Rattle.csl.specs.Places.{forecast}
 use Rattle.csl.specs.Run.{Run, Stepped, started, step}

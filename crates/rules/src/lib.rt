@@ -12,7 +12,7 @@ ghost use Rattle.csl.specs.Numbers.{Held, calculate, laterOf};
 ghost use Rattle.csl.specs.Bytes as bytes;
 ghost use Rattle.csl.specs.Bytes.{part};
 ghost use Rattle.csl.specs.Syntax.{conj, and, or};
-ghost use Rattle.csl.specs.Decode.{expr, joinOf, waitAt, argumentsEnd, ifKind, obligationKind, choiceKind, instanceKind, clause, headsOf};
+ghost use Rattle.csl.specs.Decode.{expr, joinOf, waitAt, recordsEnd, ifKind, obligationKind, choiceKind, instanceKind, clause, headsOf};
 ghost use Rattle.csl.specs.Decode as decode;
 ghost use Rattle.csl.specs.Parties.{bitsOf};
 ghost use Rattle.arith.specs.Within.{Within};
@@ -592,7 +592,7 @@ fn blames(bytes: &[u8], params: &[i64], cells: &mut [i64])
 // The values of n expressions that stand one after another from byte 5 of s, and where the last of them ends.
 fn arguments(s: &[u8], n: usize, values: &[i64], depth: usize, cells: &mut [i64]) -> usize
     requires { ⌜ n ≤ length (now cells) ⌝ }
-    ensures { λ r. ⌜ (r ≡ argumentsEnd n (now (s .entry)) 5) × (take n (now (cells .exit)) ≡ evalsCells (now (values .entry)) (decode.arguments (expr depth) n (now (s .entry)) 5)) × (r ≤ 5 + length (now (s .entry))) ⌝ }
+    ensures { λ r. ⌜ (r ≡ recordsEnd n (now (s .entry)) 5) × (take n (now (cells .exit)) ≡ evalsCells (now (values .entry)) (decode.arguments (expr depth) n (now (s .entry)) 5)) × (r ≤ 5 + length (now (s .entry))) ⌝ }
 {
     let mut at = 5;
     let mut i = 0;
