@@ -17,7 +17,7 @@ use Rattle.arith.proofs.Ints.{seen, read}
 use Rattle.arith.proofs.Linear.{ints, parts}
 use Rattle.csl.specs.Bytes.{part, recordEnd}
 use Rattle.csl.specs.Parties.{member, bit, bitsFrom, bitsOf}
-use Rattle.csl.specs.Decode.{expr, arguments, argumentsEnd}
+use Rattle.csl.specs.Decode.{expr, arguments, recordsEnd}
 use Rattle.cells.specs.Evaluate.{evalCells, evalsCells}
 use Rattle.cells.specs.Reduce.{partyCell, blamedCell, blamedCells, blameBits}
 
@@ -78,7 +78,7 @@ module _ (ps : List ℤ) (bs : List ℕ) where
 -- ---- the loop over arguments; at is where the next begins
 module _ (vs : List ℤ) (d : ℕ) (s : List ℕ) (n : ℕ) where
   pub record Argued (l : List ℤ) (i at : ℕ) : Type 0 where
-    pub ends : argumentsEnd n s 5 ≡ argumentsEnd (n - i) s at
+    pub ends : recordsEnd n s 5 ≡ recordsEnd (n - i) s at
     pub are : evalsCells vs (arguments (expr d) n s 5) ≡ take i l ++ evalsCells vs (arguments (expr d) (n - i) s at)
 
   pub argued-none : (l : List ℤ) → Argued l 0 5
@@ -89,16 +89,16 @@ module _ (vs : List ℤ) (d : ℕ) (s : List ℕ) (n : ℕ) where
 
   pub argued-more : (l : List ℤ) (i at : ℕ) → Argued l i at → i < n → i < length l → {e : ℕ} {x : ℤ}
       → e ≡ recordEnd s at → x ≡ evalCells vs (expr d (part s at (recordEnd s at))) → Argued (set l i x) (i + 1) e
-  unfolding argumentsEnd arguments evalsCells
+  unfolding recordsEnd arguments evalsCells
   argued-more l i at a h k {e} {x} ee ex = record {
     ends = a .ends ∙ rw (one-less i h, ee);
     are = a .are ∙ rw (one-less i h, ← ex, ← ee, add-one i, take-suc-set l i x k)
         (sym (append-snoc (take i l) x (evalsCells vs (arguments (expr d) (n - suc i) s e))));
   }
 
-  pub argued-all : (l : List ℤ) {i at : ℕ} → i ≡ n → Argued l i at → (at ≡ argumentsEnd n s 5)
+  pub argued-all : (l : List ℤ) {i at : ℕ} → i ≡ n → Argued l i at → (at ≡ recordsEnd n s 5)
       × (take n l ≡ evalsCells vs (arguments (expr d) n s 5))
-  unfolding argumentsEnd arguments evalsCells
+  unfolding recordsEnd arguments evalsCells
   argued-all l {i} {at} e a =
       let z : n - i ≡ 0 = omega arith in
       (sym (a .ends ∙ rw z), sym (a .are ∙ rw (z, e) (append-nil (take n l))))

@@ -25,7 +25,7 @@ use Rattle.csl.specs.Numbers.{Held, laterOf}
 use Rattle.csl.specs.Bytes.{byte, part, isRecord, kindNumber, recordEnd}
 use Rattle.csl.specs.Syntax.{Expr, Join, and, or, Clause, badClause, Wait, Template, Head}
 use Rattle.csl.specs.Decode.{ClauseKind, clauseKind, expr, waitAt, waitEnd, clause, clauseBody, instanceOf, headsOf}
-use Rattle.csl.specs.Decode.{arguments, argumentsEnd, ifKind, obligationKind, choiceKind, joinOf, instanceKind}
+use Rattle.csl.specs.Decode.{arguments, recordsEnd, ifKind, obligationKind, choiceKind, joinOf, instanceKind}
 use Rattle.csl.specs.Decode.{bodyPlace, bodyOf, templateOf}
 use Rattle.cells.specs.Evaluate.{evalCells, evalsCells, isTrue}
 use Rattle.cells.specs.Reduce as cells
@@ -231,13 +231,13 @@ module _ (e : Event) (rs : List ℤ) (ag : List ℕ) (below : ℕ) (s : List ℕ
       → reduceBelow (modeAt e rs) ag below (instanceOf (expr depth) s o) ps vs a ≡ cells.done
   unfolding instanceOf reduceBelow cells.walk
   ends-past none h = refl
-  ends-past (some hd) h = by-length (eqb (argumentsEnd (length (hd .values)) s 5 + hd .params) (length s))
+  ends-past (some hd) h = by-length (eqb (recordsEnd (length (hd .values)) s 5 + hd .params) (length s))
     where
       by-length : (b : Bool) → reduceBelow (modeAt e rs) ag below
           (cond b (Clause.instance (byte s 4) (arguments (expr depth) (length (hd .values)) s 5)
-          (part s (argumentsEnd (length (hd .values)) s 5) (length s))) badClause) ps vs a ≡ cells.done
+          (part s (recordsEnd (length (hd .values)) s 5) (length s))) badClause) ps vs a ≡ cells.done
       by-length true = unfold-past (modeAt e rs) (cells.activate (templatesOf ag)) (templatesOf ag)
-          (blamedCells ps (part s (argumentsEnd (length (hd .values)) s 5) (length s)))
+          (blamedCells ps (part s (recordsEnd (length (hd .values)) s 5) (length s)))
           (evalsCells vs (arguments (expr depth) (length (hd .values)) s 5)) a below (byte s 4) h
       by-length false = refl
 
@@ -246,7 +246,7 @@ module _ (e : Event) (rs : List ℤ) (ag : List ℕ) (below : ℕ) (s : List ℕ
   instance-past ek h = ends-past (at (headsOf ag) (byte s 4)) (omega arith)
 
   module _ {places : List ℕ} (x : Indexed places ag) (few : below ≤ byte ag 10) {k n i m : ℕ} (ek : k ≡ byte s 4)
-      (h : k < below) (en : n ≡ length (headAt ag k .values)) (ei : i ≡ argumentsEnd n s 5)
+      (h : k < below) (en : n ≡ length (headAt ag k .values)) (ei : i ≡ recordsEnd n s 5)
       (em : m ≡ headAt ag k .params) where
     named : instanceOf (expr depth) s (at (headsOf ag) (byte s 4)) ≡ cond (eqb (i + m) (length s))
         (Clause.instance k (arguments (expr depth) n s 5) (part s i (length s))) badClause
@@ -405,7 +405,7 @@ module _ (e : Event) (rs : List ℤ) (ag : List ℕ) (below : ℕ) (s : List ℕ
         unfolding Shaped
         shaped-acts l u f = record {
           deep = omega (arith, n);
-          whole = sym g ∙ is-one h;
+          isWhole = sym g ∙ is-one h;
           from = omega arith;
           to = omega arith;
           single = λ x y. f (omega arith) (omega arith);
@@ -415,7 +415,7 @@ module _ (e : Event) (rs : List ℤ) (ag : List ℕ) (below : ℕ) (s : List ℕ
         → (written : List ℤ) (r : Next) → Leads e rs ag below s place ps vs a depth (bodyIn ag (depth - 1) place s k)
         written r → Leads e rs ag below s place ps vs a depth here written r
     leads-body t em q written r x = subst (λ c. Leads e rs ag below s place ps vs a depth c written r)
-        (clause-is (λ z. omega (arith, t .deep)) (sym (t .whole)) refl em q) x
+        (clause-is (λ z. omega (arith, t .deep)) (sym (t .isWhole)) refl em q) x
 
 -- the last kind of a clause that acts
 pub acting-last : {depth : ℕ} {s : List ℕ} → Acting depth s → {m : ℕ} → m ≡ kindNumber s → (m ≡ 17 → ⊥) → (m ≡ 18 → ⊥)

@@ -43,7 +43,7 @@ bodyTo ag k = recordEnd ag (templatePlace ag k)
 -- a record of a clause that acts: an obligation, a choice, an `if` or an instance
 pub record Acting (depth : ℕ) (s : List ℕ) : Type 0 where
   pub deep : 1 ≤ depth
-  pub whole : isRecord s ≡ true
+  pub isWhole : isRecord s ≡ true
   pub from : 17 ≤ kindNumber s
   pub to : kindNumber s < 23
   pub single : 20 ≤ kindNumber s → kindNumber s < 22 → ⊥

@@ -5,7 +5,7 @@ ghost use Prim.Native.Nat.{ℕ, _+_, _≤_, _<_};
 ghost use lib.IntN.{ℤ};
 ghost use lib.ListN.{length, take};
 ghost use Rattle.csl.specs.Bytes as bytes;
-ghost use Rattle.csl.specs.Decode.{expr, argumentsEnd, instanceKind};
+ghost use Rattle.csl.specs.Decode.{expr, recordsEnd, instanceKind};
 ghost use Rattle.csl.specs.Decode as decode;
 ghost use Rattle.cells.specs.Evaluate.{evalsCells};
 ghost use Rattle.records.specs.Index.{Indexed};
@@ -25,7 +25,7 @@ use waits::start;
 // The values of n expressions that stand one after another from byte 5 of s, and where the last of them ends.
 fn arguments(s: &[u8], n: usize, values: &[i64], depth: usize, cells: &mut [i64]) -> usize
     requires { ⌜ n ≤ length (now cells) ⌝ }
-    ensures { λ r. ⌜ (r ≡ argumentsEnd n (now (s .entry)) 5)
+    ensures { λ r. ⌜ (r ≡ recordsEnd n (now (s .entry)) 5)
         × (take n (now (cells .exit)) ≡ evalsCells (now (values .entry))
         (decode.arguments (expr depth) n (now (s .entry)) 5)) × (r ≤ 5 + length (now (s .entry))) ⌝ }
 {

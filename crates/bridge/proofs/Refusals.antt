@@ -14,7 +14,7 @@ use Rattle.csl.specs.Decode.{agreementOf, decode, sized}
 use Rattle.csl.specs.Typing.{typed}
 use Rattle.csl.specs.Guards.{guardedFrom}
 use Rattle.csl.specs.Widths.{narrowAll}
-use Rattle.csl.specs.Check.{Checked, accepted, checkAnswer, checkDecoded, checkOf, checkTyped, checked, refused}
+use Rattle.csl.specs.Check.{CheckResult, accepted, answerFor, checkDecoded, checkOf, checkTyped, checked, refused}
 use Rattle.csl.specs.Run.{Run, started, step}
 use Rattle.csl.specs.Table.{runOf}
 use Rattle.csl.specs.Entries.{Answer, Forecast, forecastOf, forecastRun, isTable, readingOf, refusal, refusedForecast}
@@ -28,7 +28,7 @@ answer n us = record { number = n; table = us }
 
 -- ---- what check says
 -- a refusal has a number
-Numbered : Checked → Type 0
+Numbered : CheckResult → Type 0
 Numbered (refused n) = 0 < n
 Numbered (accepted a ps) = Unit {0}
 
@@ -66,18 +66,18 @@ pub from-check : {C : Type 0} (s : List ℕ)
     → ((n : ℕ) → 0 < n → checked s ≡ refused n → checkOf s ≡ record { number = n; parties = 0 } → C)
     → ((mains : List ℕ) → checked s ≡ accepted (agreementOf s) mains
     → checkOf s ≡ record { number = 0; parties = bitsOf mains } → C) → C
-unfolding checkOf checkAnswer Numbered
+unfolding checkOf answerFor Numbered
 from-check {C = C} s k₁ k₂ = go (checked s) refl (numbered s)
   where
-    go : (c : Checked) → checked s ≡ c → Numbered (checked s) → C
-    go (refused n) e h = k₁ n (subst Numbered e h) e (ap checkAnswer e)
+    go : (c : CheckResult) → checked s ≡ c → Numbered (checked s) → C
+    go (refused n) e h = k₁ n (subst Numbered e h) e (ap answerFor e)
     go (accepted a ps) e h = decode-is s a ((passed s a ps e) .decodes) λ w same. k₂ ps
-        (e ∙ ap (λ a. accepted a ps) (sym same)) (ap checkAnswer e)
+        (e ∙ ap (λ a. accepted a ps) (sym same)) (ap answerFor e)
 
 -- ---- an entry asks what check says, then the table's length; A is what it answers, `on` for a table of an accepted
 -- agreement
 module _ {A : Type 0} (us : List ℤ) (refuse : ℕ → A) (on : Agreement → List ℕ → A) where
-  asked : Checked → A
+  asked : CheckResult → A
   asked c = elim c [ refused n ↦ refuse n | accepted a ps ↦ elim (isTable us) [ false ↦ refuse 6 | true ↦ on a ps ] ]
 
   module _ (s : List ℕ) (a : Agreement) (mains : List ℕ) (ck : checked s ≡ accepted a mains) where

@@ -11,32 +11,38 @@ use Rattle.csl.specs.Guards.{guardedFrom}
 use Rattle.csl.specs.Widths.{narrowAll}
 
 -- a refusal's number, or the agreement and its main clause's parties
-pub data Checked : Type 0 where
-  refused : ℕ → Checked
-  accepted : Agreement → List ℕ → Checked
+pub data CheckResult : Type 0 where
+  refused : ℕ → CheckResult
+  accepted : Agreement → List ℕ → CheckResult
 
-unfoldable pub checkTyped : Agreement → List ℕ → Checked
-checkTyped a ps = elim (guardedFrom 0 (a .templates)) [ false ↦ refused 4 | true ↦ elim (narrowAll a) [ false ↦ refused 5 | true ↦ accepted a ps ] ]
+unfoldable pub checkTyped : Agreement → List ℕ → CheckResult
+checkTyped a ps = elim (guardedFrom 0 (a .templates)) [
+  | false ↦ refused 4
+  | true ↦ elim (narrowAll a) [ false ↦ refused 5 | true ↦ accepted a ps ]
+]
 
-unfoldable pub checkDecoded : Agreement → Checked
+unfoldable pub checkDecoded : Agreement → CheckResult
 checkDecoded a = elim (typed a) [ none ↦ refused 3 | some ps ↦ checkTyped a ps ]
 
-unfoldable pub checked : List ℕ → Checked
-checked bytes = elim (sized bytes) [ false ↦ refused 1 | true ↦ elim (decode bytes) [ none ↦ refused 2 | some a ↦ checkDecoded a ] ]
+unfoldable pub checked : List ℕ → CheckResult
+checked bytes = elim (sized bytes) [
+  | false ↦ refused 1
+  | true ↦ elim (decode bytes) [ none ↦ refused 2 | some a ↦ checkDecoded a ]
+]
 
 -- ---- the entry: "check also returns the main clause's parties"
 pub record CheckAnswer : Type 0 where
   pub number : ℕ
   pub parties : ℕ
 
-unfoldable pub checkAnswer : Checked → CheckAnswer
-checkAnswer (refused n) = record { number = n; parties = 0 }
-checkAnswer (accepted a ps) = record { number = 0; parties = bitsOf ps }
+unfoldable pub answerFor : CheckResult → CheckAnswer
+answerFor (refused n) = record { number = n; parties = 0 }
+answerFor (accepted a ps) = record { number = 0; parties = bitsOf ps }
 
 unfoldable pub checkOf : List ℕ → CheckAnswer
-checkOf bytes = checkAnswer (checked bytes)
+checkOf bytes = answerFor (checked bytes)
 
 -- what a proof by computation unfolds
 unfoldable pub computes : Unit {0}
-unfolding checkTyped checkDecoded checked checkAnswer checkOf
+unfolding checkTyped checkDecoded checked answerFor checkOf
 computes = tt

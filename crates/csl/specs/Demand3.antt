@@ -48,7 +48,8 @@ IsBreach (breach t ps) = Unit {0}
 IsBreach (running r) = ⊥
 IsBreach stuck = ⊥
 
--- ---- "A run is fed the agreement and the readings' bytes, nothing from a table": the run after a list of readings, and the number of each
+-- ---- "A run is fed the agreement and the readings' bytes, nothing from a table":
+-- the run after a list of readings, and the number of each
 unfoldable pub runAfter : Agreement → Run → List (List ℕ) → Run
 runAfter a run [] = run
 runAfter a run (r ∷ rs) = runAfter a ((step a run r) .run) rs

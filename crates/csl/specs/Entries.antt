@@ -9,7 +9,7 @@ use lib.IntN.{ℤ}
 use lib.ListN.{length}
 use Rattle.csl.specs.Parties.{bitsOf}
 use Rattle.csl.specs.Syntax.{Agreement}
-use Rattle.csl.specs.Check.{Checked, refused, accepted, checked}
+use Rattle.csl.specs.Check.{CheckResult, refused, accepted, checked}
 use Rattle.csl.specs.Outcomes.{Outcome, done, breach, running, stuck}
 use Rattle.csl.specs.Places.{forecast}
 use Rattle.csl.specs.Run.{Run, Stepped, started, step}
@@ -24,7 +24,10 @@ unfoldable pub refusal : ℕ → List ℤ → Answer
 refusal n cells = record { number = n; table = cells }
 
 unfoldable pub written : List ℤ → Stepped → Answer
-written cells s = elim (s .number) [ zero ↦ record { number = 0; table = tableOf (s .run) } | suc n ↦ refusal (s .number) cells ]
+written cells s = elim (s .number) [
+  | zero ↦ record { number = 0; table = tableOf (s .run) }
+  | suc n ↦ refusal (s .number) cells
+]
 
 -- "table not 3,080 cells" is 6
 unfoldable pub isTable : List ℤ → Bool
@@ -40,7 +43,10 @@ startOf bytes cells = elim (checked bytes) [
 unfoldable pub readingOf : List ℕ → List ℤ → List ℕ → Answer
 readingOf bytes cells reading = elim (checked bytes) [
   | refused n ↦ refusal n cells
-  | accepted a ps ↦ elim (isTable cells) [ false ↦ refusal 6 cells | true ↦ elim (runOf a ps cells) [ none ↦ refusal 7 cells | some r ↦ written cells (step a r reading) ] ]
+  | accepted a ps ↦ elim (isTable cells) [
+    | false ↦ refusal 6 cells
+    | true ↦ elim (runOf a ps cells) [ none ↦ refusal 7 cells | some r ↦ written cells (step a r reading) ]
+  ]
 ]
 
 -- ---- a time and parties by bit, or none; `noForecast` stands for what `soundness` shows to be impossible
@@ -58,12 +64,20 @@ shown stuck = noForecast
 
 -- "A breached table gives its verdict."
 unfoldable pub forecastRun : Agreement → Run → Outcome
-forecastRun a r = elim (r .outcome) [ done ↦ done | breach t ps ↦ breach t ps | running res ↦ forecast a res | stuck ↦ stuck ]
+forecastRun a r = elim (r .outcome) [
+  | done ↦ done
+  | breach t ps ↦ breach t ps
+  | running res ↦ forecast a res
+  | stuck ↦ stuck
+]
 
 unfoldable pub forecastOf : List ℕ → List ℤ → Forecast
 forecastOf bytes cells = elim (checked bytes) [
   | refused n ↦ refusedForecast n
-  | accepted a ps ↦ elim (isTable cells) [ false ↦ refusedForecast 6 | true ↦ elim (runOf a ps cells) [ none ↦ refusedForecast 7 | some r ↦ shown (forecastRun a r) ] ]
+  | accepted a ps ↦ elim (isTable cells) [
+    | false ↦ refusedForecast 6
+    | true ↦ elim (runOf a ps cells) [ none ↦ refusedForecast 7 | some r ↦ shown (forecastRun a r) ]
+  ]
 ]
 
 -- what a proof by computation unfolds

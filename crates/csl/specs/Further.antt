@@ -10,17 +10,24 @@ use Prim.Native.String.{String}
 use lib.IntN.{ℤ, pos, negsuc}
 use lib.ListN.{length, replicate, take}
 use Rattle.csl.specs.Numbers.{plus}
-use Rattle.csl.specs.Syntax.{number, truth, party, arithmetic, conj, less, equal, Expr, numberLit, truthLit, partyLit, binary, badExpr, Op, Join, and, or, Wait, Clause, fulfilled, obligation, choice, if, join, instance, badClause, Template, Agreement}
+use Rattle.csl.specs.Syntax.{number, truth, party, arithmetic, conj, less, equal, Expr, numberLit, truthLit}
+use Rattle.csl.specs.Syntax.{partyLit, binary, badExpr, Op, Join, and, or, Wait, Clause, fulfilled, obligation}
+use Rattle.csl.specs.Syntax.{choice, if, join, instance, badClause, Template, Agreement}
 use Rattle.csl.specs.Decode.{countsOk, sized}
-use Rattle.csl.specs.Check.{Checked, refused, accepted, checked, checkDecoded, checkTyped, checkOf}
+use Rattle.csl.specs.Check.{CheckResult, refused, accepted, checked, checkDecoded, checkTyped, checkOf}
 use Rattle.csl.specs.Values.{Val, num, bool, who, valuesOf, eval}
-use Rattle.csl.specs.Outcomes.{Sight, Sort, anObligation, aChoice, Residue, unit, both, Outcome, done, breach, running, stuck, joined}
+use Rattle.csl.specs.Outcomes.{Sight, Sort, anObligation, aChoice, Residue, unit, both, Outcome, done, breach}
+use Rattle.csl.specs.Outcomes.{running, stuck, joined}
 use Rattle.csl.specs.Run.{Run, Stepped, started, step}
 use Rattle.csl.specs.Rules.{activate}
-use Rattle.csl.specs.Table.{isSort, tableOf, runOf}
+use Rattle.csl.specs.Table.{cellsOf, isSort, tableOf, runOf}
 use Rattle.csl.specs.Entries.{refusedForecast, noForecast, shown, startOf, readingOf, forecastOf, forecastRun}
-use Rattle.csl.specs.Build.{le2, le4, recordOf, lit, truthOf, yes′, partyOf, var, opposite, op, nothing, owesTyped, owes, simply, may, mayTyped, ifs, all′, any′, inst, readingTypeOf, templateOf, agreementOf, agreement, readingWith, reading, mark, sample, zeros, filled, unitOf, joinOf, flat, runningTable, fulfilledTable}
-use Rattle.csl.specs.Trials.{Trial, Seen, checks, answers, forecasts, steps, reads, becomes, decides, evaluates, holds, gives, follows, live, breaches, harness}
+use Rattle.csl.specs.Build.{le2, le4, recordOf, lit, truthOf, yes′, partyOf, var, opposite, op, nothing}
+use Rattle.csl.specs.Build.{owesTyped, owes, simply, may, mayTyped, ifs, all′, any′, inst, readingTypeOf}
+use Rattle.csl.specs.Build.{templateWith, agreementWith, agreement, readingWith, reading, mark, sample, zeros}
+use Rattle.csl.specs.Build.{filled, unitOf, joinUnit, flat, runningTable, fulfilledTable}
+use Rattle.csl.specs.Trials.{Trial, Seen, checks, answers, forecasts, steps, reads, becomes, decides, evaluates}
+use Rattle.csl.specs.Trials.{holds, gives, follows, live, breaches, harness}
 
 -- ---- forms of a trial
 unfoldable pub shows : String → List Seen → List Seen → Trial
@@ -50,7 +57,7 @@ unfoldable pub stepsOf : Agreement → Stepped → List (List ℕ) → List Seen
 stepsOf ag s [] = steps s (forecastRun ag (s .run)) ∷ []
 stepsOf ag s (r ∷ rs) = steps s (forecastRun ag (s .run)) ∷ stepsOf ag (step ag (s .run) r) rs
 
-unfoldable pub runSeen : Checked → List (List ℕ) → List Seen
+unfoldable pub runSeen : CheckResult → List (List ℕ) → List Seen
 runSeen (refused n) rs = []
 runSeen (accepted ag ps) rs = stepsOf ag (started ag) rs
 
@@ -118,7 +125,7 @@ counting parties readings templates rest = recordOf 1 (le4 100 ++ (parties ∷ r
 
 -- a template with no value and no parameter
 unfoldable pub template : ℕ → List ℕ → List ℕ
-template declared body = templateOf [] 0 declared body
+template declared body = templateWith [] 0 declared body
 
 -- templates that the main clause does not name
 unfoldable pub beside : List (List ℕ) → List ℕ
@@ -129,7 +136,7 @@ call k = inst k [] []
 
 -- a template with two numbers and two parameters
 unfoldable pub lending : List ℕ → List ℕ
-lending c = agreement (templateOf (1 ∷ 1 ∷ []) 2 0 (simply 128 (pos 60)) ∷ []) c
+lending c = agreement (templateWith (1 ∷ 1 ∷ []) 2 0 (simply 128 (pos 60)) ∷ []) c
 
 -- ---- running
 -- facts joined by `and`
@@ -190,9 +197,9 @@ taken n e = obeys n (main (asking e)) (reading 110 (pos 1) ∷ [])
 -- three templates: the third names the second, which names the first with its parameters crossed
 unfoldable pub chain : List ℕ
 chain = agreement (
-    templateOf (1 ∷ 1 ∷ []) 2 0 (owesTyped 129 1 yes′ (var 0) (var 1) (owesTyped 128 1 yes′ (var 2) (var 3) nothing))
-    ∷ templateOf (1 ∷ []) 2 0 (inst 0 (op 37 (var 0) one ∷ lit (pos 9) ∷ []) (129 ∷ 128 ∷ []))
-    ∷ templateOf (1 ∷ []) 2 0 (inst 1 (var 0 ∷ []) (128 ∷ 129 ∷ [])) ∷ [])
+    templateWith (1 ∷ 1 ∷ []) 2 0 (owesTyped 129 1 yes′ (var 0) (var 1) (owesTyped 128 1 yes′ (var 2) (var 3) nothing))
+    ∷ templateWith (1 ∷ []) 2 0 (inst 0 (op 37 (var 0) one ∷ lit (pos 9) ∷ []) (129 ∷ 128 ∷ []))
+    ∷ templateWith (1 ∷ []) 2 0 (inst 1 (var 0 ∷ []) (128 ∷ 129 ∷ [])) ∷ [])
     (next (inst 2 (var 0 ∷ []) (1 ∷ 0 ∷ [])))
 
 unfoldable pub nums : List ℕ → List Val
@@ -203,6 +210,8 @@ unfoldable pub runs : List Trial
 runs =
     taken "sums, differences, products, quotients" (every sums)
     ∷ taken "what is equal, less and both" (every equations)
+    ∷ taken "not true and false" (opposite (op 41 yes′ (truthOf 0)))
+    ∷ taken "not false and true" (opposite (op 41 (truthOf 0) yes′))
     ∷ obeys "a choice waits, is taken, and its `then` does not see the reading again"
     (main (may (op 42 (lit (pos 5)) (var 0)) (pos 0) (pos 50) (simply 1 (pos 20)) nothing))
     (reading 110 (pos 5) ∷ reading 120 (pos 7) ∷ []) (
@@ -220,7 +229,7 @@ runs =
     after 0 100 (owed 17 100) (by 160 0) ∷ after 0 110 (waits anObligation 96 110 [] (nums (5 ∷ 50 ∷ []))) (by 160 1)
     ∷ [])
     ∷ obeys "only the wanted reading type, only from `first` on"
-    (agreementOf 2 (readingTypeOf [] ∷ aNumber ∷ []) [] (owesTyped 0 2 yes′ (lit (pos 30)) (lit (pos 60)) nothing))
+    (agreementWith 2 (readingTypeOf [] ∷ aNumber ∷ []) [] (owesTyped 0 2 yes′ (lit (pos 30)) (lit (pos 60)) nothing))
     (readingWith 140 1 [] ∷ reading 150 (pos 1) ∷ readingWith 150 2 (pos 1 ∷ []) ∷ []) (
     after 0 100 (owed 22 100) (by 190 0) ∷ after 0 140 (owed 22 100) (by 190 0) ∷ after 9 140 (owed 22 100) (by 190 0)
     ∷ after 0 150 done done ∷ [])
@@ -234,8 +243,11 @@ runs =
     ∷ after 0 115 (waits anObligation 27 110 (0 ∷ 1 ∷ []) (nums (6 ∷ 9 ∷ []))) (by 125 1)
     ∷ after 0 120 (waits anObligation 48 120 (0 ∷ 1 ∷ []) (nums (6 ∷ 9 ∷ 8 ∷ 5 ∷ []))) (by 133 0)
     ∷ after 0 134 (by 133 0) (by 133 0) ∷ [])
+    ∷ obeys "the second template's clause waits"
+    (agreement (template 0 nothing ∷ template 1 (simply 0 (pos 60)) ∷ []) (call 1)) (mark 161 ∷ [])
+    (after 0 100 (owed 37 100) (by 160 0) ∷ after 0 161 (by 160 0) (by 160 0) ∷ [])
     ∷ obeys "an else sees the values and the parameters"
-    (agreement (templateOf (1 ∷ 1 ∷ []) 2 0
+    (agreement (templateWith (1 ∷ 1 ∷ []) 2 0
     (mayTyped 1 yes′ (lit (pos 0)) (var 0) nothing (owesTyped 129 1 yes′ (lit (pos 0)) (var 1) nothing)) ∷ [])
     (inst 0 (lit (pos 30) ∷ lit (pos 20) ∷ []) (0 ∷ 1 ∷ []))) (mark 131 ∷ []) (
     after 0 100 (waits aChoice 27 100 (0 ∷ 1 ∷ []) (nums (30 ∷ 20 ∷ []))) (by 150 1)
@@ -302,14 +314,14 @@ refused′ n now = after n now done done
 
 unfoldable pub readings : List Trial
 readings =
-    obeys "8: no whole reading" (agreementOf 3 (readingTypeOf (1 ∷ 2 ∷ 3 ∷ []) ∷ []) [] nothing) (
+    obeys "8: no whole reading" (agreementWith 3 (readingTypeOf (1 ∷ 2 ∷ 3 ∷ []) ∷ []) [] nothing) (
     [] ∷ recordOf 64 (le4 120) ∷ take 20 (values 120 (pos 7) (pos 1) (pos 2)) ∷ saying 8 64 (le4 120 ++ (0 ∷ [])) ∷
     (mark 120 ++ (0 ∷ []))
     ∷ recordOf 63 (le4 120 ++ (0 ∷ [])) ∷ recordOf 320 (le4 120 ++ (0 ∷ []))
     ∷ readingWith 120 1 (replicate 5 (pos 1)) ∷ recordOf 64 (le4 120 ++ (0 ∷ 0 ∷ [])) ∷ readingWith 90 2
     (replicate 5 (pos 1)) ∷ [])
     (refused′ 0 100 ∷ replicate 10 (refused′ 8 100))
-    ∷ obeys "9: no such type, other values" (agreementOf 3 (readingTypeOf (1 ∷ 2 ∷ 3 ∷ []) ∷ []) [] nothing) (
+    ∷ obeys "9: no such type, other values" (agreementWith 3 (readingTypeOf (1 ∷ 2 ∷ 3 ∷ []) ∷ []) [] nothing) (
     readingWith 120 2 [] ∷ readingWith 120 0 (pos 0 ∷ []) ∷ readingWith 120 1 [] ∷ readingWith 120 1
     (pos 7 ∷ pos 1 ∷ []) ∷ readingWith 120 1 (pos 7 ∷ pos 1 ∷ pos 2 ∷ pos 0 ∷ [])
     ∷ values 120 (pos 1_000_000_001) (pos 1) (pos 2) ∷ values 120 (negsuc 1_000_000_000) (pos 1) (pos 2)
@@ -317,7 +329,7 @@ readings =
     ∷ values 120 (pos 7) (pos 1) (negsuc 0)
     ∷ readingWith 90 2 [] ∷ [])
     (refused′ 0 100 ∷ replicate 12 (refused′ 9 100))
-    ∷ obeys "10, and what is just inside" (agreementOf 3 (readingTypeOf (1 ∷ 2 ∷ 3 ∷ []) ∷ []) [] nothing) (
+    ∷ obeys "10, and what is just inside" (agreementWith 3 (readingTypeOf (1 ∷ 2 ∷ 3 ∷ []) ∷ []) [] nothing) (
     mark 99 ∷ mark 100 ∷ values 120 most (pos 0) (pos 0) ∷ values 120 least (pos 1) (pos 2) ∷ values 119 (pos 7)
     (pos 1) (pos 2) ∷ mark 4_294_967_295 ∷ [])
     (refused′ 0 100 ∷ refused′ 10 100 ∷ refused′ 0 100 ∷ refused′ 0 120 ∷ refused′ 0 120 ∷ refused′ 10 120
@@ -353,20 +365,20 @@ records =
     (counting 0 1 0 [] ∷ counting 17 1 0 [] ∷ counting 1 0 0 [] ∷ counting 1 17 0 [] ∷ counting 1 1 33 []
     ∷ counting 1 1 0 [] ∷ counting 16 16 32 [] ∷ [])) (
     holds false ∷ holds false ∷ holds false ∷ holds false ∷ holds false ∷ holds true ∷ holds true ∷ [])
-    ∷ refuses "party count 17" 2 (agreementOf 17 (aNumber ∷ []) [] nothing)
-    ∷ accepts "the last of 16 parties" 32_768 (agreementOf 16 (aNumber ∷ []) [] (simply 15 (pos 60)))
-    ∷ accepts "a reading's value count 4" 0 (agreementOf 2 (readingTypeOf (1 ∷ 2 ∷ 3 ∷ 1 ∷ []) ∷ []) [] nothing)
-    ∷ refuses "a reading's value count 5" 2 (agreementOf 2 (readingTypeOf (1 ∷ 2 ∷ 3 ∷ 1 ∷ 2 ∷ []) ∷ []) [] nothing)
-    ∷ refuses "a reading's types fewer than counted" 2 (agreementOf 2 (recordOf 2 (2 ∷ 1 ∷ []) ∷ []) [] nothing)
-    ∷ refuses "a reading's types more than counted" 2 (agreementOf 2 (recordOf 2 (1 ∷ 1 ∷ 1 ∷ []) ∷ []) [] nothing)
-    ∷ refuses "a reading's second type byte 4" 2 (agreementOf 2 (readingTypeOf (1 ∷ 4 ∷ []) ∷ []) [] nothing)
+    ∷ refuses "party count 17" 2 (agreementWith 17 (aNumber ∷ []) [] nothing)
+    ∷ accepts "the last of 16 parties" 32_768 (agreementWith 16 (aNumber ∷ []) [] (simply 15 (pos 60)))
+    ∷ accepts "a reading's value count 4" 0 (agreementWith 2 (readingTypeOf (1 ∷ 2 ∷ 3 ∷ 1 ∷ []) ∷ []) [] nothing)
+    ∷ refuses "a reading's value count 5" 2 (agreementWith 2 (readingTypeOf (1 ∷ 2 ∷ 3 ∷ 1 ∷ 2 ∷ []) ∷ []) [] nothing)
+    ∷ refuses "a reading's types fewer than counted" 2 (agreementWith 2 (recordOf 2 (2 ∷ 1 ∷ []) ∷ []) [] nothing)
+    ∷ refuses "a reading's types more than counted" 2 (agreementWith 2 (recordOf 2 (1 ∷ 1 ∷ 1 ∷ []) ∷ []) [] nothing)
+    ∷ refuses "a reading's second type byte 4" 2 (agreementWith 2 (readingTypeOf (1 ∷ 4 ∷ []) ∷ []) [] nothing)
     ∷ refuses "a reading's length" 2 (counting 2 1 0 (saying 7 2 (1 ∷ 1 ∷ []) ++ nothing))
-    ∷ accepts "a template's value count 8" 0 (beside (templateOf (replicate 8 1) 0 0 nothing ∷ []))
-    ∷ refuses "a template's value count 9" 2 (beside (templateOf (replicate 9 1) 0 0 nothing ∷ []))
-    ∷ accepts "a template's parameter count 4" 0 (beside (templateOf [] 4 0 nothing ∷ []))
+    ∷ accepts "a template's value count 8" 0 (beside (templateWith (replicate 8 1) 0 0 nothing ∷ []))
+    ∷ refuses "a template's value count 9" 2 (beside (templateWith (replicate 9 1) 0 0 nothing ∷ []))
+    ∷ accepts "a template's parameter count 4" 0 (beside (templateWith [] 4 0 nothing ∷ []))
     ∷ refuses "the second template's parameter count 5" 2
-    (beside (template 0 nothing ∷ templateOf [] 5 0 nothing ∷ []))
-    ∷ refuses "a template's second type byte 0" 2 (beside (templateOf (1 ∷ 0 ∷ []) 0 0 nothing ∷ []))
+    (beside (template 0 nothing ∷ templateWith [] 5 0 nothing ∷ []))
+    ∷ refuses "a template's second type byte 0" 2 (beside (templateWith (1 ∷ 0 ∷ []) 0 0 nothing ∷ []))
     ∷ refuses "a template's length" 2 (counting 2 1 1 (aNumber ++ (saying 13 3 (0 ∷ 0 ∷ 0 ∷ 0 ∷ nothing) ++ nothing)))
     ∷ accepts "clauses nested 24 deep" 0 (main (nested (all′ nothing) 22 nothing))
     ∷ refuses "clauses nested 25 deep" 2 (main (nested (all′ nothing) 23 nothing))
@@ -414,8 +426,8 @@ named inner outer body = beside (template inner nothing ∷ template outer body 
 
 -- eight values of a template, four of a reading and k of the next
 unfoldable pub inSight : ℕ → List ℕ
-inSight k = agreementOf 2 (readingTypeOf (replicate 4 1) ∷ readingTypeOf (replicate k 1) ∷ [])
-    (templateOf (replicate 8 1) 0 1 (next (owesTyped 0 2 yes′ one one nothing)) ∷ []) nothing
+inSight k = agreementWith 2 (readingTypeOf (replicate 4 1) ∷ readingTypeOf (replicate k 1) ∷ [])
+    (templateWith (replicate 8 1) 0 1 (next (owesTyped 0 2 yes′ one one nothing)) ∷ []) nothing
 
 unfoldable pub types : List Trial
 types =
@@ -466,18 +478,18 @@ types =
     ∷ refuses "a `then` sees no more" 3 (main (next (afterIs (var 2))))
     ∷ refuses "a choice's `then` sees no more" 3 (main (chooses (afterIs (var 2))))
     ∷ accepts "a template's truth, then the reading's number, then the remaining time" 0
-    (beside (templateOf (2 ∷ []) 0 1
+    (beside (templateWith (2 ∷ []) 0 1
     (owes 0 (op 41 (var 0) (is (var 1) (pos 0))) (pos 0) (pos 60) (afterIs (op 37 (var 1) (var 2)))) ∷ []))
     ∷ refuses "a party parameter is no value" 3
-    (beside (templateOf [] 1 0 (ifs (op 43 (var 0) (partyOf 0)) nothing nothing) ∷ []))
+    (beside (templateWith [] 1 0 (ifs (op 43 (var 0) (partyOf 0)) nothing nothing) ∷ []))
     ∷ accepts "16 in sight" 0 (inSight 2)
     ∷ refuses "17 in sight" 3 (inSight 3)
     ∷ accepts "the last party" 2 (main (simply 1 (pos 60)))
     ∷ refuses "a blame at the count" 3 (main (simply 2 (pos 60)))
     ∷ refuses "a parameter in the main clause" 3 (main (simply 128 (pos 60)))
-    ∷ accepts "the last parameter" 0 (beside (templateOf [] 4 0 (simply 131 (pos 60)) ∷ []))
-    ∷ refuses "a parameter that the template lacks" 3 (beside (templateOf [] 3 0 (simply 131 (pos 60)) ∷ []))
-    ∷ refuses "blame 127" 3 (beside (templateOf [] 4 0 (simply 127 (pos 60)) ∷ []))
+    ∷ accepts "the last parameter" 0 (beside (templateWith [] 4 0 (simply 131 (pos 60)) ∷ []))
+    ∷ refuses "a parameter that the template lacks" 3 (beside (templateWith [] 3 0 (simply 131 (pos 60)) ∷ []))
+    ∷ refuses "blame 127" 3 (beside (templateWith [] 4 0 (simply 127 (pos 60)) ∷ []))
     ∷ refuses "wanted type 0" 3 (main (owesTyped 0 0 yes′ one one nothing))
     ∷ refuses "wanted type over the count" 3 (main (mayTyped 2 yes′ one one nothing nothing))
     ∷ refuses "the second declared party" 3 (beside (template 5 nothing ∷ []))
@@ -487,19 +499,19 @@ types =
     ∷ accepts "an instance's declared party, declared" 0 (named 2 2 (call 0))
     ∷ refuses "an instance's declared party, not declared" 3 (named 2 1 (call 0))
     ∷ refuses "an instance's blame, not declared" 3
-    (beside (templateOf [] 1 0 nothing ∷ template 1 (inst 0 [] (1 ∷ [])) ∷ []))
+    (beside (templateWith [] 1 0 nothing ∷ template 1 (inst 0 [] (1 ∷ [])) ∷ []))
     ∷ accepts "the last of 16 declared parties" 32_768
-    (agreementOf 16 (aNumber ∷ []) (template 32_768 nothing ∷ []) (call 0))
+    (agreementWith 16 (aNumber ∷ []) (template 32_768 nothing ∷ []) (call 0))
     ∷ accepts "parties of an if" 3 (main (ifs yes′ (simply 0 (pos 60)) (simply 1 (pos 60))))
     ∷ accepts "parties of a join" 3 (main (all′ (simply 0 (pos 60)) (simply 1 (pos 60))))
     ∷ accepts "parties of a choice" 3 (main (may yes′ (pos 0) (pos 60) (simply 0 (pos 60)) (simply 1 (pos 60))))
     ∷ accepts "parties of an obligation" 3 (main (next (simply 1 (pos 60))))
-    ∷ accepts "parties of an instance" 3 (agreement (templateOf [] 1 1 nothing ∷ []) (inst 0 [] (1 ∷ [])))
+    ∷ accepts "parties of an instance" 3 (agreement (templateWith [] 1 1 nothing ∷ []) (inst 0 [] (1 ∷ [])))
     ∷ accepts "an `or` by one party" 2
     (main (any′ (simply 1 (pos 50)) (owes 1 yes′ (pos 0) (pos 60) (simply 1 (pos 60)))))
     ∷ refuses "an `or` by two parties" 3 (main (any′ (simply 0 (pos 50)) (simply 1 (pos 60))))
     ∷ refuses "an `or` by a party and a parameter" 3
-    (beside (templateOf [] 1 1 (any′ (simply 0 (pos 60)) (simply 128 (pos 60))) ∷ []))
+    (beside (templateWith [] 1 1 (any′ (simply 0 (pos 60)) (simply 128 (pos 60))) ∷ []))
     ∷ []
 
 -- ---- 4: guards
@@ -593,6 +605,7 @@ widths =
     ∷ narrow "a body of 256, an obligation of 1" (body widest ∷ [])
     (both′ (calls 5) (both′ (calls 3)
     (both′ (calls 1) (both′ (both′ (next′ widest) fulfilled) (both′ badClause (next′ widest))))))
+    ∷ narrow "a body that is no clause" (body badClause ∷ []) fulfilled
     ∷ over "257" [] tooWide
     ∷ over "257 by an obligation" [] (wide′ (both′ (next′ fulfilled) fulfilled))
     ∷ over "257 by an if" [] (wide′ (if′ fulfilled fulfilled))
@@ -619,12 +632,13 @@ widths =
 -- main: party 0 owes a reading with truth (at 72), then a choice (at 99) sees number, truth, party and remaining time;
 -- and template 0 for party 1, or party 1 owes a reading without truth (at 179)
 unfoldable pub mixed : List ℕ
-mixed = agreementOf 3 (readingTypeOf (1 ∷ 2 ∷ 3 ∷ []) ∷ [])
-    (templateOf (1 ∷ []) 2 0 (owes 128 (op 42 (var 0) (var 1)) (pos 0) (pos 60) nothing) ∷ [])
+mixed = agreementWith 3 (readingTypeOf (1 ∷ 2 ∷ 3 ∷ []) ∷ [])
+    (templateWith (1 ∷ []) 2 0 (owes 128 (op 42 (var 0) (var 1)) (pos 0) (pos 60) nothing) ∷ [])
     (all′ (owes 0 (var 1) (pos 0) (pos 60) (otherwise (simply 0 (pos 20))))
     (any′ (inst 0 (lit (pos 50) ∷ []) (1 ∷ 1 ∷ [])) (owes 1 (opposite (var 1)) (pos 0) (pos 60) nothing)))
 
--- after the reading (110; 7, true, party 2): an `and`, the choice, an `or`, the template's and the main clause's obligation
+-- after the reading (110; 7, true, party 2): an `and`, the choice, an `or`,
+-- the template's and the main clause's obligation
 unfoldable pub lent : ℕ → ℕ → List ℤ
 lent p q = unitOf 17 28 100 (pos p ∷ pos q ∷ []) (pos 50 ∷ [])
 
@@ -632,7 +646,7 @@ unfoldable pub offered : ℤ → ℕ → List ℤ
 offered z b = unitOf 18 99 110 [] (z ∷ pos b ∷ pos 2 ∷ pos 50 ∷ [])
 
 unfoldable pub units′ : ℕ → ℕ → ℤ → ℕ → ℕ → ℕ → List (List ℤ)
-units′ j k z b p a = joinOf j ∷ offered z b ∷ joinOf k ∷ lent p 1 ∷ unitOf 17 179 a [] [] ∷ []
+units′ j k z b p a = joinUnit j ∷ offered z b ∷ joinUnit k ∷ lent p 1 ∷ unitOf 17 179 a [] [] ∷ []
 
 -- a head and units: what lies behind them to 3,080 cells is left out, but for one unit
 unfoldable pub short : ℕ → List (List ℤ) → List ℤ
@@ -659,7 +673,7 @@ set (suc i) z (c ∷ cs) = c ∷ set i z cs
 unfoldable pub alter : ℕ → ℕ → ℤ → List ℤ
 alter u k z = set (8 + 24 * u + k) z good
 
-unfoldable pub readBy : Checked → List (List ℤ) → List Seen
+unfoldable pub readBy : CheckResult → List (List ℤ) → List Seen
 readBy (refused n) ts = []
 readBy (accepted ag ps) ts = map (λ t. reads (runOf ag ps t)) ts
 
@@ -683,7 +697,7 @@ sound =
     good
     ∷ short 110 (units′ 20 20 most 0 0 110)
     ∷ short 110 (units′ 20 21 least 1 1 100)
-    ∷ short 110 (joinOf 20 ∷ joinOf 21 ∷ lent 1 0 ∷ lent 1 1 ∷ lent 0 2 ∷ [])
+    ∷ short 110 (joinUnit 20 ∷ joinUnit 21 ∷ lent 1 0 ∷ lent 1 1 ∷ lent 0 2 ∷ [])
     ∷ full 100 ∷ full 4_294_967_295
     ∷ broke 160 3 ∷ broke 100 2 ∷ broke 170 1 ∷ []
 
@@ -692,8 +706,8 @@ ends now o = reads (some (record { lastTime = now; outcome = o }))
 
 -- waiting clauses in each place of a `then`, which sees a value and the remaining time, and in a template
 unfoldable pub sights : List ℕ
-sights = agreementOf 3 (aNumber ∷ [])
-    (templateOf (1 ∷ []) 2 0 (may yes′ (pos 0) (pos 60) (simply 128 (pos 60)) (simply 129 (pos 60))) ∷ [])
+sights = agreementWith 3 (aNumber ∷ [])
+    (templateWith (1 ∷ []) 2 0 (may yes′ (pos 0) (pos 60) (simply 128 (pos 60)) (simply 129 (pos 60))) ∷ [])
     (next (all′ (ifs yes′ (simply 0 (pos 60)) (simply 0 (pos 60)))
     (may yes′ (pos 0) (pos 60) (simply 0 (pos 60)) (simply 0 (pos 60)))))
 
@@ -731,6 +745,7 @@ tables =
     ∷ alone′ anObligation 273 [] (7 ∷ 50 ∷ [])
     ∷ alone′ aChoice 26 (0 ∷ 0 ∷ []) (9 ∷ [])
     ∷ reads none ∷ [])
+    ∷ shows "truths in cells" (gives 0 (cellsOf (bool false ∷ bool true ∷ [])) ∷ []) (gives 0 (pos 0 ∷ pos 1 ∷ []) ∷ [])
     ∷ rejects "7: a state that is none"
     (set 0 (pos 0) good ∷ set 0 (pos 4) good ∷ set 0 (negsuc 0) good ∷ take 7 (full 100) ∷ [])
     ∷ rejects "7: a last reading time outside its range"
@@ -740,13 +755,13 @@ tables =
     ∷ rejects "7: units in use"
     (set 4 (pos 0) good ∷ set 4 (pos 4) good ∷ set 4 (pos 6) good ∷ short 110 [] ∷
     (filled 8 (pos 1 ∷ pos 110 ∷ pos 0 ∷ pos 0 ∷ pos 129 ∷ []) ++
-    (flat (replicate 64 (joinOf 20)) ++ flat (replicate 65 (lent 1 1)))) ∷ [])
+    (flat (replicate 64 (joinUnit 20)) ++ flat (replicate 65 (lent 1 1)))) ∷ [])
     ∷ rejects "7: joins without sides, two residues"
-    (short 110 (joinOf 20 ∷ []) ∷ short 110 (joinOf 21 ∷ lent 1 1 ∷ []) ∷ short 110 (lent 1 1 ∷ joinOf 20 ∷ [])
+    (short 110 (joinUnit 20 ∷ []) ∷ short 110 (joinUnit 21 ∷ lent 1 1 ∷ []) ∷ short 110 (lent 1 1 ∷ joinUnit 20 ∷ [])
     ∷ short 110 (lent 1 1 ∷ lent 1 1 ∷ []) ∷ [])
     ∷ rejects "7: a unit's sort"
     (alter 4 0 (pos 16) ∷ alter 4 0 (pos 19) ∷ alter 4 0 (pos 22) ∷ alter 4 0 (negsuc 16) ∷ alter 4 0 (pos 18)
-    ∷ alter 1 0 (pos 17) ∷ [])
+    ∷ alter 1 0 (pos 17) ∷ alter 1 0 (pos 19) ∷ [])
     ∷ rejects "7: a place that is no waiting clause"
     (alter 4 1 (pos 0) ∷ alter 4 1 (negsuc 0) ∷ alter 4 1 (pos 68) ∷ alter 4 1 (pos 210) ∷ [])
     ∷ rejects "7: an A before the start or after the last reading"
@@ -759,8 +774,8 @@ tables =
     (alter 0 1 (pos 68) ∷ alter 2 23 (negsuc 0) ∷ alter 5 0 (pos 1) ∷ alter 5 23 (negsuc 0) ∷ [])
     ∷ rejects "7: parties beside an `or`, a party not of the main clause"
     (short 110 (units′ 20 21 (pos 7) 1 0 100) ∷ short 110 (units′ 21 20 (pos 7) 1 1 100) ∷ short 110 (lent 2 1 ∷ [])
-    ∷ short 110 (joinOf 21 ∷ joinOf 20 ∷ lent 1 1 ∷ lent 0 1 ∷ lent 1 1 ∷ [])
-    ∷ short 110 (joinOf 21 ∷ joinOf 20 ∷ lent 0 1 ∷ lent 1 1 ∷ lent 1 1 ∷ []) ∷ [])
+    ∷ short 110 (joinUnit 21 ∷ joinUnit 20 ∷ lent 1 1 ∷ lent 0 1 ∷ lent 1 1 ∷ [])
+    ∷ short 110 (joinUnit 21 ∷ joinUnit 20 ∷ lent 0 1 ∷ lent 1 1 ∷ lent 1 1 ∷ []) ∷ [])
     ∷ rejects "7: a fulfilled table with more"
     (set 2 (pos 105) (full 110) ∷ set 3 (pos 1) (full 110) ∷ set 4 (pos 1) (full 110) ∷ set 39 (pos 1) (full 110)
     ∷ [])
@@ -770,7 +785,7 @@ tables =
 
 -- ---- the entries on tables of 3,080 cells
 unfoldable pub begun : List (List ℤ)
-begun = joinOf 20 ∷ unitOf 17 72 100 [] [] ∷ joinOf 21 ∷ lent 1 1 ∷ unitOf 17 179 100 [] [] ∷ []
+begun = joinUnit 20 ∷ unitOf 17 72 100 [] [] ∷ joinUnit 21 ∷ lent 1 1 ∷ unitOf 17 179 100 [] [] ∷ []
 
 -- 65 obligations by five templates: 129 units
 unfoldable pub two : List ℕ → List ℕ
@@ -850,5 +865,11 @@ further = runs ++ (joins ++ (readings ++
     (records ++ (types ++ (guards ++ (widths ++ (tables ++ (entries ++ unreached))))))))
 
 pub further-pass : map (λ t. t .shown) further ≡ map (λ t. t .expected) further
-unfolding harness says accepts refuses five refusesAll stepsOf runSeen obeys after waits owed chosen by shows saying nested one asking afterIs withinIs next otherwise chooses main aNumber counting template beside call lending every is isNot calculated most least sums equations taken chain nums runs pairs becoming left right joins values refused′ readings records named inSight types guards ladder wide calls both′ body ladder′ wide′ waiting next′ either′ if′ widest tooWide laddered narrow over widths mixed lent offered units′ short good ended broke full set alter readBy rejects running′ lent′ residue sound ends sights alone alone′ inPlace tables begun two crowd entries bare asked op′ still tooFew unreached further
+unfolding harness says accepts refuses five refusesAll stepsOf runSeen obeys after waits owed chosen by shows saying
+    nested one asking afterIs withinIs next otherwise chooses main aNumber counting template beside call lending every
+    is isNot calculated most least sums equations taken chain nums runs pairs becoming left right joins values refused′
+    readings records named inSight types guards ladder wide calls both′ body ladder′ wide′ waiting next′ either′ if′
+    widest tooWide laddered narrow over widths mixed lent offered units′ short good ended broke full set alter readBy
+    rejects running′ lent′ residue sound ends sights alone alone′ inPlace tables begun two crowd entries bare asked op′
+    still tooFew unreached further
 further-pass = refl

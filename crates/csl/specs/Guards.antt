@@ -1,5 +1,6 @@
 -- Paper 01, "Typing", and refusal 4; CSL's well-formedness (section 3.3).
--- "A position is guarded if it lies in some `then` of kind 17 or 18. In template n's body an unguarded instance names only a template below n."
+-- "A position is guarded if it lies in some `then` of kind 17 or 18. In template n's body an unguarded
+-- instance names only a template below n."
 use mathlib.Core.Bool.{Bool, true, false, _&&_}
 use mathlib.Core.List.{List, [], _∷_}
 use Prim.Native.Nat.{ℕ, suc}

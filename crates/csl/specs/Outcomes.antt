@@ -1,4 +1,5 @@
--- Residues and outcomes, and how `and` and `or` join them: paper 01, "Following a reading"; CSL's verdicts (Defs. 2 and 4).
+-- Residues and outcomes, and how `and` and `or` join them: paper 01, "Following a reading";
+-- CSL's verdicts (Defs. 2 and 4).
 use mathlib.Core.Bool.{Bool, true, false}
 use mathlib.Core.List.{List, [], _∷_, _++_}
 use mathlib.Core.Option.{Option, none, some}
@@ -39,11 +40,20 @@ orStuck (some o) = o
 
 -- `and`: "of two the earlier, at equal times both sets"
 unfoldable pub earlier : ℕ → List ℕ → ℕ → List ℕ → Outcome
-earlier t ps u qs = elim (ltb t u) [ true ↦ breach t ps | false ↦ elim (ltb u t) [ true ↦ breach u qs | false ↦ breach t (ps ++ qs) ] ]
+earlier t ps u qs = elim (ltb t u) [
+  | true ↦ breach t ps
+  | false ↦ elim (ltb u t) [ true ↦ breach u qs | false ↦ breach t (ps ++ qs) ]
+]
 
 -- `or`: "of two breaches the later"; "two breaches of an `or` at one time [that] differ in parties" are stuck
 unfoldable pub later : ℕ → List ℕ → ℕ → List ℕ → Outcome
-later t ps u qs = elim (ltb t u) [ true ↦ breach u qs | false ↦ elim (ltb u t) [ true ↦ breach t ps | false ↦ elim (sameSet ps qs) [ true ↦ breach t ps | false ↦ stuck ] ] ]
+later t ps u qs = elim (ltb t u) [
+  | true ↦ breach u qs
+  | false ↦ elim (ltb u t) [
+    | true ↦ breach t ps
+    | false ↦ elim (sameSet ps qs) [ true ↦ breach t ps | false ↦ stuck ]
+  ]
+]
 
 -- "`and`: one breach decides"; "Fulfilled beside `and` vanishes"
 unfoldable pub joinBoth : Outcome → Outcome → Outcome

@@ -1,11 +1,13 @@
--- The waiting clause at a byte place of the agreement, with what is in sight there; and the rules at every unit of a residue.
+-- The waiting clause at a byte place of the agreement, with what is in sight there;
+-- and the rules at every unit of a residue.
 use mathlib.Core.Bool.{true, false}
 use mathlib.Core.List.{List, [], _∷_}
 use mathlib.Core.Option.{Option, none, some}
 use Prim.Native.Nat.{ℕ}
 use lib.Dec.{eqb}
 use Rattle.csl.specs.Lists.{_>>=_, orElse, orNil}
-use Rattle.csl.specs.Syntax.{Ty, Clause, fulfilled, obligation, choice, if, join, instance, badClause, Template, Agreement}
+use Rattle.csl.specs.Syntax.{Ty, Clause, fulfilled, obligation, choice, if, join, instance, badClause, Template}
+use Rattle.csl.specs.Syntax.{Agreement}
 use Rattle.csl.specs.Typing.{readingOfType, thenSight}
 use Rattle.csl.specs.Outcomes.{Residue, unit, both, Outcome, orStuck, joined}
 use Rattle.csl.specs.Rules.{Step, during, Reading, following, forecasting}

@@ -12,7 +12,8 @@ use Rattle.csl.specs.Lists.{_>>=_, at}
 use Rattle.csl.specs.Numbers.{laterOf}
 use Rattle.csl.specs.Syntax.{Wait, Clause, fulfilled, obligation, choice, if, join, instance, badClause, Template}
 use Rattle.csl.specs.Values.{Val, num, evalNum, evalBool, evals}
-use Rattle.csl.specs.Outcomes.{Sight, anObligation, aChoice, unit, Outcome, done, breach, running, stuck, orStuck, joined}
+use Rattle.csl.specs.Outcomes.{Sight, anObligation, aChoice, unit, Outcome, done, breach, running, stuck, orStuck}
+use Rattle.csl.specs.Outcomes.{joined}
 
 -- ---- a blame byte: a party, or the party that the template's parameter stands for
 unfoldable pub blamed : List ℕ → ℕ → Option ℕ
@@ -34,15 +35,20 @@ module _ (s : Step) (instantiate : ℕ → List Val → List ℕ → ℕ → Out
   walk fulfilled e a = done
   walk (obligation b w t) e a = s .onObligation e a b w t
   walk (choice w t f) e a = s .onChoice e a w t (λ u. walk f e u)
-  walk (if c t f) e a = orStuck (evalBool (e .values) c >>= λ b. elim b [ true ↦ some (walk t e a) | false ↦ some (walk f e a) ])
+  walk (if c t f) e a =
+      orStuck (evalBool (e .values) c >>= λ b. elim b [ true ↦ some (walk t e a) | false ↦ some (walk f e a) ])
   walk (join j t f) e a = joined j (walk t e a) (walk f e a)
-  walk (instance k es bs) e a = orStuck (evals (e .values) es >>= λ vs. blamedAll (e .params) bs >>= λ ps. some (instantiate k vs ps a))
+  walk (instance k es bs) e a =
+      orStuck (evals (e .values) es >>= λ vs. blamedAll (e .params) bs >>= λ ps. some (instantiate k vs ps a))
   walk badClause e a = stuck
 
--- "Activating an instance activates the template's body with the values given."; n bounds how many instances may stand in one another
+-- "Activating an instance activates the template's body with the values given."; n bounds how many instances may stand
+-- in one another
 unfoldable pub walkIn : Step → List Template → ℕ → Clause → Sight → ℕ → Outcome
 walkIn s ts zero c e a = walk s (λ k vs ps u. stuck) c e a
-walkIn s ts (suc n) c e a = walk s (λ k vs ps u. orStuck (at ts k >>= λ t. some (walkIn s ts n (t .body) (record { params = ps; values = vs }) u))) c e a
+walkIn s ts (suc n) c e a = walk s
+    (λ k vs ps u. orStuck (at ts k >>= λ t. some (walkIn s ts n (t .body) (record { params = ps; values = vs }) u)))
+    c e a
 
 -- as many as there are templates: a longer chain would name one twice and so have no end
 unfoldable pub during : Step → List Template → Clause → Sight → ℕ → Outcome
@@ -64,7 +70,9 @@ pub record Window : Type 0 where
   pub last : ℤ
 
 unfoldable pub window : Sight → ℕ → Wait → Option Window
-window e a w = evalNum (e .values) (w .after) >>= λ x. evalNum (e .values) (w .within) >>= λ y. some (record { first = pos a +ℤ x; last = (pos a +ℤ x) +ℤ y })
+window e a w =
+    evalNum (e .values) (w .after) >>= λ x. evalNum (e .values) (w .within) >>= λ y.
+    some (record { first = pos a +ℤ x; last = (pos a +ℤ x) +ℤ y })
 
 -- ---- following a reading
 pub record Reading : Type 0 where
@@ -84,7 +92,8 @@ wants w v r = eqb (w .wanted) (r .type) && not (ltZ (pos (r .time)) (v .first))
 unfoldable pub withValues : Sight → List Val → ℤ → Sight
 withValues s vs z = record { params = s .params; values = (s .values ++ vs) ++ (num z ∷ []) }
 
--- 2 and 3, not late: "`then` is activated at T, remaining time last − T. It does not see this reading again."; "Otherwise it waits on."
+-- 2 and 3, not late: "`then` is activated at T, remaining time last − T. It does not see this reading again.";
+-- "Otherwise it waits on."
 unfoldable pub taken : List Template → Reading → Sight → Wait → Window → Clause → Outcome → Outcome
 taken ts r e w v t waiting = elim (wants w v r) [
   | false ↦ waiting
@@ -94,7 +103,8 @@ taken ts r e w v t waiting = elim (wants w v r) [
   ])
 ]
 
--- 1, late: "an obligation is breached at the later of A and last, by its blame. A choice activates its else at that time, and the else follows this same reading."
+-- 1, late: "an obligation is breached at the later of A and last, by its blame. A choice activates its else at that
+-- time, and the else follows this same reading."
 unfoldable pub following : List Template → Reading → Step
 following ts r = record {
   onObligation = λ e a b w t. orStuck (window e a w >>= λ v. elim (late v r) [
@@ -107,15 +117,18 @@ following ts r = record {
   ]);
 }
 
--- ---- forecasting: "an obligation gives its breach at the later of A and last; a choice gives what its else, activated at that time, gives"
+-- ---- forecasting: "an obligation gives its breach at the later of A and last; a choice gives what its else, activated
+-- at that time, gives"
 -- none is `done`, which `and` treats as later than every time and which fulfils an `or`
 unfoldable pub forecasting : Step
 forecasting = record {
-  onObligation = λ e a b w t. orStuck (window e a w >>= λ v. blamed (e .params) b >>= λ p. some (breach (laterOf a (v .last)) (p ∷ [])));
+  onObligation = λ e a b w t. orStuck
+      (window e a w >>= λ v. blamed (e .params) b >>= λ p. some (breach (laterOf a (v .last)) (p ∷ [])));
   onChoice = λ e a w t f. orStuck (window e a w >>= λ v. some (f (laterOf a (v .last))));
 }
 
 -- what a proof by computation unfolds
 unfoldable pub computes : Unit {0}
-unfolding blamed blamedAll walk walkIn during activating activate window late wants withValues taken following forecasting
+unfolding blamed blamedAll walk walkIn during activating activate window late wants withValues taken following
+    forecasting
 computes = tt

@@ -1,4 +1,5 @@
--- Paper 01, "The run by the rules", and refusals 8 to 11: fed the agreement and the readings' bytes, nothing from a table.
+-- Paper 01, "The run by the rules", and refusals 8 to 11: fed the agreement and the readings' bytes,
+-- nothing from a table.
 use mathlib.Core.Bool.{Bool, true, false, _&&_}
 use mathlib.Core.List.{List, [], _∷_}
 use mathlib.Core.Option.{Option, none, some}
@@ -25,7 +26,8 @@ unfoldable pub numbersFrom : ℕ → List ℕ → ℕ → List ℤ
 numbersFrom zero s i = []
 numbersFrom (suc n) s i = signed32 s i ∷ numbersFrom n s (i + 4)
 
--- "one whole record of kind 64: time (4 bytes), type (1), 0 to 4 values of 4 bytes, signed": refusal 8 where this is none
+-- "one whole record of kind 64: time (4 bytes), type (1), 0 to 4 values of 4 bytes, signed":
+-- refusal 8 where this is none
 unfoldable pub rawReading : List ℕ → Option Raw
 rawReading s = do
   _ ← need (isRecord s && eqb (kindNumber s) 64)
@@ -37,7 +39,8 @@ unfoldable pub valuesWanted : Agreement → ℕ → Option (List Ty)
 valuesWanted a zero = some []
 valuesWanted a (suc k) = at (a .readings) k
 
--- "type over the reading count, wrong value count, or value not of its type or out of its range": refusal 9 where this is none
+-- "type over the reading count, wrong value count, or value not of its type or out of its range":
+-- refusal 9 where this is none
 unfoldable pub typedReading : Agreement → Raw → Option Reading
 typedReading a r = do
   ts ← valuesWanted a (r .type)
@@ -51,7 +54,13 @@ pub data Fit : Type 0 where
   fit : Reading → Fit
 
 unfoldable pub fitOf : Agreement → ℕ → List ℕ → Fit
-fitOf a now bytes = elim (rawReading bytes) [ none ↦ unfit 8 | some r ↦ elim (typedReading a r) [ none ↦ unfit 9 | some d ↦ elim (ltb (d .time) now) [ true ↦ unfit 10 | false ↦ fit d ] ] ]
+fitOf a now bytes = elim (rawReading bytes) [
+  | none ↦ unfit 8
+  | some r ↦ elim (typedReading a r) [
+    | none ↦ unfit 9
+    | some d ↦ elim (ltb (d .time) now) [ true ↦ unfit 10 | false ↦ fit d ]
+  ]
+]
 
 -- ---- the run
 pub record Run : Type 0 where
@@ -72,7 +81,10 @@ pub record Stepped : Type 0 where
 
 -- "over 128 units it is 11 and nothing changes, otherwise 0"
 unfoldable pub kept : Run → Run → Stepped
-kept before after = elim (tooMany (after .outcome)) [ true ↦ record { number = 11; run = before } | false ↦ record { number = 0; run = after } ]
+kept before after = elim (tooMany (after .outcome)) [
+  | true ↦ record { number = 11; run = before }
+  | false ↦ record { number = 0; run = after }
+]
 
 -- "the main clause is activated at the start time, which is the last reading time at first"
 unfoldable pub started : Agreement → Stepped
@@ -92,7 +104,10 @@ followed a r d = elim (r .outcome) [
 
 -- "if 8, 9 or 10 applies, the lowest is its number and nothing changes"
 unfoldable pub step : Agreement → Run → List ℕ → Stepped
-step a r bytes = elim (fitOf a (r .lastTime) bytes) [ unfit n ↦ record { number = n; run = r } | fit d ↦ followed a r d ]
+step a r bytes = elim (fitOf a (r .lastTime) bytes) [
+  | unfit n ↦ record { number = n; run = r }
+  | fit d ↦ followed a r d
+]
 
 -- what a proof by computation unfolds
 unfoldable pub computes : Unit {0}

@@ -8,10 +8,12 @@ use lib.IntN.{ℤ, pos, negsuc}
 use lib.ListN.{length, replicate}
 use Rattle.csl.specs.Lists.{_>>=_, need, all, at, split}
 use Rattle.csl.specs.Parties.{bitsOf, members, subset}
-use Rattle.csl.specs.Syntax.{Join, and, or, Clause, fulfilled, obligation, choice, if, join, instance, badClause, Agreement}
+use Rattle.csl.specs.Syntax.{Join, and, or, Clause, fulfilled, obligation, choice, if, join, instance, badClause}
+use Rattle.csl.specs.Syntax.{Agreement}
 use Rattle.csl.specs.Typing.{typeClause, namesOf, joinOk}
 use Rattle.csl.specs.Values.{Val, num, bool, who, asNat, valuesOf}
-use Rattle.csl.specs.Outcomes.{Sight, Sort, anObligation, aChoice, Residue, unit, both, units, Outcome, done, breach, running, stuck}
+use Rattle.csl.specs.Outcomes.{Sight, Sort, anObligation, aChoice, Residue, unit, both, units, Outcome, done}
+use Rattle.csl.specs.Outcomes.{breach, running, stuck}
 use Rattle.csl.specs.Rules.{blamed}
 use Rattle.csl.specs.Places.{clauseAt}
 use Rattle.csl.specs.Run.{Run}
@@ -43,9 +45,11 @@ unfoldable pub joinNumber : Join → ℕ
 joinNumber and = 20
 joinNumber or = 21
 
--- "Unit: 0 sort (17, 18, 20 or 21), 1 byte place of its clause in the agreement, 2 A, 3 to 6 party parameters, 7 zero, 8 to 23 values in sight there."
+-- "Unit: 0 sort (17, 18, 20 or 21), 1 byte place of its clause in the agreement, 2 A, 3 to 6 party parameters, 7 zero,
+-- 8 to 23 values in sight there."
 unfoldable pub unitCells : Sort → ℕ → ℕ → Sight → List ℤ
-unitCells s p a e = pos (sortNumber s) ∷ pos p ∷ pos a ∷ (padded 5 (natCells (e .params)) ++ padded 16 (cellsOf (e .values)))
+unitCells s p a e =
+    pos (sortNumber s) ∷ pos p ∷ pos a ∷ (padded 5 (natCells (e .params)) ++ padded 16 (cellsOf (e .values)))
 
 unfoldable pub joinCells : Join → List ℤ
 joinCells j = padded 24 (pos (joinNumber j) ∷ [])
@@ -55,7 +59,8 @@ unfoldable pub residueCells : Residue → List ℤ
 residueCells (unit s p a e) = unitCells s p a e
 residueCells (both j l r) = joinCells j ++ (residueCells l ++ residueCells r)
 
--- "Head: 0 state (1 running, 2 fulfilled, 3 breached), 1 last reading time, 2 breach time, 3 blamed parties by bit, 4 units in use, 5 to 7 zero."
+-- "Head: 0 state (1 running, 2 fulfilled, 3 breached), 1 last reading time, 2 breach time, 3 blamed parties by bit,
+-- 4 units in use, 5 to 7 zero."
 unfoldable pub headCells : ℕ → ℕ → ℕ → ℕ → ℕ → List ℤ
 headCells state time breachTime parties used = natCells (state ∷ time ∷ breachTime ∷ parties ∷ used ∷ 0 ∷ 0 ∷ 0 ∷ [])
 
@@ -90,7 +95,8 @@ isSort s (join j t f) = false
 isSort s (instance k es bs) = false
 isSort s badClause = false
 
--- "each waiting unit's place is a clause of its sort, its values and parameters are of the types and ranges in sight there"; the cells behind the sort
+-- "each waiting unit's place is a clause of its sort, its values and parameters are of the types and ranges in sight
+-- there"; the cells behind the sort
 unfoldable pub waitingUnit : Agreement → Sort → List ℤ → Option Residue
 waitingUnit ag s cells = do
   h ← split 2 cells
@@ -119,11 +125,17 @@ pub data UnitSort : Type 0 where
   joining : Join → UnitSort
 
 unfoldable pub unitSort : ℤ → Option UnitSort
-unitSort z = asNat z >>= λ n. need (leb 17 n) >>= λ _. at (some (waiting anObligation) ∷ some (waiting aChoice) ∷ none ∷ some (joining and) ∷ some (joining or) ∷ []) (n - 17) >>= λ o. o
+unitSort z =
+    asNat z >>= λ n. need (leb 17 n) >>= λ _.
+    at (some (waiting anObligation) ∷ some (waiting aChoice) ∷ none ∷ some (joining and) ∷ some (joining or) ∷ [])
+    (n - 17) >>= λ o. o
 
 unfoldable pub addUnit : Agreement → List ℤ → List Residue → Option (List Residue)
 addUnit ag [] rs = none
-addUnit ag (z ∷ zs) rs = unitSort z >>= λ u. elim u [ waiting s ↦ waitingUnit ag s zs >>= (λ r. some (r ∷ rs)) | joining j ↦ need (all isZero zs) >>= (λ _. push j rs) ]
+addUnit ag (z ∷ zs) rs = unitSort z >>= λ u. elim u [
+  | waiting s ↦ waitingUnit ag s zs >>= (λ r. some (r ∷ rs))
+  | joining j ↦ need (all isZero zs) >>= (λ _. push j rs)
+]
 
 -- the residues of n units, one behind another; "Unused cells are zero."
 unfoldable pub trees : Agreement → ℕ → List ℤ → Option (List Residue)
@@ -143,7 +155,8 @@ unfoldable pub standFor : List ℕ → List ℕ → List ℕ
 standFor params [] = []
 standFor params (b ∷ bs) = standsFor params b ∷ standFor params bs
 
--- a residue's parties; none where "a waiting unit's A [is] not from start to last reading time", a party is not among the main clause's, or the rule for `or` does not hold
+-- a residue's parties; none where "a waiting unit's A [is] not from start to last reading time", a party is not among
+-- the main clause's, or the rule for `or` does not hold
 unfoldable pub residueParties : Agreement → List ℕ → ℕ → Residue → Option (List ℕ)
 residueParties ag mains now (unit s p a e) = do
   _ ← need (leb (ag .start) a && leb a now)
@@ -176,7 +189,8 @@ headNumbers cells = do
   e ← at ns 4
   some (record { state = a; now = b; time = c; parties = d; used = e })
 
--- "Cells 2 and 3 are zero unless breached, cell 4 unless running."; a breach without party, with one not of the main clause, or with a time outside start to last reading is 7
+-- "Cells 2 and 3 are zero unless breached, cell 4 unless running."; a breach without party, with one not of the main
+-- clause, or with a time outside start to last reading is 7
 unfoldable pub readState : Agreement → List ℕ → HeadNumbers → List ℤ → ℕ → Option Outcome
 readState ag mains h cells zero = none
 readState ag mains h cells (suc zero) = do
@@ -210,5 +224,7 @@ runOf ag mains cells = do
 
 -- what a proof by computation unfolds
 unfoldable pub computes : Unit {0}
-unfolding cellOf cellsOf natCells padded sortNumber joinNumber unitCells joinCells residueCells headCells tableOf asNats isZero isSort waitingUnit push unitSort addUnit trees single standsFor standFor residueParties headNumbers readState runOf
+unfolding cellOf cellsOf natCells padded sortNumber joinNumber unitCells joinCells residueCells headCells tableOf asNats
+    isZero isSort waitingUnit push unitSort addUnit trees single standsFor standFor residueParties headNumbers readState
+    runOf
 computes = tt

@@ -26,17 +26,21 @@ use Rattle.csl.specs.Table as Table
 use Rattle.csl.specs.Entries as Entries
 use Rattle.csl.specs.Build as Build
 use Rattle.csl.specs.Syntax.{Agreement}
-use Rattle.csl.specs.Check.{CheckAnswer, Checked, refused, accepted, checked}
+use Rattle.csl.specs.Check.{CheckAnswer, CheckResult, refused, accepted, checked}
 use Rattle.csl.specs.Values.{Val}
 use Rattle.csl.specs.Outcomes.{Outcome}
 use Rattle.csl.specs.Run.{Run, Stepped, started, step}
 use Rattle.csl.specs.Table.{tableOf}
 use Rattle.csl.specs.Entries.{Answer, Forecast, noBreach, breachAt, startOf, readingOf, forecastOf}
-use Rattle.csl.specs.Build.{lit, yes′, op, nothing, owes, simply, may, all′, any′, inst, templateOf, agreement, reading, mark, sample, zeros, unitOf, joinOf, runningTable, fulfilledTable, breachedTable}
+use Rattle.csl.specs.Build.{lit, yes′, op, nothing, owes, simply, may, all′, any′, inst, templateWith, agreement}
+use Rattle.csl.specs.Build.{reading, mark, sample, zeros, unitOf, joinUnit, runningTable, fulfilledTable}
+use Rattle.csl.specs.Build.{breachedTable}
 
 -- everything that the trials compute with
 unfoldable pub computes : Unit {0}
-unfolding Lists.computes Numbers.computes Bytes.computes Parties.computes Decode.computes Typing.computes Guards.computes Widths.computes Check.computes Values.computes Outcomes.computes Rules.computes Places.computes Run.computes Table.computes Entries.computes Build.computes
+unfolding Lists.computes Numbers.computes Bytes.computes Parties.computes Decode.computes Typing.computes
+    Guards.computes Widths.computes Check.computes Values.computes Outcomes.computes Rules.computes Places.computes
+    Run.computes Table.computes Entries.computes Build.computes
 computes = tt
 
 -- ---- a trial: what is computed, and what it must be
@@ -49,7 +53,7 @@ pub data Seen : Type 0 where
   steps : Stepped → Outcome → Seen
   reads : Option Run → Seen
   becomes : Outcome → Seen
-  decides : Checked → Seen
+  decides : CheckResult → Seen
   evaluates : Option Val → Seen
   holds : Bool → Seen
 
@@ -79,7 +83,7 @@ unfoldable pub byRules : Agreement → Stepped → List (List ℕ) → List Seen
 byRules ag s [] = gives (s .number) (tableOf (s .run)) ∷ []
 byRules ag s (r ∷ rs) = gives (s .number) (tableOf (s .run)) ∷ byRules ag (step ag (s .run) r) rs
 
-unfoldable pub rulesOf : Checked → List (List ℕ) → List Seen
+unfoldable pub rulesOf : CheckResult → List (List ℕ) → List Seen
 rulesOf (refused n) rs = []
 rulesOf (accepted ag ps) rs = byRules ag (started ag) rs
 
@@ -154,7 +158,7 @@ p7 = follows "P7" (agreement [] (simply 0 (negsuc 4))) (mark 100 ∷ [])
 
 -- two obligations joined, from place 17 on
 unfoldable pub pair : ℕ → List (List ℤ)
-pair s = joinOf s ∷ owed 21 100 ∷ owed 52 100 ∷ []
+pair s = joinUnit s ∷ owed 21 100 ∷ owed 52 100 ∷ []
 
 unfoldable pub p8 : Trial
 p8 = follows "P8" (agreement [] (all′ (simply 0 (pos 60)) (simply 1 (pos 60)))) (mark 161 ∷ [])
@@ -198,12 +202,12 @@ unfoldable pub self : List ℕ
 self = inst 0 [] []
 
 unfoldable pub doubling : List ℕ
-doubling = agreement (templateOf [] 0 1 (owes 0 yes′ (pos 0) (pos 60) (all′ self self)) ∷ []) self
+doubling = agreement (templateWith [] 0 1 (owes 0 yes′ (pos 0) (pos 60) (all′ self self)) ∷ []) self
 
 -- as often doubled as there were readings
 unfoldable pub doubled : ℕ → ℕ → List (List ℤ)
 doubled a zero = owed 25 a ∷ []
-doubled a (suc n) = joinOf 20 ∷ (doubled a n ++ doubled a n)
+doubled a (suc n) = joinUnit 20 ∷ (doubled a n ++ doubled a n)
 
 unfoldable pub p15 : Trial
 p15 = grows "P15" doubling (reading 101 (pos 0) ∷ reading 102 (pos 0) ∷ reading 103 (pos 0) ∷ reading 104 (pos 0)
@@ -222,9 +226,11 @@ trials = p1to4 ∷ p5and6 ∷ p7 ∷ p8 ∷ p9 ∷ p10 ∷ p11 ∷ p12a ∷ p12b
 
 -- what a proof by computation unfolds
 unfoldable pub harness : Unit {0}
-unfolding computes gives byEntries byReadings byRules rulesOf ofEntries ofRules follows grows live fulfils breaches refusing owed chosen
+unfolding computes gives byEntries byReadings byRules rulesOf ofEntries ofRules follows grows live fulfils breaches
+    refusing owed chosen
 harness = tt
 
 pub trials-pass : map (λ t. t .shown) trials ≡ map (λ t. t .expected) trials
-unfolding harness unmet p1to4 p5and6 p7 pair p8 p9 p10 p11 choosing p12a p12b asks p13 p14 self doubling doubled p15 trials
+unfolding harness unmet p1to4 p5and6 p7 pair p8 p9 p10 p11 choosing p12a p12b asks p13 p14 self doubling doubled p15
+    trials
 trials-pass = refl

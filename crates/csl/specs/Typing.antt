@@ -8,7 +8,10 @@ use lib.ListN.{length}
 use Rattle.csl.specs.Lists.{_>>=_, need, all, at}
 use Rattle.csl.specs.Numbers.{inRange}
 use Rattle.csl.specs.Parties.{member, memberCount}
-use Rattle.csl.specs.Syntax.{Ty, number, truth, party, Op, arithmetic, conj, less, equal, Expr, numberLit, truthLit, partyLit, variable, negation, binary, badExpr, Join, and, or, Wait, Clause, fulfilled, obligation, choice, if, join, instance, badClause, Head, Template, Agreement}
+use Rattle.csl.specs.Syntax.{Ty, number, truth, party, Op, arithmetic, conj, less, equal, Expr, numberLit}
+use Rattle.csl.specs.Syntax.{truthLit, partyLit, variable, negation, binary, badExpr, Join, and, or, Wait, Clause}
+use Rattle.csl.specs.Syntax.{fulfilled, obligation, choice, if, join, instance, badClause, Head, Template}
+use Rattle.csl.specs.Syntax.{Agreement}
 
 unfoldable pub sameTy : Ty → Ty → Bool
 sameTy number number = true
@@ -129,7 +132,8 @@ isConstant b = ltb b 128
 unfoldable pub typeTemplate : ℕ → List (List Ty) → List Head → Template → Option (Unit {0})
 typeTemplate ps rs hs t = do
   _ ← need (all (λ p. ltb p ps) (t .head .declared))
-  qs ← typeClause (record { parties = ps; readings = rs; heads = hs; params = t .head .params }) (t .head .values) (t .body)
+  qs ← typeClause (record { parties = ps; readings = rs; heads = hs; params = t .head .params }) (t .head .values)
+      (t .body)
   need (all (λ q. elim (isConstant q) [ true ↦ member q (t .head .declared) | false ↦ true ]) qs)
 
 unfoldable pub typeTemplates : ℕ → List (List Ty) → List Head → List Template → Option (Unit {0})
@@ -146,9 +150,12 @@ namesOf a k = record { parties = a .parties; readings = a .readings; heads = hea
 
 -- the main clause's parties; refusal 3 where this is none
 unfoldable pub typed : Agreement → Option (List ℕ)
-typed a = typeTemplates (a .parties) (a .readings) (headsIn (a .templates)) (a .templates) >>= λ _. typeClause (namesOf a 0) [] (a .main)
+typed a =
+    typeTemplates (a .parties) (a .readings) (headsIn (a .templates)) (a .templates) >>= λ _.
+    typeClause (namesOf a 0) [] (a .main)
 
 -- what a proof by computation unfolds
 unfoldable pub computes : Unit {0}
-unfolding sameTy operand result typeExpr hasType haveTypes blameOk readingOfType thenSight typeWait joinOk typeClause isConstant typeTemplate typeTemplates headsIn namesOf typed
+unfolding sameTy operand result typeExpr hasType haveTypes blameOk readingOfType thenSight typeWait joinOk typeClause
+    isConstant typeTemplate typeTemplates headsIn namesOf typed
 computes = tt

@@ -9,7 +9,8 @@ use lib.IntN.{ℤ, pos, negsuc}
 use lib.Signed.{ltZ}
 use Rattle.csl.specs.Lists.{_>>=_, need, at}
 use Rattle.csl.specs.Numbers.{inRange, calculate, eqZ}
-use Rattle.csl.specs.Syntax.{Ty, number, truth, party, Op, arithmetic, conj, less, equal, Expr, numberLit, truthLit, partyLit, variable, negation, binary, badExpr}
+use Rattle.csl.specs.Syntax.{Ty, number, truth, party, Op, arithmetic, conj, less, equal, Expr, numberLit}
+use Rattle.csl.specs.Syntax.{truthLit, partyLit, variable, negation, binary, badExpr}
 
 pub data Val : Type 0 where
   num : ℤ → Val

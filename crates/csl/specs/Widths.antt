@@ -1,12 +1,14 @@
 -- Paper 01, "Typing", and refusal 5.
--- "Width: 1 for kinds 16 and 17; 1 and the else's for 18; 1 and both clauses' for 19, 20, 21; 1 and the body's for 22. The main clause, each template body and each `then` has width at most 256."
+-- "Width: 1 for kinds 16 and 17; 1 and the else's for 18; 1 and both clauses' for 19, 20, 21; 1 and the body's for 22.
+-- The main clause, each template body and each `then` has width at most 256."
 use mathlib.Core.Bool.{Bool, true, false, _&&_}
 use mathlib.Core.List.{List, [], _∷_, _++_}
 use mathlib.Core.Option.{Option, none, some}
 use Prim.Native.Nat.{ℕ, _+_}
 use lib.Dec.{leb}
 use Rattle.csl.specs.Lists.{all, at}
-use Rattle.csl.specs.Syntax.{Clause, fulfilled, obligation, choice, if, join, instance, badClause, Template, Agreement}
+use Rattle.csl.specs.Syntax.{Clause, fulfilled, obligation, choice, if, join, instance, badClause, Template}
+use Rattle.csl.specs.Syntax.{Agreement}
 
 unfoldable pub orZero : Option ℕ → ℕ
 orZero none = 0

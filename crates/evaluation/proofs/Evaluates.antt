@@ -18,11 +18,12 @@ use Rattle.arith.proofs.Bytes.{whole-from}
 use Rattle.csl.specs.Numbers.{Held, held, Arithmetic, calculate}
 use Rattle.csl.specs.Bytes.{byte, signed32, part, isRecord, kindNumber, recordEnd}
 use Rattle.csl.specs.Syntax.{Op, Expr, badExpr}
-use Rattle.csl.specs.Decode.{ExprKind, numberKind, truthKind, partyKind, variableKind, leafKind, opOf, exprKind}
+use Rattle.csl.specs.Decode.{ExprKind, numberKind, truthKind, partyKind, variableKind, exprKind}
 use Rattle.csl.specs.Decode.{exprBody, expr, ofLength}
 use Rattle.cells.specs.Evaluate.{applyCells, evalCells}
 use Rattle.records.proofs.Trees.{expr-zero, expr-none, expr-at, kind-leaf, kind-not, kind-binary, kind-no-expr-low}
 use Rattle.records.proofs.Trees.{kind-no-expr-high}
+use Rattle.records.specs.Kinds.{leafKind, opOf}
 use Rattle.evaluation.specs.Parts.{leafOf, negatedCell}
 
 -- ---- what a call's result is, read back

@@ -4,7 +4,8 @@ use mathlib.Core.List.{List}
 use Prim.Native.Nat.{ℕ}
 use lib.IntN.{ℤ, pos}
 use Rattle.csl.specs.Syntax.{Expr, badExpr}
-use Rattle.csl.specs.Decode.{leafKind, exprBody}
+use Rattle.csl.specs.Decode.{exprBody}
+use Rattle.records.specs.Kinds.{leafKind}
 use Rattle.cells.specs.Evaluate.{isTrue}
 
 -- an expression of kind 32 to 35: it has no expression within

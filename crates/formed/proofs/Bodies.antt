@@ -9,7 +9,7 @@ use borrow.Author.Needs.{needs}
 use lib.ListN.{length}
 use Rattle.csl.specs.Lists.{all}
 use Rattle.csl.specs.Bytes.{byte, part, recordEnd}
-use Rattle.csl.specs.Decode.{Piece, pieces, piecesEnd, templatesPlace, templatePieces, bodyPlace, bodyOf, mainPlace}
+use Rattle.csl.specs.Decode.{Piece, pieces, recordsEnd, templatesPlace, templatePieces, bodyPlace, bodyOf, mainPlace}
 use Rattle.csl.specs.Decode.{mainOf, clause, whole, headsOf, listed, wellFormed}
 use Rattle.records.specs.Index.{Indexed, templatePlace, pieceAt}
 use Rattle.records.proofs.Index.{piece, part-piece, pieces-more, pieces-none, template-facts}
@@ -33,12 +33,12 @@ module _ {places s : List ℕ} {k a e n : ℕ} (x : Indexed places s × (k < byt
 -- ---- all of n records one after another, from record k on
 module _ (p : Piece → Bool) (n : ℕ) (s : List ℕ) (i : ℕ) where
   abbrev from : ℕ → Bool
-  from k = all p (pieces (n - k) s (piecesEnd k s i))
+  from k = all p (pieces (n - k) s (recordsEnd k s i))
 
   from-start : all p (pieces n s i) ≡ from 0
   from-start = let h : n - 0 ≡ n = omega arith in rw (h, pieces-none s i)
 
-  from-next : (k : ℕ) → k < n → from k ≡ (p (piece s (piecesEnd k s i)) && from (k + 1))
+  from-next : (k : ℕ) → k < n → from k ≡ (p (piece s (recordsEnd k s i)) && from (k + 1))
   unfolding all pieces
   from-next k l = let h : n - k ≡ suc (n - (k + 1)) = omega arith in rw (h, pieces-more k s i)
 

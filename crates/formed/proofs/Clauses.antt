@@ -12,7 +12,7 @@ use lib.ListN.{length}
 use Rattle.csl.specs.Lists.{all, at}
 use Rattle.csl.specs.Bytes.{byte, part, isRecord, kindNumber, recordEnd}
 use Rattle.csl.specs.Syntax.{Expr, Join, Wait, Clause, fulfilled, choice, if, join, instance, badClause, Head}
-use Rattle.csl.specs.Decode.{expr, wholeExpr, waitAt, wholeWait, argumentsEnd, arguments, instanceOf, ClauseKind}
+use Rattle.csl.specs.Decode.{expr, wholeExpr, waitAt, wholeWait, recordsEnd, arguments, instanceOf, ClauseKind}
 use Rattle.csl.specs.Decode.{fulfilledKind, obligationKind, choiceKind, ifKind, joinKind, instanceKind, noClause}
 use Rattle.csl.specs.Decode.{joinOf, waitEnd, clauseBody, clauseHead, clause, whole, headsOf}
 use Rattle.arith.proofs.Bytes.{record-end-within}
@@ -138,12 +138,12 @@ counted false k es bs = and-false (all wholeExpr es)
 module _ (d : ℕ) (s : List ℕ) where
   instance-is : (h : Head) → Arguments d s 5 (length (h .values)) (h .params) ≡ whole (instanceOf (expr d) s (some h))
   unfolding instanceOf
-  instance-is h = let i = argumentsEnd (length (h .values)) s 5 in
+  instance-is h = let i = recordsEnd (length (h .values)) s 5 in
       counted (eqb (i + h .params) (length s)) (byte s 4) (arguments (expr d) (length (h .values)) s 5)
       (part s i (length s))
 
   arguments-short : (n m : ℕ) → length s < 5 → false ≡ Arguments d s 5 n m
-  unfolding all arguments argumentsEnd
+  unfolding all arguments recordsEnd
   arguments-short zero m l = rw (ne-eqb (5 + m) (length s) (λ e. omega arith))
   arguments-short (suc n) m l =
       let a = recordEnd s 5 in

@@ -12,12 +12,13 @@ use lib.ListN.{length}
 use Rattle.csl.specs.Lists.{all}
 use Rattle.csl.specs.Bytes.{byte, signed32, part, isRecord, kindNumber, recordEnd}
 use Rattle.csl.specs.Syntax.{Expr, numberLit, truthLit, partyLit, variable, badExpr}
-use Rattle.csl.specs.Decode.{truthKind, partyKind, variableKind, leafKind, exprKind, ofLength, exprBody, expr}
-use Rattle.csl.specs.Decode.{wholeExpr, waitAt, wholeWait, argumentsEnd, arguments}
+use Rattle.csl.specs.Decode.{truthKind, partyKind, variableKind, exprKind, ofLength, exprBody, expr}
+use Rattle.csl.specs.Decode.{wholeExpr, waitAt, wholeWait, recordsEnd, arguments}
 use Rattle.arith.proofs.Bytes.{whole-from, record-no, record-end-within}
 use Rattle.arith.proofs.Lists.{length-part}
 use Rattle.records.proofs.Trees.{expr-zero, expr-none, expr-at, kind-number, kind-leaf, kind-not, kind-binary}
 use Rattle.records.proofs.Trees.{kind-no-expr-low, kind-no-expr-high}
+use Rattle.records.specs.Kinds.{leafKind}
 
 -- ---- `x && y`
 pub both-on : (a b : Bool) {x y : Bool} → x ≡ a → x ≡ true → y ≡ b → y ≡ (a && b)
@@ -136,15 +137,15 @@ module _ (d : ℕ) (s : List ℕ) (i : ℕ) where
 -- ---- an instance's arguments, and where they end
 module _ (d : ℕ) (s : List ℕ) (i n m : ℕ) where
   abbrev pub Arguments : Bool
-  Arguments = all wholeExpr (arguments (expr d) n s i) && eqb (argumentsEnd n s i + m) (length s)
+  Arguments = all wholeExpr (arguments (expr d) n s i) && eqb (recordsEnd n s i + m) (length s)
 
 pub arguments-none : (d : ℕ) (s : List ℕ) (i n m : ℕ) → n ≡ 0 → eqb (i + m) (length s) ≡ Arguments d s i n m
-unfolding all arguments argumentsEnd
+unfolding all arguments recordsEnd
 arguments-none d s i n m e = rw e
 
 pub arguments-more : (d : ℕ) (s : List ℕ) (i n m : ℕ) {r : Bool} {e : ℕ} → (n ≡ 0 → ⊥) → e ≡ recordEnd s i
     → r ≡ (wholeExpr (expr d (part s i e)) && Arguments d s e (n - 1) m) → r ≡ Arguments d s i n m
-unfolding all arguments argumentsEnd
+unfolding all arguments recordsEnd
 arguments-more d s i zero m f p h = absurd (f refl)
 arguments-more d s i (suc n) m f p h = h
     ∙ rw (p, sub-one) (sym (both-within (wholeExpr (expr d (part s i (recordEnd s i)))) _ _))

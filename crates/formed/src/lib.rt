@@ -6,7 +6,7 @@ ghost use lib.Dec.{eqb};
 ghost use lib.ListN.{length};
 ghost use Rattle.csl.specs.Bytes as bytes;
 ghost use Rattle.csl.specs.Lists.{all, at};
-ghost use Rattle.csl.specs.Decode.{expr, wholeExpr, waitAt, wholeWait, argumentsEnd, arguments, instanceOf, clause, whole, headsOf, bodyOf, templatePieces, mainOf, wellFormed};
+ghost use Rattle.csl.specs.Decode.{expr, wholeExpr, waitAt, wholeWait, recordsEnd, arguments, instanceOf, clause, whole, headsOf, bodyOf, templatePieces, mainOf, wellFormed};
 ghost use Rattle.records.specs.Index.{Indexed, templatePlace, pieceAt};
 ghost use Rattle.formed.specs.Tests.{testsWhole};
 use arith::byte;
@@ -79,7 +79,7 @@ fn tests_formed(s: &[u8], kind: usize, depth: usize) -> bool
 // The n records from i are expressions, and `blames` bytes follow them to the end.
 fn arguments_formed(s: &[u8], i: usize, n: usize, blames: usize, depth: usize) -> bool
     requires { ⌜ (i ≤ length (now s)) × (blames ≤ 4) ⌝ }
-    ensures { λ r. ⌜ r ≡ (all wholeExpr (arguments (expr depth) n (now (s .entry)) i) && eqb (argumentsEnd n (now (s .entry)) i + blames) (length (now (s .entry)))) ⌝ }
+    ensures { λ r. ⌜ r ≡ (all wholeExpr (arguments (expr depth) n (now (s .entry)) i) && eqb (recordsEnd n (now (s .entry)) i + blames) (length (now (s .entry)))) ⌝ }
 {
     if n == 0 {
         return i + blames == s.len();

@@ -9,7 +9,7 @@ use lib.ListN.{length}
 use Rattle.csl.specs.Lists.{all}
 use Rattle.csl.specs.Bytes.{byte, part, recordEnd}
 use Rattle.csl.specs.Syntax.{Clause, Template}
-use Rattle.csl.specs.Decode.{whole, pieces, piecesEnd, templatesPlace, mainPlace, templatePieces, headsOf, mainOf}
+use Rattle.csl.specs.Decode.{whole, pieces, recordsEnd, templatesPlace, mainPlace, templatePieces, headsOf, mainOf}
 use Rattle.csl.specs.Decode.{bodyPlace, bodyOf, templateOf, agreementOf, listed, wellFormed}
 use Rattle.csl.specs.Guards.{guardedIn, guardedFrom}
 use Rattle.csl.specs.Widths.{width, widthsFrom}
@@ -82,7 +82,7 @@ unfoldable pub templatesFrom : List ℕ → ℕ → List Template
 templatesFrom s k = map (templateOf (headsOf s)) (pieces (byte s 10 - k) s (templatePlace s k))
 
 pub from-first : (s : List ℕ) → agreementOf s .templates ≡ templatesFrom s 0
-unfolding agreementOf templatePieces templatesFrom piecesEnd
+unfolding agreementOf templatePieces templatesFrom recordsEnd
 from-first s = let z : byte s 10 - 0 ≡ byte s 10 = omega arith in rw z
 
 pub from-last : (s : List ℕ) (k : ℕ) → byte s 10 ≤ k → templatesFrom s k ≡ []

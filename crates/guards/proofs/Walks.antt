@@ -15,7 +15,7 @@ use Rattle.csl.specs.Bytes.{byte, part, isRecord, kindNumber, recordEnd}
 use Rattle.csl.specs.Syntax.{Expr, Wait, Head, Clause, Join, fulfilled, obligation, choice, if, join, instance}
 use Rattle.csl.specs.Syntax.{badClause}
 use Rattle.csl.specs.Decode.{expr, waitAt, joinOf, clauseKind, clauseBody, clause, whole, wholeWait, wholeExpr}
-use Rattle.csl.specs.Decode.{instanceOf, argumentsEnd, arguments}
+use Rattle.csl.specs.Decode.{instanceOf, recordsEnd, arguments}
 use Rattle.arith.proofs.Bytes.{whole-from}
 use Rattle.records.specs.Index.{firstClause}
 use Rattle.records.proofs.Trees.{sided, clause-zero, clause-none, clause-at, clause-wait, clause-two, kind-fulfilled}
@@ -175,7 +175,7 @@ module _ {A : Type 0} (f : Clause → A) (d : ℕ) (s : List ℕ) {m : ℕ} {r :
       named e none w = absurd (false≢true w)
       named e (some g) w =
           let n = length (g .values) in
-          let i = argumentsEnd n s 5 in
+          let i = recordsEnd n s 5 in
           fits (eqb (i + g .params) (length s)) (arguments e n s 5) (part s i (length s)) w
 
   pub answers-fulfilled : m < 17 → r ≡ f fulfilled → Answers f d s r

@@ -1,13 +1,15 @@
 -- The reviewer's checklist, "Tried and found unprovable": six wrong monitors, and that none meets the contracts.
 -- Each is any monitor that does the wrong thing with whatever it is lent; the paper's trials, computed, refute it.
-use mathlib.Core.Path.{_≡_, refl, sym, ap, _∙_}
+use mathlib.Core.Path.{_≡_, refl, sym, ap, _∙_, subst}
 use mathlib.Core.List.{List, []}
 use Prim.Native.Nat.{ℕ}
 use native.Mathlib.Omega.{arith}
 use lib.IntN.{ℤ, pos, natAbs}
 use lib.ListN.{getD, set}
 use Rattle.csl.specs.Bytes.{le32}
-use Rattle.csl.specs.Entries.{Answer, startOf, readingOf}
+use Rattle.csl.specs.Check.{CheckAnswer, checkOf}
+use Rattle.csl.specs.Entries.{Answer, Forecast, refusedForecast, noBreach, breachAt, noForecast}
+use Rattle.csl.specs.Entries.{startOf, readingOf, forecastOf}
 use Rattle.csl.specs.Build.{sample, agreement, all′, simply, zeros}
 use Rattle.csl.specs.Build as Build
 use Rattle.csl.specs.Trials.{computes}
@@ -38,17 +40,57 @@ timeIn table = getD table 1 (pos 0)
 abbrev unitsIn : List ℤ → ℤ
 unitsIn table = getD table 4 (pos 0)
 
--- ---- any monitor that starts and reads as the contracts of `start` and `reading` say
+-- ---- any monitor whose four entries answer as their contracts say: not one of the four refuses whatever it is lent
+abbrev IsRefused : Forecast → Type 0
+IsRefused (refusedForecast n) = Unit {0}
+IsRefused noBreach = ⊥
+IsRefused (breachAt t ps) = ⊥
+IsRefused noForecast = ⊥
+
+module _ (check : List ℕ → CheckAnswer) (checks : (s : List ℕ) → check s ≡ checkOf s)
+    (start : List ℕ → List ℤ → Answer) (starts : (s : List ℕ) (us : List ℤ) → start s us ≡ startOf s us)
+    (reading : List ℕ → List ℤ → List ℕ → Answer)
+    (reads : (s : List ℕ) (us : List ℤ) (r : List ℕ) → reading s us r ≡ readingOf s us r)
+    (forecast : List ℕ → List ℤ → Forecast)
+    (foretells : (s : List ℕ) (us : List ℤ) → forecast s us ≡ forecastOf s us) where
+  -- the sample is accepted and started, P2 is taken, and P1's table has a forecast
+  pub refuses-all :
+      (((s : List ℕ) → (check s) .number ≡ 0 → ⊥) → ⊥)
+      × (((s : List ℕ) (us : List ℤ) → (start s us) .number ≡ 0 → ⊥) → ⊥)
+      × (((s : List ℕ) (us : List ℤ) (r : List ℕ) → (reading s us r) .number ≡ 0 → ⊥) → ⊥)
+      × (((s : List ℕ) (us : List ℤ) → (n : ℕ) × (forecast s us ≡ refusedForecast n)) → ⊥)
+  unfolding computes zeros
+  refuses-all = (
+    λ wrong. wrong sample (ap (λ a. a .number) (checks sample)),
+    λ wrong. wrong sample zeros (ap (λ a. a .number) (starts sample zeros)),
+    λ wrong. wrong sample (p1 .table) p2bytes (ap (λ a. a .number) (reads sample (p1 .table) p2bytes)),
+    λ wrong. told (sym (foretells sample (p1 .table)) ∙ wrong sample (p1 .table) .1),
+  )
+    where
+      told : {n : ℕ} → breachAt 160 1 ≡ refusedForecast n → ⊥
+      told e = subst IsRefused (sym e) tt
+
+-- any monitor that starts and reads as its contracts say: it does not say 11 where 0 is right
+module _ (start : List ℕ → List ℤ → Answer) (starts : (s : List ℕ) (us : List ℤ) → start s us ≡ startOf s us)
+    (reading : List ℕ → List ℤ → List ℕ → Answer)
+    (reads : (s : List ℕ) (us : List ℤ) (r : List ℕ) → reading s us r ≡ readingOf s us r) where
+  -- at the start, and at the first reading: the last reading time is still the start
+  pub eleven-at-once :
+      (((s : List ℕ) (us : List ℤ) → (startOf s us) .number ≡ 0 → (start s us) .number ≡ 11) → ⊥)
+      × (((s : List ℕ) (us : List ℤ) (r : List ℕ) → timeIn us ≡ pos (le32 s 4) → (readingOf s us r) .number ≡ 0
+      → (reading s us r) .number ≡ 11) → ⊥)
+  unfolding computes zeros
+  eleven-at-once = (
+    λ wrong. apart (sym (ap (λ a. a .number) (starts sample zeros)) ∙ wrong sample zeros refl),
+    λ wrong. apart (sym (ap (λ a. a .number) (reads sample (p1 .table) p2bytes))
+        ∙ wrong sample (p1 .table) p2bytes refl refl),
+  )
+    where
+      apart : _≡_ {A = ℕ} 0 11 → ⊥
+      apart e = absurd (omega arith)
+
+-- any monitor that starts as its contract says
 module _ (start : List ℕ → List ℤ → Answer) (starts : (s : List ℕ) (us : List ℤ) → start s us ≡ startOf s us) where
-  pub refuses-all : ((s : List ℕ) (us : List ℤ) → (start s us) .number ≡ 0 → ⊥) → ⊥
-  unfolding computes zeros
-  refuses-all wrong = wrong sample zeros (ap (λ a. a .number) (starts sample zeros))
-
-  pub eleven-at-once : ((s : List ℕ) (us : List ℤ) → (start s us) .number ≡ 11) → ⊥
-  unfolding computes zeros
-  eleven-at-once wrong = let z : _≡_ {A = ℕ} 0 11 = sym (ap (λ a. a .number) (starts sample zeros))
-      ∙ wrong sample zeros in absurd (omega arith)
-
   pub invented-units : (n : ℕ) → ((s : List ℕ) (us : List ℤ) → unitsIn ((start s us) .table) ≡ pos n) → ⊥
   unfolding computes zeros
   invented-units n wrong =
@@ -81,10 +123,3 @@ module _ (reading : List ℕ → List ℤ → List ℕ → Answer)
     where
       later : timeIn (p2 .table) ≡ pos (le32 sample 4) → ⊥
       later e = let z : _≡_ {A = ℕ} 110 100 = ap natAbs e in absurd (omega arith)
-
-  pub eleven-at-the-first-reading : ((s : List ℕ) (us : List ℤ) (r : List ℕ) → timeIn us ≡ pos (le32 s 4)
-      → (reading s us r) .number ≡ 11) → ⊥
-  unfolding computes zeros
-  eleven-at-the-first-reading wrong = let z : _≡_ {A = ℕ} 0 11 = sym
-      (ap (λ a. a .number) (reads sample (p1 .table) p2bytes)) ∙ wrong sample (p1 .table) p2bytes refl in
-      absurd (omega arith)

@@ -13,7 +13,7 @@ use Rattle.csl.specs.Lists.{orElse, orNil, at}
 use Rattle.csl.specs.Bytes.{byte, part, recordEnd}
 use Rattle.csl.specs.Syntax.{Ty, Template, Agreement, Clause, fulfilled, obligation, choice, if, join, instance}
 use Rattle.csl.specs.Syntax.{badClause}
-use Rattle.csl.specs.Decode.{pieces, piecesEnd, clause, tysOf, headsOf, whole, bodyOf, bodyPlace, mainOf, mainPlace}
+use Rattle.csl.specs.Decode.{pieces, recordsEnd, clause, tysOf, headsOf, whole, bodyOf, bodyPlace, mainOf, mainPlace}
 use Rattle.csl.specs.Decode.{templatesPlace, templatePieces, templateHead, templateOf, agreementOf}
 use Rattle.csl.specs.Typing.{typeClause, namesOf, thenSight}
 use Rattle.csl.specs.Places.{Found, find, findIn, clauseAt}
@@ -238,8 +238,8 @@ module _ {places A : List ℕ} (x : Indexed places A) (place : ℕ) where
       ∙ before j (k + 1) (omega arith) (rw (ended k)
       (omega (arith, record-end-after A (templatePlace A k) (template-within x k))))
 
-  beyond : (j k : ℕ) → k + j ≡ byte A 10 → piecesEnd j A (templatePlace A k) ≤ place → InTemplates A place j k ≡ none
-  unfolding findIn pieces piecesEnd Out
+  beyond : (j k : ℕ) → k + j ≡ byte A 10 → recordsEnd j A (templatePlace A k) ≤ place → InTemplates A place j k ≡ none
+  unfolding findIn pieces recordsEnd Out
   beyond zero k l h = refl
   beyond (suc j) k l h = first-of j k ∙ orElse-none _ _
       (body-out k (omega arith) (inr (omega (

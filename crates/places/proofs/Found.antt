@@ -16,7 +16,7 @@ use Rattle.csl.specs.Syntax.{Ty, Expr, Clause, fulfilled, instance, badClause, 
 use Rattle.csl.specs.Decode.{ExprKind, numberKind, truthKind, partyKind, variableKind, notKind, binaryKind, noExpr}
 use Rattle.csl.specs.Decode.{exprBody, exprHead, expr, ClauseKind, fulfilledKind, obligationKind, choiceKind, ifKind}
 use Rattle.csl.specs.Decode.{joinKind, instanceKind, noClause, clauseKind, clauseBody, clauseHead, clause, waitAt}
-use Rattle.csl.specs.Decode.{waitEnd, arguments, argumentsEnd, instanceOf, wholeExpr, wholeWait, whole, pieces}
+use Rattle.csl.specs.Decode.{waitEnd, arguments, recordsEnd, instanceOf, wholeExpr, wholeWait, whole, pieces}
 use Rattle.csl.specs.Decode.{templatesPlace, mainPlace, templatePieces, headsOf, mainOf, bodyOf, bodyPlace}
 use Rattle.csl.specs.Decode.{templateOf, templateOk, agreementOf, wellFormed, between}
 use Rattle.csl.specs.Places.{Found, find, findIn, clauseAt}
@@ -49,14 +49,14 @@ module _ {e f : List ℕ → Expr} (same : (u : List ℕ) → T (wholeExpr (e u)
   instance-same : (o : Option Head) → T (whole (instanceOf e s o)) → instanceOf f s o ≡ instanceOf e s o
   unfolding instanceOf whole
   instance-same none t = refl
-  instance-same (some h) t = let n = length (h .values) in go (eqb (argumentsEnd n s 5 + h .params) (length s)) t
+  instance-same (some h) t = let n = length (h .values) in go (eqb (recordsEnd n s 5 + h .params) (length s)) t
     where
       go : (b : Bool) → T (whole (cond b (instance (byte s 4) (arguments e (length (h .values)) s 5)
-          (part s (argumentsEnd (length (h .values)) s 5) (length s))) badClause))
+          (part s (recordsEnd (length (h .values)) s 5) (length s))) badClause))
           → cond b (instance (byte s 4) (arguments f (length (h .values)) s 5)
-          (part s (argumentsEnd (length (h .values)) s 5) (length s))) badClause ≡ cond b
+          (part s (recordsEnd (length (h .values)) s 5) (length s))) badClause ≡ cond b
           (instance (byte s 4) (arguments e (length (h .values)) s 5)
-          (part s (argumentsEnd (length (h .values)) s 5) (length s))) badClause
+          (part s (recordsEnd (length (h .values)) s 5) (length s))) badClause
       go true t = rw (arguments-same (length (h .values)) 5 t)
       go false t = refl
 
@@ -211,7 +211,7 @@ module _ (s : List ℕ) (hs : List Head) (rs : List (List Ty)) (n p : ℕ) (f : 
 
         none-there : (o : Option Head) → find rs n p (instanceOf (expr d) u o) env ≡ some f → RecordAt
         none-there none h = nothing h
-        none-there (some hd) h = either (eqb (argumentsEnd (length (hd .values)) u 5 + hd .params) (length u)) _ refl h
+        none-there (some hd) h = either (eqb (recordsEnd (length (hd .values)) u 5 + hd .params) (length u)) _ refl h
     body-sound noClause env r q t h = nothing h
 
   clause-sound : (d : ℕ) → d ≤ 23 → Sound (clause hs d)

@@ -16,7 +16,7 @@ use Rattle.csl.specs.Lists.{orElse, orNil, at}
 use Rattle.csl.specs.Bytes.{byte, part, isRecord, kindNumber, recordEnd}
 use Rattle.csl.specs.Syntax.{Ty, truth, number, Expr, Join, Wait, Clause, fulfilled, obligation, choice, if, join}
 use Rattle.csl.specs.Syntax.{badClause, Head}
-use Rattle.csl.specs.Decode.{expr, waitAt, joinOf, argumentsEnd, instanceOf, clauseKind, clauseBody, clause, headsOf}
+use Rattle.csl.specs.Decode.{expr, waitAt, joinOf, recordsEnd, instanceOf, clauseKind, clauseBody, clause, headsOf}
 use Rattle.csl.specs.Decode.{agreementOf}
 use Rattle.csl.specs.Typing.{Names, blameOk, hasType, readingOfType, thenSight, typeWait, typeClause, namesOf}
 use Rattle.csl.specs.Places.{find}
@@ -388,7 +388,7 @@ module _ {A : List ℕ} {d p : ℕ} {s : List ℕ} (place c : ℕ) (types : List
   instance-none : (n : ℕ) (o : Option Head) → none ≡ find Readings n place (instanceOf (expr (d - 1)) s o) Env
   unfolding instanceOf find
   instance-none n none = refl
-  instance-none n (some h) = blank n (eqb (argumentsEnd (length (h .values)) s 5 + h .params) (length s)) _ refl
+  instance-none n (some h) = blank n (eqb (recordsEnd (length (h .values)) s 5 + h .params) (length s)) _ refl
 
   leaf : (n : ℕ) → none ≡ find Readings n place
       (clauseBody (headsOf A) (expr (d - 1)) (clause (headsOf A) (d - 1)) p s (clauseKind m)) Env

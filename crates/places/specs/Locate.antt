@@ -8,7 +8,7 @@ use Rattle.csl.specs.Bytes.{part}
 use Rattle.csl.specs.Syntax.{Ty, Clause, fulfilled, obligation, choice, if, join, instance, badClause}
 use Rattle.csl.specs.Decode.{tysOf, clause, headsOf, bodyOf, agreementOf}
 use Rattle.csl.specs.Typing.{namesOf, typeClause, readingOfType, thenSight}
-use Rattle.csl.specs.Check.{Checked, refused, accepted, checked}
+use Rattle.csl.specs.Check.{CheckResult, refused, accepted, checked}
 use Rattle.csl.specs.Places.{Found, find}
 use Rattle.records.specs.Index.{templatePlace, pieceAt, headAt}
 use Rattle.places.specs.declared.Located.{Located}
@@ -107,7 +107,7 @@ inTemplate a k place = findAt a (headAt a k .params) place
     (headAt a k .values)
 
 -- ---- what check established of the bytes
-unfoldable pub mainsIn : Checked → List ℕ
+unfoldable pub mainsIn : CheckResult → List ℕ
 mainsIn (refused n) = []
 mainsIn (accepted a ps) = ps
 

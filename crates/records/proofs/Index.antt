@@ -15,7 +15,7 @@ use Rattle.arith.proofs.Bytes.{byte-part, le16-part, record-end-within, record-
 use Rattle.csl.specs.Lists.{all, at}
 use Rattle.csl.specs.Bytes.{byte, le16, part, isRecord, kindNumber, recordEnd}
 use Rattle.csl.specs.Syntax.{Head}
-use Rattle.csl.specs.Decode.{Piece, piecesEnd, pieces, templatesPlace, mainPlace, readingPieces, templatePieces}
+use Rattle.csl.specs.Decode.{Piece, recordsEnd, pieces, templatesPlace, mainPlace, readingPieces, templatePieces}
 use Rattle.csl.specs.Decode.{headsOf, bodyPlace, templateOf, agreementOf, isType, tyOf, tysOf, readingTypeOk}
 use Rattle.csl.specs.Decode.{readingType, templateOk, templateHead, waitEnd}
 use Rattle.csl.specs.Typing.{headsIn}
@@ -49,18 +49,18 @@ wait-from s i =
     let b = recordEnd s a in
     omega (arith, end-from s (i + 1), end-from s a, end-from s b, record-end-within s (i + 1), record-end-within s a)
 
-pub pieces-within : (n : ℕ) (s : List ℕ) (i : ℕ) → i ≤ length s → piecesEnd n s i ≤ length s
-unfolding piecesEnd
+pub pieces-within : (n : ℕ) (s : List ℕ) (i : ℕ) → i ≤ length s → recordsEnd n s i ≤ length s
+unfolding recordsEnd
 pieces-within zero s i l = l
 pieces-within (suc n) s i l = pieces-within n s (recordEnd s i) (record-end-within s i)
 
-pub some-within : (n : ℕ) (s : List ℕ) (i : ℕ) → 1 ≤ n → piecesEnd n s i ≤ length s
-unfolding piecesEnd
+pub some-within : (n : ℕ) (s : List ℕ) (i : ℕ) → 1 ≤ n → recordsEnd n s i ≤ length s
+unfolding recordsEnd
 some-within zero s i l = absurd (not-suc-le-zero l)
 some-within (suc n) s i l = pieces-within n s (recordEnd s i) (record-end-within s i)
 
-pub pieces-from : (n : ℕ) (s : List ℕ) (i : ℕ) → i ≤ length s → i ≤ piecesEnd n s i
-unfolding piecesEnd
+pub pieces-from : (n : ℕ) (s : List ℕ) (i : ℕ) → i ≤ length s → i ≤ recordsEnd n s i
+unfolding recordsEnd
 pieces-from zero s i l = omega arith
 pieces-from (suc n) s i l = omega (
   arith,
@@ -68,17 +68,17 @@ pieces-from (suc n) s i l = omega (
   pieces-from n s (recordEnd s i) (record-end-within s i),
 )
 
-pieces-suc : (n : ℕ) (s : List ℕ) (i : ℕ) → piecesEnd (suc n) s i ≡ recordEnd s (piecesEnd n s i)
-unfolding piecesEnd
+pieces-suc : (n : ℕ) (s : List ℕ) (i : ℕ) → recordsEnd (suc n) s i ≡ recordEnd s (recordsEnd n s i)
+unfolding recordsEnd
 pieces-suc zero s i = refl
 pieces-suc (suc n) s i = pieces-suc n s (recordEnd s i)
 
 -- one record more
-pub pieces-more : (n : ℕ) (s : List ℕ) (i : ℕ) → piecesEnd (n + 1) s i ≡ recordEnd s (piecesEnd n s i)
+pub pieces-more : (n : ℕ) (s : List ℕ) (i : ℕ) → recordsEnd (n + 1) s i ≡ recordEnd s (recordsEnd n s i)
 pieces-more n s i = rw (add-one n) (pieces-suc n s i)
 
-pub pieces-none : (s : List ℕ) (i : ℕ) → piecesEnd 0 s i ≡ i
-unfolding piecesEnd
+pub pieces-none : (s : List ℕ) (i : ℕ) → recordsEnd 0 s i ≡ i
+unfolding recordsEnd
 pieces-none s i = refl
 
 -- ---- record k of n records one after another
@@ -88,8 +88,8 @@ piece s a = record { place = a; bytes = pieceAt s a }
 
 module _ {A : Type 0} (g : Piece → A) where
   pub at-pieces : (n : ℕ) (s : List ℕ) (i k : ℕ) → k < n
-      → at (map g (pieces n s i)) k ≡ some (g (piece s (piecesEnd k s i)))
-  unfolding at pieces piecesEnd
+      → at (map g (pieces n s i)) k ≡ some (g (piece s (recordsEnd k s i)))
+  unfolding at pieces recordsEnd
   at-pieces zero s i k l = absurd (not-suc-le-zero l)
   at-pieces (suc n) s i zero l = refl
   at-pieces (suc n) s i (suc k) l = at-pieces n s (recordEnd s i) k (le-of-suc-le-suc l)
@@ -106,8 +106,9 @@ module _ {A : Type 0} (g : Piece → A) where
   length-pieces (suc n) s i = ap suc (length-pieces n s (recordEnd s i))
 
 module _ (p : Piece → Bool) where
-  pub all-pieces : (n : ℕ) (s : List ℕ) (i k : ℕ) → T (all p (pieces n s i)) → k < n → T (p (piece s (piecesEnd k s i)))
-  unfolding all pieces piecesEnd
+  pub all-pieces : (n : ℕ) (s : List ℕ) (i k : ℕ) → T (all p (pieces n s i)) → k < n
+      → T (p (piece s (recordsEnd k s i)))
+  unfolding all pieces recordsEnd
   all-pieces zero s i k t l = absurd (not-suc-le-zero l)
   all-pieces (suc n) s i zero t l = T-both (p (piece s i)) _ t λ h u. h
   all-pieces (suc n) s i (suc k) t l = T-both (p (piece s i)) _ t λ h u. all-pieces n s (recordEnd s i) k u

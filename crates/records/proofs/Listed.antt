@@ -15,7 +15,7 @@ use Rattle.arith.proofs.Lists.{length-part}
 use Rattle.arith.proofs.Bytes.{record-end-within}
 use Rattle.csl.specs.Lists.{all}
 use Rattle.csl.specs.Bytes.{byte, le16, part, isRecord, kindNumber, recordEnd}
-use Rattle.csl.specs.Decode.{pieces, piecesEnd, templatesPlace, mainPlace, readingPieces, templatePieces, between}
+use Rattle.csl.specs.Decode.{pieces, recordsEnd, templatesPlace, mainPlace, readingPieces, templatePieces, between}
 use Rattle.csl.specs.Decode.{bodyPlace, isType, readingTypeOk, templateOk, countsOk, listed, sized}
 use Rattle.records.specs.Index.{Indexed, pieceAt, recordOk}
 use Rattle.records.proofs.Index.{T-both, T-true, true-T, all-pieces, ReadingHolds, reading-holds}
@@ -213,7 +213,7 @@ module _ (s : List ℕ) {u : Bool} (e : u ≡ counted s) (f : not u ≡ false) w
 
 -- a first reading type would begin beyond the end, and have no bytes
 pub listed-short : (s : List ℕ) → length s < 11 → false ≡ listed s
-unfolding readingPieces piecesEnd
+unfolding readingPieces recordsEnd
 listed-short s l = refused (listed s) λ t. from-listed s t λ h g.
     let some = range-holds 1 16 (byte s 9) (counts-hold s h .readings) in
     let ok = all-pieces (λ q. readingTypeOk (q .bytes)) (byte s 9) s 11 0 g (some .0) in
@@ -233,10 +233,10 @@ module _ (s : List ℕ) {u : Bool} (e : u ≡ counted s) where
     listed-no-reading f = refused (listed s) λ t. from-listed s t λ h g. untold readings-told f g
 
     module _ {r : Bool} {m f : ℕ} (y : not u ≡ false) (z : not v ≡ false) (g : m ≡ byte s 10)
-        (h : f ≡ piecesEnd n s 11) (x : r ≡ AllOk 3 s m f) where
+        (h : f ≡ recordsEnd n s 11) (x : r ≡ AllOk 3 s m f) where
       first-is : f ≡ templatesPlace s
       unfolding templatesPlace
-      first-is = h ∙ ap (λ i. piecesEnd i s 11) p
+      first-is = h ∙ ap (λ i. recordsEnd i s 11) p
 
       templates-told : r ≡ templatesOk s
       unfolding recordOk templatePieces
@@ -248,9 +248,9 @@ module _ (s : List ℕ) {u : Bool} (e : u ≡ counted s) where
 
       -- one and two are the cells after the reading types and after the templates
       module _ (one two : List ℕ) {w : ℕ} (long : 11 ≤ length s) (room : length two ≡ 49) where
-        pub indexed : ((k : ℕ) → k < n → getD one (0 + k) 0 ≡ piecesEnd k s 11)
-            → ((k : ℕ) → k < m → getD two (16 + k) 0 ≡ piecesEnd k s f)
-            → ((k : ℕ) → k < 16 → getD two k 0 ≡ getD one k 0) → w ≡ piecesEnd m s f → r ≡ true
+        pub indexed : ((k : ℕ) → k < n → getD one (0 + k) 0 ≡ recordsEnd k s 11)
+            → ((k : ℕ) → k < m → getD two (16 + k) 0 ≡ recordsEnd k s f)
+            → ((k : ℕ) → k < 16 → getD two k 0 ≡ getD one k 0) → w ≡ recordsEnd m s f → r ≡ true
             → Indexed (set two 48 w) s
         unfolding mainPlace
         indexed stored stored₂ kept ends t =
@@ -265,9 +265,9 @@ module _ (s : List ℕ) {u : Bool} (e : u ≡ counted s) where
               readings = λ k l. getD-set-other two 48 k w 0 (λ q. omega arith) ∙ kept k (omega arith)
                   ∙ sym (ap (λ i. getD one i 0) (zero-add k)) ∙ stored k (omega arith);
               templates = λ k l. getD-set-other two 48 (16 + k) w 0 (λ q. omega (arith, c .templates))
-                  ∙ stored₂ k (omega arith) ∙ ap (λ i. piecesEnd k s i) first-is;
-              main = getD-set-same two 48 w 0 (omega arith) ∙ ends ∙ ap (λ i. piecesEnd i s f) g
-                  ∙ ap (λ i. piecesEnd (byte s 10) s i) first-is;
+                  ∙ stored₂ k (omega arith) ∙ ap (λ i. recordsEnd k s i) first-is;
+              main = getD-set-same two 48 w 0 (omega arith) ∙ ends ∙ ap (λ i. recordsEnd i s f) g
+                  ∙ ap (λ i. recordsEnd (byte s 10) s i) first-is;
               readingsOk = true-T (told-yes readings-told z);
               templatesOk = true-T (sym templates-told ∙ t);
             }

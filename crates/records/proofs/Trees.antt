@@ -1,21 +1,22 @@
 -- Laws for a walk over a record's tree: what the code knows at a place, and what the tree is there.
-use mathlib.Core.Path.{_≡_, refl, sym, ap, _∙_}
+use mathlib.Core.Path.{_≡_, refl, sym, ap, _∙_, subst}
 use mathlib.Core.Bool.{Bool, true, false, cond}
 use mathlib.Core.List.{List}
 use Prim.Native.Nat.{ℕ, zero, suc, _+_, _-_, _<_, _≤_}
 use native.Mathlib.Numerals.{sub-one}
 use native.Mathlib.Decide.{decLe}
 use native.Mathlib.Omega.{arith}
-use borrow.Author.Tests.{lt-ltb, le-ltb, ne-eqb}
+use borrow.Author.Tests.{ne-eqb}
 use lib.Dec.{eqb}
 use lib.ListN.{length}
 use Rattle.csl.specs.Bytes.{byte, part, isRecord, kindNumber, recordEnd}
 use Rattle.csl.specs.Syntax.{Expr, badExpr, Clause, obligation, choice, if, join, badClause, Head}
-use Rattle.csl.specs.Decode.{ExprKind, numberKind, notKind, binaryKind, noExpr, leafKind, opOf, exprKind, exprBody}
+use Rattle.csl.specs.Decode.{ExprKind, numberKind, notKind, binaryKind, noExpr, exprKind, exprBody}
 use Rattle.csl.specs.Decode.{exprHead, expr, ClauseKind, fulfilledKind, obligationKind, choiceKind, ifKind, joinKind}
-use Rattle.csl.specs.Decode.{instanceKind, noClause, joinOf, waitKind, clauseKind, waitAt, clauseBody, clauseHead}
+use Rattle.csl.specs.Decode.{instanceKind, noClause, joinOf, clauseKind, waitAt, clauseBody, clauseHead}
 use Rattle.csl.specs.Decode.{clause}
 use Rattle.records.specs.Index.{firstClause}
+use Rattle.records.specs.Kinds.{leafKind, arithmeticOf, opOf}
 
 -- ---- one step of the tree
 expr-step : (d : ℕ) (s : List ℕ) (k : ExprKind) → (d ≡ 0 → ⊥) → exprHead s ≡ k → expr d s ≡ exprBody (expr (d - 1)) s k
@@ -61,50 +62,76 @@ module _ {A : Type 0} (f : Clause → A) (hs : List Head) (d p : ℕ) (s : List 
   clause-at {m = m} n e h k q = q ∙ ap f (sym (clause-step hs d p s (clauseKind m) n (rw (sym e ∙ h, k))))
 
 -- ---- kinds by their numbers, as a `match` finds them
+-- a number from a on, as a and what it is above it: then each can be tried
+from-on : (a : ℕ) (P : ℕ → Type 0) (k : ℕ) → a ≤ k → P (a + (k - a)) → P k
+from-on a P k l p = subst P (let e : a + (k - a) ≡ k = omega arith in e) p
+
 pub kind-number : {k : ℕ} → k ≡ 32 → exprKind k ≡ numberKind
-unfolding exprKind leafKind
+unfolding exprKind
 kind-number e = rw e refl
 
 pub kind-leaf : (k : ℕ) → 32 ≤ k → k < 36 → exprKind k ≡ leafKind k
-unfolding exprKind
-kind-leaf k l u = rw (ne-eqb k 36 (λ e. omega arith), le-ltb k 32 l, lt-ltb k 36 u) refl
+unfolding exprKind leafKind
+kind-leaf k l u = from-on 32 (λ (m : ℕ). exprKind m ≡ leafKind m) k l (tried (k - 32) (omega arith))
+  where
+    tried : (j : ℕ) → j < 4 → exprKind (32 + j) ≡ leafKind (32 + j)
+    tried zero h = refl
+    tried (suc zero) h = refl
+    tried (suc (suc zero)) h = refl
+    tried (suc (suc (suc zero))) h = refl
+    tried (suc (suc (suc (suc j)))) h = absurd (omega arith)
 
 pub kind-not : {k : ℕ} → k ≡ 36 → exprKind k ≡ notKind
 unfolding exprKind
 kind-not e = rw e refl
 
 pub kind-binary : (k : ℕ) → 37 ≤ k → k < 44 → exprKind k ≡ binaryKind (opOf k)
+unfolding exprKind opOf arithmeticOf
+kind-binary k l u = from-on 37 (λ (m : ℕ). exprKind m ≡ binaryKind (opOf m)) k l (tried (k - 37) (omega arith))
+  where
+    tried : (j : ℕ) → j < 7 → exprKind (37 + j) ≡ binaryKind (opOf (37 + j))
+    tried zero h = refl
+    tried (suc zero) h = refl
+    tried (suc (suc zero)) h = refl
+    tried (suc (suc (suc zero))) h = refl
+    tried (suc (suc (suc (suc zero)))) h = refl
+    tried (suc (suc (suc (suc (suc zero))))) h = refl
+    tried (suc (suc (suc (suc (suc (suc zero)))))) h = refl
+    tried (suc (suc (suc (suc (suc (suc (suc j))))))) h = absurd (omega arith)
+
+not-listed : (k : ℕ) → (32 ≤ k → k < 44 → ⊥) → exprKind k ≡ noExpr
 unfolding exprKind
-kind-binary k l u = rw (
-  ne-eqb k 36 (λ e. omega arith),
-  le-ltb k 32 (omega arith),
-  le-ltb k 36 (omega arith),
-  lt-ltb k 44 u,
+not-listed k far = rw (
+  ne-eqb k 32 (λ e. far (omega arith) (omega arith)),
+  ne-eqb k 33 (λ e. far (omega arith) (omega arith)),
+  ne-eqb k 34 (λ e. far (omega arith) (omega arith)),
+  ne-eqb k 35 (λ e. far (omega arith) (omega arith)),
+  ne-eqb k 36 (λ e. far (omega arith) (omega arith)),
+  ne-eqb k 37 (λ e. far (omega arith) (omega arith)),
+  ne-eqb k 38 (λ e. far (omega arith) (omega arith)),
+  ne-eqb k 39 (λ e. far (omega arith) (omega arith)),
+  ne-eqb k 40 (λ e. far (omega arith) (omega arith)),
+  ne-eqb k 41 (λ e. far (omega arith) (omega arith)),
+  ne-eqb k 42 (λ e. far (omega arith) (omega arith)),
+  ne-eqb k 43 (λ e. far (omega arith) (omega arith)),
 ) refl
 
 pub kind-no-expr-low : (k : ℕ) → k < 32 → exprKind k ≡ noExpr
-unfolding exprKind
-kind-no-expr-low k u = rw (ne-eqb k 36 (λ e. omega arith), lt-ltb k 32 u) refl
+kind-no-expr-low k u = not-listed k (λ h g. omega arith)
 
 pub kind-no-expr-high : (k : ℕ) → 44 ≤ k → exprKind k ≡ noExpr
-unfolding exprKind
-kind-no-expr-high k l = rw (
-  ne-eqb k 36 (λ e. omega arith),
-  le-ltb k 32 (omega arith),
-  le-ltb k 36 (omega arith),
-  le-ltb k 44 l,
-) refl
+kind-no-expr-high k l = not-listed k (λ h g. omega arith)
 
 pub kind-fulfilled : {k : ℕ} → k ≡ 16 → clauseKind k ≡ fulfilledKind
 unfolding clauseKind
 kind-fulfilled e = rw e refl
 
 pub kind-obligation : {k : ℕ} → k ≡ 17 → clauseKind k ≡ obligationKind
-unfolding clauseKind waitKind
+unfolding clauseKind
 kind-obligation e = rw e refl
 
 pub kind-choice : {k : ℕ} → k ≡ 18 → clauseKind k ≡ choiceKind
-unfolding clauseKind waitKind
+unfolding clauseKind
 kind-choice e = rw e refl
 
 pub kind-if : {k : ℕ} → k ≡ 19 → clauseKind k ≡ ifKind
@@ -112,41 +139,35 @@ unfolding clauseKind
 kind-if e = rw e refl
 
 pub kind-join : (k : ℕ) → 20 ≤ k → k < 22 → clauseKind k ≡ joinKind (joinOf k)
-unfolding clauseKind
-kind-join k l u = rw (
-  ne-eqb k 16 (λ e. omega arith),
-  ne-eqb k 19 (λ e. omega arith),
-  ne-eqb k 22 (λ e. omega arith),
-  le-ltb k 17 (omega arith),
-  le-ltb k 19 (omega arith),
-  le-ltb k 20 l,
-  lt-ltb k 22 u,
-) refl
+unfolding clauseKind joinOf
+kind-join k l u = from-on 20 (λ (m : ℕ). clauseKind m ≡ joinKind (joinOf m)) k l (tried (k - 20) (omega arith))
+  where
+    tried : (j : ℕ) → j < 2 → clauseKind (20 + j) ≡ joinKind (joinOf (20 + j))
+    tried zero h = refl
+    tried (suc zero) h = refl
+    tried (suc (suc j)) h = absurd (omega arith)
 
 pub kind-instance : {k : ℕ} → k ≡ 22 → clauseKind k ≡ instanceKind
 unfolding clauseKind
 kind-instance e = rw e refl
 
-pub kind-no-clause-low : (k : ℕ) → k < 16 → clauseKind k ≡ noClause
+no-clause : (k : ℕ) → (16 ≤ k → k < 23 → ⊥) → clauseKind k ≡ noClause
 unfolding clauseKind
-kind-no-clause-low k u = rw (
-  ne-eqb k 16 (λ e. omega arith),
-  ne-eqb k 19 (λ e. omega arith),
-  ne-eqb k 22 (λ e. omega arith),
-  lt-ltb k 17 (omega arith),
+no-clause k far = rw (
+  ne-eqb k 16 (λ e. far (omega arith) (omega arith)),
+  ne-eqb k 17 (λ e. far (omega arith) (omega arith)),
+  ne-eqb k 18 (λ e. far (omega arith) (omega arith)),
+  ne-eqb k 19 (λ e. far (omega arith) (omega arith)),
+  ne-eqb k 20 (λ e. far (omega arith) (omega arith)),
+  ne-eqb k 21 (λ e. far (omega arith) (omega arith)),
+  ne-eqb k 22 (λ e. far (omega arith) (omega arith)),
 ) refl
 
+pub kind-no-clause-low : (k : ℕ) → k < 16 → clauseKind k ≡ noClause
+kind-no-clause-low k u = no-clause k (λ h g. omega arith)
+
 pub kind-no-clause-high : (k : ℕ) → 23 ≤ k → clauseKind k ≡ noClause
-unfolding clauseKind
-kind-no-clause-high k l = rw (
-  ne-eqb k 16 (λ e. omega arith),
-  ne-eqb k 19 (λ e. omega arith),
-  ne-eqb k 22 (λ e. omega arith),
-  le-ltb k 17 (omega arith),
-  le-ltb k 19 (omega arith),
-  le-ltb k 20 (omega arith),
-  le-ltb k 22 (omega arith),
-) refl
+kind-no-clause-high k l = no-clause k (λ h g. omega arith)
 
 pub kind-no-clause-from : (k : ℕ) → (k ≡ 22 → ⊥) → 22 ≤ k → clauseKind k ≡ noClause
 kind-no-clause-from k f l = kind-no-clause-high k (omega arith)
@@ -186,11 +207,11 @@ module _ (hs : List Head) (e : List ℕ → Expr) (inner : ℕ → List ℕ → 
 
   pub body-wait : {k : ℕ} → k ≡ 17 → clauseBody hs e inner p s (clauseKind k) ≡ obligation (byte s 4) (waitAt e p s 5)
       (inner (p + firstClause k s) (part s (firstClause k s) (length s)))
-  unfolding clauseBody clauseKind waitKind firstClause
+  unfolding clauseBody clauseKind firstClause
   body-wait h = rw h refl
 
   two-choice : {k : ℕ} → k ≡ 18 → clauseBody hs e inner p s (clauseKind k) ≡ Two k
-  unfolding clauseBody clauseKind waitKind firstClause sided
+  unfolding clauseBody clauseKind firstClause sided
   two-choice h = rw h refl
 
   two-if : {k : ℕ} → k ≡ 19 → clauseBody hs e inner p s (clauseKind k) ≡ Two k

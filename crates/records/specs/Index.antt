@@ -8,15 +8,15 @@ use lib.ListN.{length, getD}
 use Rattle.csl.specs.Lists.{all}
 use Rattle.csl.specs.Bytes.{byte, part, recordEnd}
 use Rattle.csl.specs.Syntax.{Head}
-use Rattle.csl.specs.Decode.{piecesEnd, templatesPlace, mainPlace, readingTypeOk, templateOk, templateHead}
+use Rattle.csl.specs.Decode.{recordsEnd, templatesPlace, mainPlace, readingTypeOk, templateOk, templateHead}
 use Rattle.csl.specs.Decode.{readingPieces, templatePieces, waitEnd}
 
 -- ---- the places of reading type k + 1 and of template k, and their bytes
 abbrev pub readingPlace : List ℕ → ℕ → ℕ
-readingPlace s k = piecesEnd k s 11
+readingPlace s k = recordsEnd k s 11
 
 abbrev pub templatePlace : List ℕ → ℕ → ℕ
-templatePlace s k = piecesEnd k s (templatesPlace s)
+templatePlace s k = recordsEnd k s (templatesPlace s)
 
 abbrev pub pieceAt : List ℕ → ℕ → List ℕ
 pieceAt s a = part s a (recordEnd s a)

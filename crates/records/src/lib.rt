@@ -8,7 +8,7 @@ ghost use Rattle.csl.specs.Lists.{all};
 ghost use Rattle.csl.specs.Bytes as bytes;
 ghost use Rattle.csl.specs.Bytes.{le16, kindNumber};
 ghost use Rattle.csl.specs.Decode as decode;
-ghost use Rattle.csl.specs.Decode.{waitEnd, mainPlace, between, isType, readingTypeOk, templateOk, pieces, piecesEnd, countsOk, listed};
+ghost use Rattle.csl.specs.Decode.{waitEnd, mainPlace, between, isType, readingTypeOk, templateOk, pieces, recordsEnd, countsOk, listed};
 ghost use Rattle.records.specs.Index.{Indexed, readingPlace, templatePlace, pieceAt, headAt, firstClause, recordOk};
 use arith::byte;
 use arith::is_record;
@@ -201,9 +201,9 @@ fn place_records(
     n: usize,
 ) -> usize
     requires { ⌜ (from ≤ length (now agreement)) × (base + n ≤ length (now places)) ⌝ }
-    ensures end { λ r. ⌜ (r ≡ piecesEnd n (now (agreement .entry)) from) × (r ≤ length (now (agreement .entry))) ⌝ }
+    ensures end { λ r. ⌜ (r ≡ recordsEnd n (now (agreement .entry)) from) × (r ≤ length (now (agreement .entry))) ⌝ }
     ensures room { λ r. ⌜ length (now (places .exit)) ≡ length (now (places .entry)) ⌝ }
-    ensures stored { λ r. ⌜ ((k : ℕ) → k < n → getD (now (places .exit)) (base + k) 0 ≡ piecesEnd k (now (agreement .entry)) from) ⌝ }
+    ensures stored { λ r. ⌜ ((k : ℕ) → k < n → getD (now (places .exit)) (base + k) 0 ≡ recordsEnd k (now (agreement .entry)) from) ⌝ }
     ensures others { λ r. ⌜ ((k : ℕ) → k < base → getD (now (places .exit)) k 0 ≡ getD (now (places .entry)) k 0) ⌝ }
 {
     let mut a = from;

@@ -15,7 +15,7 @@ use Rattle.csl.specs.Decode.{decode, sized}
 use Rattle.csl.specs.Typing.{headsIn, isConstant, namesOf, typeClause, typeTemplate, typeTemplates, typed}
 use Rattle.csl.specs.Guards.{guardedFrom, guardedIn}
 use Rattle.csl.specs.Widths.{narrowAll}
-use Rattle.csl.specs.Check.{Checked, accepted, checkDecoded, checkTyped, checked, refused}
+use Rattle.csl.specs.Check.{CheckResult, accepted, checkDecoded, checkTyped, checked, refused}
 use Rattle.csl.specs.Places.{clauseAt, findIn}
 use Rattle.soundness.proofs.Inversion.{T-left, T-right, from-bind, from-need, need-true, some-inj}
 use Rattle.soundness.proofs.Members.{In, all-in, member→in}
@@ -52,12 +52,12 @@ templates-placed ag lo hi (t′ ∷ ts) h f (suc k) t e = templates-placed ag (h
     (h .1) (inr a))) k t e
 
 -- ---- what check gives
-pass : (b : Bool) (n : ℕ) (x : Checked) (a : Agreement) (ms : List ℕ)
+pass : (b : Bool) (n : ℕ) (x : CheckResult) (a : Agreement) (ms : List ℕ)
     → (elim b [ false ↦ refused n | true ↦ x ]) ≡ accepted a ms → T b × (x ≡ accepted a ms)
 pass true n x a ms e = (tt, e)
 pass false n x a ms e = let z : _≡_ {A = ℕ} 0 1 = cc in absurd (omega arith)
 
-have : {A : Type 0} (o : Option A) (n : ℕ) (f : A → Checked) (a : Agreement) (ms : List ℕ)
+have : {A : Type 0} (o : Option A) (n : ℕ) (f : A → CheckResult) (a : Agreement) (ms : List ℕ)
     → (elim o [ none ↦ refused n | some x ↦ f x ]) ≡ accepted a ms → (x : A) × (o ≡ some x) × (f x ≡ accepted a ms)
 have none n f a ms e = let z : _≡_ {A = ℕ} 0 1 = cc in absurd (omega arith)
 have (some x) n f a ms e = (x, refl, e)

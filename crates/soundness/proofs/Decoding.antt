@@ -14,10 +14,10 @@ use lib.Seq.{take-nil}
 use Rattle.csl.specs.Lists.{all, at}
 use Rattle.csl.specs.Bytes.{byte, isRecord, kindNumber, le16, le32, part, recordEnd}
 use Rattle.csl.specs.Syntax.{Agreement, Clause, Expr, Head, Template, badClause, fulfilled}
-use Rattle.csl.specs.Decode.{ClauseKind, Piece, agreementOf, argumentsEnd, between, bodyOf, bodyPlace, choiceKind}
+use Rattle.csl.specs.Decode.{ClauseKind, Piece, agreementOf, recordsEnd, between, bodyOf, bodyPlace, choiceKind}
 use Rattle.csl.specs.Decode.{clause, clauseBody, clauseHead, clauseKind, countsOk, decode, expr, fulfilledKind}
 use Rattle.csl.specs.Decode.{headsOf, ifKind, instanceKind, instanceOf, isType, joinKind, listed, mainOf, mainPlace}
-use Rattle.csl.specs.Decode.{noClause, obligationKind, pieces, piecesEnd, readingPieces, readingTypeOk, templateHead}
+use Rattle.csl.specs.Decode.{noClause, obligationKind, pieces, readingPieces, readingTypeOk, templateHead}
 use Rattle.csl.specs.Decode.{templateOf, templateOk, templatePieces, templatesPlace, waitAt, waitEnd, wellFormed}
 use Rattle.csl.specs.Decode.{whole}
 use Rattle.soundness.proofs.Inversion.{T-left, T-right, both-true, some-inj}
@@ -64,7 +64,7 @@ instance-ranged : (lo hi : ℕ) (e : List ℕ → Expr) (s : List ℕ) (o : Opti
 unfolding instanceOf Ranged
 instance-ranged lo hi e s none h = h
 instance-ranged lo hi e s (some hd) h = either-ranged lo hi
-    (eqb (argumentsEnd (length (hd .values)) s 5 + hd .params) (length s)) _ badClause h h
+    (eqb (recordsEnd (length (hd .values)) s 5 + hd .params) (length s)) _ badClause h h
 
 module _ (hs : List Head) (e : List ℕ → Expr) (inner : ℕ → List ℕ → Clause)
     (io : (q : ℕ) (u : List ℕ) → Ranged q (q + length u) (inner q u)) (p : ℕ) (s : List ℕ) (room : 4 ≤ length s) where
@@ -172,8 +172,8 @@ head-params s t = leb→le (byte s (5 + byte s 4)) 4
     && all isType (part s 5 (5 + byte s 4))) _ t)
 
 templates-ranged : (hs : List Head) (s : List ℕ) (n i : ℕ) → T (all (λ q. templateOk (q .bytes)) (pieces n s i))
-    → i ≤ length s → TRanged i (piecesEnd n s i) (map (templateOf hs) (pieces n s i))
-unfolding pieces piecesEnd all templateOf TRanged
+    → i ≤ length s → TRanged i (recordsEnd n s i) (map (templateOf hs) (pieces n s i))
+unfolding pieces recordsEnd all templateOf TRanged
 templates-ranged hs s zero i t l = omega arith
 templates-ranged hs s (suc n) i t l =
     let q : Piece = record { place = i; bytes = part s i (recordEnd s i) } in (
@@ -184,13 +184,13 @@ templates-ranged hs s (suc n) i t l =
       head-params (part s i (recordEnd s i)) (T-left (templateOk (part s i (recordEnd s i))) _ t),
     )
 
-pieces-within : (s : List ℕ) (n i : ℕ) → i ≤ length s → piecesEnd n s i ≤ length s
-unfolding piecesEnd
+pieces-within : (s : List ℕ) (n i : ℕ) → i ≤ length s → recordsEnd n s i ≤ length s
+unfolding recordsEnd
 pieces-within s zero i l = l
 pieces-within s (suc n) i l = pieces-within s n (recordEnd s i) (end-within s i)
 
-some-within : (s : List ℕ) (n i : ℕ) → 1 ≤ n → piecesEnd n s i ≤ length s
-unfolding piecesEnd
+some-within : (s : List ℕ) (n i : ℕ) → 1 ≤ n → recordsEnd n s i ≤ length s
+unfolding recordsEnd
 some-within s zero i l = absurd (omega arith)
 some-within s (suc n) i l = pieces-within s n (recordEnd s i) (end-within s i)
 

@@ -17,13 +17,14 @@ use Rattle.csl.specs.Numbers.{limit, top, bottom, inRange, Arithmetic}
 use Rattle.csl.specs.Bytes.{byte, signed32, part, isRecord, kindNumber, recordEnd}
 use Rattle.csl.specs.Syntax.{Ty, number, truth, party, Op, arithmetic, conj, less, equal, Expr, numberLit, truthLit}
 use Rattle.csl.specs.Syntax.{partyLit, variable, negation, binary, badExpr}
-use Rattle.csl.specs.Decode.{numberKind, truthKind, partyKind, variableKind, leafKind, arithmeticOf, opOf, exprBody}
+use Rattle.csl.specs.Decode.{numberKind, truthKind, partyKind, variableKind, exprBody}
 use Rattle.csl.specs.Decode.{exprKind, exprHead, noExpr, ofLength, expr, tyOf, tysOf}
 use Rattle.csl.specs.Typing.{typeExpr, sameTy, operand, result}
 use Rattle.arith.proofs.Ints.{by, some-bits, seen, read! }
 use Rattle.arith.proofs.Linear.{ints, parts, up-pos, dn-pos, up-neg, dn-neg}
 use Rattle.arith.proofs.Bytes.{whole-from}
 use Rattle.records.proofs.Trees.{kind-leaf, kind-not, kind-binary, kind-no-expr-low, kind-no-expr-high}
+use Rattle.records.specs.Kinds.{leafKind, opOf, arithmeticOf}
 use Rattle.typing.specs.Types.{byteType, recordKind, tyNumber, typeNumber, sightType, literalType, leafType}
 use Rattle.typing.specs.Types.{notType, operandType, resultType, operationType}
 

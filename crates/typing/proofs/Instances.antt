@@ -14,7 +14,7 @@ use Rattle.csl.specs.Lists.{_>>=_, need, all, at}
 use Rattle.csl.specs.Bytes.{byte, le16, part, recordEnd}
 use Rattle.csl.specs.Parties.{members}
 use Rattle.csl.specs.Syntax.{Ty, Expr, instance, badClause}
-use Rattle.csl.specs.Decode.{tyOf, tysOf, arguments, argumentsEnd, instanceOf, headsOf, templateHead}
+use Rattle.csl.specs.Decode.{tyOf, tysOf, arguments, recordsEnd, instanceOf, headsOf, templateHead}
 use Rattle.csl.specs.Typing.{namesOf, blameOk, typeExpr, haveTypes, typeClause}
 use Rattle.arith.proofs.Lists.{length-part, part-part}
 use Rattle.arith.proofs.Bytes.{record-end-within}
@@ -44,48 +44,48 @@ go false o n = refl
 
 module _ (ps : ℕ) (env : List Ty) (f : List ℕ → Expr) (s : List ℕ) (i : ℕ) where
   pub arguments-none : (vs : List ℕ) → length vs ≡ 0
-      → i ≡ argumentsAs (haveTypes ps env (arguments f (length vs) s i) (tysOf vs)) (argumentsEnd (length vs) s i)
-  unfolding argumentsAs haveTypes arguments argumentsEnd tysOf
+      → i ≡ argumentsAs (haveTypes ps env (arguments f (length vs) s i) (tysOf vs)) (recordsEnd (length vs) s i)
+  unfolding argumentsAs haveTypes arguments recordsEnd tysOf
   arguments-none [] h = refl
   arguments-none (v ∷ vs) h = absurd (omega arith)
 
   -- the first is checked, and then the others
   first-checked : (v : ℕ) (vs : List ℕ) → argumentsAs
-      (haveTypes ps env (arguments f (length (v ∷ vs)) s i) (tysOf (v ∷ vs))) (argumentsEnd (length (v ∷ vs)) s i)
+      (haveTypes ps env (arguments f (length (v ∷ vs)) s i) (tysOf (v ∷ vs))) (recordsEnd (length (v ∷ vs)) s i)
       ≡ cond (eqb (typeNumber (typeExpr ps env (f (part s i (recordEnd s i))))) (byteType v))
       (argumentsAs (haveTypes ps env (arguments f (length vs) s (recordEnd s i)) (tysOf vs))
-      (argumentsEnd (length vs) s (recordEnd s i))) 0
-  unfolding haveTypes arguments argumentsEnd tysOf isTyped
+      (recordsEnd (length vs) s (recordEnd s i))) 0
+  unfolding haveTypes arguments recordsEnd tysOf isTyped
   first-checked v vs =
       let x = f (part s i (recordEnd s i)) in
       let o = haveTypes ps env (arguments f (length vs) s (recordEnd s i)) (tysOf vs) in
-      let n = argumentsEnd (length vs) s (recordEnd s i) in
+      let n = recordsEnd (length vs) s (recordEnd s i) in
       rw (has-is ps env x (tyOf v), byte-type v) (go (eqb (typeNumber (typeExpr ps env x)) (tyNumber (tyOf v))) o n)
 
   by-cases : (vs : List ℕ) → (length vs ≡ 0 → ⊥)
-      → argumentsAs (haveTypes ps env (arguments f (length vs) s i) (tysOf vs)) (argumentsEnd (length vs) s i)
+      → argumentsAs (haveTypes ps env (arguments f (length vs) s i) (tysOf vs)) (recordsEnd (length vs) s i)
       ≡ cond (eqb (typeNumber (typeExpr ps env (f (part s i (recordEnd s i))))) (byteType (getD vs 0 0)))
       (argumentsAs (haveTypes ps env (arguments f (length (part vs 1 (length vs))) s (recordEnd s i))
-      (tysOf (part vs 1 (length vs)))) (argumentsEnd (length (part vs 1 (length vs))) s (recordEnd s i))) 0
+      (tysOf (part vs 1 (length vs)))) (recordsEnd (length (part vs 1 (length vs))) s (recordEnd s i))) 0
   by-cases [] h = absurd (h refl)
   by-cases (v ∷ vs) h = rw (rest-is v vs) (first-checked v vs)
 
   module _ (vs : List ℕ) {x y e : ℕ} (h : length vs ≡ 0 → ⊥) (p : e ≡ recordEnd s i)
       (q : x ≡ typeNumber (typeExpr ps env (f (part s i e)))) (r : y ≡ byteType (getD vs 0 0)) where
     unfolded : argumentsAs (haveTypes ps env (arguments f (length vs) s i) (tysOf vs))
-        (argumentsEnd (length vs) s i) ≡ cond (eqb x y)
+        (recordsEnd (length vs) s i) ≡ cond (eqb x y)
         (argumentsAs (haveTypes ps env (arguments f (length (part vs 1 (length vs))) s e)
-        (tysOf (part vs 1 (length vs)))) (argumentsEnd (length (part vs 1 (length vs))) s e)) 0
+        (tysOf (part vs 1 (length vs)))) (recordsEnd (length (part vs 1 (length vs))) s e)) 0
     unfolded = rw (q, r, p) (by-cases vs h)
 
     pub arguments-other : (x ≡ y → ⊥) → 0 ≡ argumentsAs (haveTypes ps env (arguments f (length vs) s i) (tysOf vs))
-        (argumentsEnd (length vs) s i)
+        (recordsEnd (length vs) s i)
     arguments-other n = sym (unfolded ∙ rw (ne-eqb x y n))
 
     pub arguments-more : {z : ℕ} → x ≡ y → z ≡ argumentsAs
         (haveTypes ps env (arguments f (length (part vs 1 (length vs))) s e) (tysOf (part vs 1 (length vs))))
-        (argumentsEnd (length (part vs 1 (length vs))) s e)
-        → z ≡ argumentsAs (haveTypes ps env (arguments f (length vs) s i) (tysOf vs)) (argumentsEnd (length vs) s i)
+        (recordsEnd (length (part vs 1 (length vs))) s e)
+        → z ≡ argumentsAs (haveTypes ps env (arguments f (length vs) s i) (tysOf vs)) (recordsEnd (length vs) s i)
     arguments-more n t = t ∙ sym (unfolded ∙ rw (eq-eqb x y n))
 
 pub ruleset args = (rest-less, arguments-none, arguments-other, arguments-more)
@@ -155,13 +155,13 @@ module _ {places g : List ℕ} (x : Indexed places g) {k a n : ℕ} (l : k < byt
 
   pub arguments-template : (env : List Ty) (f : List ℕ → Expr) (s : List ℕ) {ps r : ℕ} → ps ≡ byte g 8
       → r ≡ argumentsAs (haveTypes ps env (arguments f (length (part g (a + 5) (a + 5 + n))) s 5)
-      (tysOf (part g (a + 5) (a + 5 + n)))) (argumentsEnd (length (part g (a + 5) (a + 5 + n))) s 5)
+      (tysOf (part g (a + 5) (a + 5 + n)))) (recordsEnd (length (part g (a + 5) (a + 5 + n))) s 5)
       → r ≡ argumentsOf (headAt g k) (byte g 8) env f s
   arguments-template env f s h e = rw (values-part, tys-length (part g (a + 5) (a + 5 + n)), ← h) e
 
 -- ---- an instance
-arguments-from : (n : ℕ) (s : List ℕ) (i : ℕ) → 4 ≤ length s → 4 ≤ i → 4 ≤ argumentsEnd n s i
-unfolding argumentsEnd
+arguments-from : (n : ℕ) (s : List ℕ) (i : ℕ) → 4 ≤ length s → 4 ≤ i → 4 ≤ recordsEnd n s i
+unfolding recordsEnd
 arguments-from zero s i l m = m
 arguments-from (suc n) s i l m = arguments-from n s (recordEnd s i) l (omega (arith, end-from s i))
 
@@ -181,7 +181,7 @@ as-end none i e h = absurd (h e)
 as-end (some u) i e h = e
 
 abbrev endOf : List ℕ → ℕ → List ℕ → ℕ
-endOf g k s = argumentsEnd (length (headAt g k .values)) s 5
+endOf g k s = recordsEnd (length (headAt g k .values)) s 5
 
 abbrev hasArguments : List ℕ → ℕ → List Ty → (List ℕ → Expr) → List ℕ → Option (Unit {0})
 hasArguments g k env f s = haveTypes (byte g 8) env (arguments f (length (headAt g k .values)) s 5) (headAt g k .values)

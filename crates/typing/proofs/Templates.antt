@@ -12,7 +12,7 @@ use Rattle.csl.specs.Lists.{_>>=_, need, all}
 use Rattle.csl.specs.Bytes.{byte, le16, part, recordEnd}
 use Rattle.csl.specs.Parties.{member, members}
 use Rattle.csl.specs.Syntax.{Ty}
-use Rattle.csl.specs.Decode.{tysOf, templatesPlace, clause, pieces, piecesEnd, headsOf, bodyPlace, bodyOf, templateOf}
+use Rattle.csl.specs.Decode.{tysOf, templatesPlace, clause, pieces, recordsEnd, headsOf, bodyPlace, bodyOf, templateOf}
 use Rattle.csl.specs.Decode.{templateHead, mainPlace, mainOf, templatePieces, agreementOf}
 use Rattle.csl.specs.Typing.{Names, namesOf, isConstant, typeClause, typeTemplate, typeTemplates, headsIn}
 use Rattle.csl.specs.Typing as typing
@@ -172,7 +172,7 @@ then-some (some u) p e = refl
 
 templates-are : (g : List ℕ) → agreementOf g .templates ≡ map (templateOf (headsOf g))
     (pieces (byte g 10 - 0) g (templatePlace g 0))
-unfolding agreementOf templatePieces piecesEnd
+unfolding agreementOf templatePieces recordsEnd
 templates-are g = let z : byte g 10 - 0 ≡ byte g 10 = omega arith in rw z
 
 all-templates : (g : List ℕ) → typeTemplates (agreementOf g .parties) (agreementOf g .readings)

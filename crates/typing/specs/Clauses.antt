@@ -11,7 +11,7 @@ use lib.ListN.{length, take}
 use Rattle.csl.specs.Lists.{_>>=_, need, all}
 use Rattle.csl.specs.Bytes.{byte, part, recordEnd}
 use Rattle.csl.specs.Syntax.{Ty, number, truth, Expr, Wait, Head}
-use Rattle.csl.specs.Decode.{tysOf, waitAt, arguments, argumentsEnd, Piece, pieces, headsOf, bodyOf, templateOf}
+use Rattle.csl.specs.Decode.{tysOf, waitAt, arguments, recordsEnd, Piece, pieces, headsOf, bodyOf, templateOf}
 use Rattle.csl.specs.Decode.{agreementOf}
 use Rattle.csl.specs.Typing.{Names, blameOk, typeExpr, hasType, haveTypes, readingOfType, thenSight, typeWait}
 use Rattle.csl.specs.Typing.{typeClause, typeTemplate, typeTemplates, namesOf}
@@ -92,7 +92,7 @@ argumentsAs (some _) i = i
 abbrev pub argumentsOf : Head → ℕ → List Ty → (List ℕ → Expr) → List ℕ → ℕ
 argumentsOf h ps env e s =
     let n = length (h .values) in
-    argumentsAs (haveTypes ps env (arguments e n s 5) (h .values)) (argumentsEnd n s 5)
+    argumentsAs (haveTypes ps env (arguments e n s 5) (h .values)) (recordsEnd n s 5)
 
 unfoldable pub blamesOf : ℕ → ℕ → List ℕ → Option (List ℕ)
 blamesOf ps params bs = need (all (mayBlame ps params) bs) >>= λ _. some bs

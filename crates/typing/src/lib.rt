@@ -8,7 +8,7 @@ ghost use Rattle.csl.specs.Lists.{at};
 ghost use Rattle.csl.specs.Numbers.{inRange};
 ghost use Rattle.csl.specs.Bytes as bytes;
 ghost use Rattle.csl.specs.Bytes.{part};
-ghost use Rattle.csl.specs.Decode.{expr, tysOf, waitAt, agreementOf, arguments, argumentsEnd, instanceOf, headsOf, clause};
+ghost use Rattle.csl.specs.Decode.{expr, tysOf, waitAt, agreementOf, arguments, recordsEnd, instanceOf, headsOf, clause};
 ghost use Rattle.csl.specs.Typing as typing;
 ghost use Rattle.csl.specs.Typing.{typeExpr, haveTypes, typeClause, namesOf};
 ghost use Rattle.typing.specs.Types.{byteType, typeNumber, sightType, recordKind, literalType, leafType, notType, operandType, resultType, operationType};
@@ -370,7 +370,7 @@ fn arguments_end(
     parties: usize,
     depth: usize,
 ) -> usize
-    ensures { λ r. ⌜ r ≡ argumentsAs (haveTypes parties (tysOf (now (types .entry))) (arguments (expr depth) (length (now (values .entry))) (now (s .entry)) i) (tysOf (now (values .entry)))) (argumentsEnd (length (now (values .entry))) (now (s .entry)) i) ⌝ }
+    ensures { λ r. ⌜ r ≡ argumentsAs (haveTypes parties (tysOf (now (types .entry))) (arguments (expr depth) (length (now (values .entry))) (now (s .entry)) i) (tysOf (now (values .entry)))) (recordsEnd (length (now (values .entry))) (now (s .entry)) i) ⌝ }
 {
     if values.len() == 0 {
         return i;

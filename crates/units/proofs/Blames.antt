@@ -18,7 +18,7 @@ use Rattle.csl.specs.Lists.{all, at}
 use Rattle.csl.specs.Bytes.{byte, le16, part, isRecord, kindNumber, recordEnd}
 use Rattle.csl.specs.Parties.{member, members, bitsOf}
 use Rattle.csl.specs.Syntax.{Ty, truth, Clause, fulfilled, obligation, choice, if, join, instance, badClause, Head}
-use Rattle.csl.specs.Decode.{expr, wholeExpr, wholeWait, whole, waitAt, joinOf, argumentsEnd, arguments, instanceOf}
+use Rattle.csl.specs.Decode.{expr, wholeExpr, wholeWait, whole, waitAt, joinOf, recordsEnd, arguments, instanceOf}
 use Rattle.csl.specs.Decode.{templateHead, clauseKind, clauseBody, clause, headsOf}
 use Rattle.csl.specs.Typing.{Names, blameOk, hasType, haveTypes, joinOk, thenSight, typeWait, typeClause}
 use Rattle.csl.specs.Rules.{blamed}
@@ -296,15 +296,15 @@ named A d p s t e =
     (headsOf A) d p s (deep A d p s t) refl (is-record A d p s t) refl (rw (kind-instance {k = kindNumber s} e)) in
     go (decLe (byte A 10) (byte s 4)) o (subst (λ (c : Clause). T (whole c)) (sym o) t)
   where
-    sized : (h : Head) (b : Bool) → eqb (argumentsEnd (length (h .values)) s 5 + h .params) (length s) ≡ b
+    sized : (h : Head) (b : Bool) → eqb (recordsEnd (length (h .values)) s 5 + h .params) (length s) ≡ b
         → at (headsOf A) (byte s 4) ≡ some h → h ≡ headAt A (byte s 4) → byte s 4 < byte A 10
         → cond b (instance (byte s 4) (arguments (expr (d - 1)) (length (h .values)) s 5)
-        (part s (argumentsEnd (length (h .values)) s 5) (length s))) badClause ≡ clauseIn A d p s
+        (part s (recordsEnd (length (h .values)) s 5) (length s))) badClause ≡ clauseIn A d p s
         → T (whole (cond b (instance (byte s 4) (arguments (expr (d - 1)) (length (h .values)) s 5)
-        (part s (argumentsEnd (length (h .values)) s 5) (length s))) badClause))
+        (part s (recordsEnd (length (h .values)) s 5) (length s))) badClause))
         → Named A s (blamesOf (headsOf A) (clauseIn A d p s))
     sized h true q a same l o u =
-        let i = argumentsEnd (length (h .values)) s 5 in
+        let i = recordsEnd (length (h .values)) s 5 in
         let z : i + h .params ≡ length s = eqb→eq (i + h .params) (length s) (subst T (sym q) tt) in
         let n : h .params ≡ headAt A (byte s 4) .params = ap (λ (y : Head). y .params) same in
         let c : i ≡ length s - headAt A (byte s 4) .params = omega arith in
@@ -319,7 +319,7 @@ named A d p s t e =
     go (no l) o u =
         let a = heads-at A (byte s 4) (omega arith) in
         let h = headAt A (byte s 4) in
-        sized h (eqb (argumentsEnd (length (h .values)) s 5 + h .params) (length s)) refl a refl (omega arith)
+        sized h (eqb (recordsEnd (length (h .values)) s 5 + h .params) (length s)) refl a refl (omega arith)
         (subst (λ (y : Option Head). instanceOf (expr (d - 1)) s y ≡ clauseIn A d p s) a o)
         (subst (λ (y : Option Head). T (whole (instanceOf (expr (d - 1)) s y))) a u)
 

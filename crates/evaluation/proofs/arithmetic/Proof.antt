@@ -1,7 +1,7 @@
 -- One kind, one operator, each held at both ends.
+use Rattle.records.specs.Kinds.{arithmeticOf}
 use borrow.Author.Needs.{needs}
 use Rattle.arith.proofs.Conds.{keys}
-use Rattle.csl.specs.Decode.{arithmeticOf}
 use Rattle.evaluation.proofs.Evaluates.{as-arithmetic}
 use Rattle.evaluation.proofs.arithmetic.Statement.{statement}
 use Rattle.evaluation.proofs.arithmetic.Tie as tie

@@ -3,7 +3,7 @@ use borrow.Author.Needs.{needs}
 use mathlib.Core.Path.{_∙_, ap}
 use Rattle.arith.proofs.Conds.{keys}
 use Rattle.csl.specs.Syntax.{conj, less, equal, arithmetic}
-use Rattle.csl.specs.Decode.{opOf, arithmeticOf}
+use Rattle.records.specs.Kinds.{opOf, arithmeticOf}
 use Rattle.cells.specs.Evaluate.{applyCells, truthCell}
 use Rattle.evaluation.proofs.Evaluates.{as-op}
 use Rattle.evaluation.proofs.operate.Statement.{statement}

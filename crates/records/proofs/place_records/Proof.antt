@@ -5,7 +5,7 @@ use Prim.Native.Nat.{ℕ, _+_, _≤_, _<_, _-_}
 use native.Mathlib.Omega.{arith}
 use lib.ListN.{length, getD, length-set}
 use Rattle.csl.specs.Bytes.{recordEnd}
-use Rattle.csl.specs.Decode.{piecesEnd}
+use Rattle.csl.specs.Decode.{recordsEnd}
 use borrow.Author.Count.{below-none}
 use Rattle.records.proofs.Index.{pieces-within, pieces-more, pieces-none}
 use Rattle.records.proofs.Listed.{stored-more, others-more}
@@ -14,7 +14,7 @@ use Rattle.records.proofs.place_records.Tie as tie
 
 abbrev Inv-loop : tie.InvT-loop
 Inv-loop agreement places₀ base from n a₀ i₀ places a i = (i ≤ n) × (length places ≡ length places₀)
-    × (a ≡ piecesEnd i agreement from) × ((k : ℕ) → k < i → getD places (base + k) 0 ≡ piecesEnd k agreement from)
+    × (a ≡ recordsEnd i agreement from) × ((k : ℕ) → k < i → getD places (base + k) 0 ≡ recordsEnd k agreement from)
     × ((k : ℕ) → k < base → getD places k 0 ≡ getD places₀ k 0)
 
 abbrev μ-loop : tie.MeasureT-loop
@@ -41,7 +41,7 @@ loop-again c =
       omega arith,
       kept,
       e,
-      stored-more (l .places) (b .base) (l .i) (l .a) (λ k. piecesEnd k s (b .from))
+      stored-more (l .places) (b .base) (l .i) (l .a) (λ k. recordsEnd k s (b .from))
           (omega arith) (l .inv .2) (l .inv .3),
       others-more (l .places) (b .base) (l .i) (l .a) (b .places .now)
           (l .inv .4),
@@ -57,7 +57,7 @@ returns : tie.Need-returns Inv-loop μ-loop
 returns c =
     let at-start = c .before .before .before .before in
     let l = c .before .loop in let b = at-start .args in let s = b .agreement .now in let all : l .i ≡ b .n = omega
-    arith in let e = l .inv .2 ∙ ap (λ k. piecesEnd k s (b .from)) all in (
+    arith in let e = l .inv .2 ∙ ap (λ k. recordsEnd k s (b .from)) all in (
       (e, omega (arith, e, pieces-within (b .n) s (b .from) (at-start .pre .0))),
       (l .inv .1, ((λ k m. l .inv .3 k (omega arith)), l .inv .4)),
     )

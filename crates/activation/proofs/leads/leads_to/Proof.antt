@@ -10,7 +10,7 @@ use Rattle.activation.proofs.leads.leads_to.Tie as tie
 
 chosen-requires : tie.Need-chosen-requires
 chosen-requires c κs =
-    let s = c .before .before .before .before .before in let l = room (s .args .s .now) (sym (s .pre .1 .whole))
+    let s = c .before .before .before .before .before in let l = room (s .args .s .now) (sym (s .pre .1 .isWhole))
     refl in (l, s .pre .1 .deep)
 
 returns : tie.Need-returns
@@ -64,10 +64,10 @@ returns-4 c =
 pub leads-to-spec : {M : Type 1} → statement M
 leads-to-spec = tie.close (tie.spec (λ c κs. search needs)
     (λ c κs. let s = c .before .before .before .before .before .before in let r = s .pre .0 in
-    let l = room (s .args .s .now) (sym (s .pre .1 .whole)) refl in
+    let l = room (s .args .s .now) (sym (s .pre .1 .isWhole)) refl in
     (l, s .pre .1 .deep, omega (arith, r .dated), omega (arith, r .soon), r .values, r .reading, s .pre .2))
     (λ c κs. let s = c .before .before .before .before .before .before in let r = s .pre .0 in
-    let l = room (s .args .s .now) (sym (s .pre .1 .whole)) refl in
+    let l = room (s .args .s .now) (sym (s .pre .1 .isWhole)) refl in
     (l, s .pre .1 .deep, omega (arith, r .dated), omega (arith, r .soon), r .values, r .reading, s .pre .2))
     chosen-requires (λ c. let s = c .before .before .before .before .before in s .pre .1 .deep) (λ c κs. search needs)
     (λ c. search needs) returns (λ c. search needs) returns-2 returns-3 (λ c. search needs) returns-4)
