@@ -256,7 +256,7 @@ fn step(
             table[1] = event.time as i64;
             Taken::Accepted
         }
-        State::Breached(_, _) => Taken::Accepted,
+        State::Breached { time: _, parties: _ } => Taken::Accepted,
     }
 }
 
@@ -267,7 +267,7 @@ fn is_damaged(state: State) -> bool
         State::Damaged => true,
         State::Running(_) => false,
         State::Fulfilled => false,
-        State::Breached(_, _) => false,
+        State::Breached { time: _, parties: _ } => false,
     }
 }
 
@@ -291,7 +291,11 @@ fn read_on(
     match readings::take(agreement, places, reading, &mut values) {
         Fitting::Malformed => Taken::Refused(Refusal::ReadingForm),
         Fitting::Untyped => Taken::Refused(Refusal::ReadingTyping),
-        Fitting::Fits(time, sort, n) => {
+        Fitting::Fits {
+            time,
+            reading_type,
+            count,
+        } => {
             let last = table[1];
             if less(time as i64, last) {
                 return Taken::Refused(Refusal::ReadingTime);
@@ -299,9 +303,9 @@ fn read_on(
             let event = Event {
                 step: Step::Follow,
                 time: time,
-                sort: sort,
+                sort: reading_type,
             };
-            let rs = &values[..n];
+            let rs = &values[..count];
             step(agreement, places, state, sights, table, event, rs)
         }
     }
@@ -389,7 +393,7 @@ fn foretell(
         State::Damaged => Foretold::Refused(Refusal::TableContent),
         State::Running(used) => breach_ahead(agreement, places, sights, table, used),
         State::Fulfilled => Foretold::Nothing,
-        State::Breached(t, b) => {
+        State::Breached { time: t, parties: b } => {
             let time = minutes(t);
             Foretold::Breach { time, parties: b }
         }

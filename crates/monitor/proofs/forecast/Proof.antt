@@ -16,7 +16,7 @@ state-of-requires c κs =
     let at-parties = c .before .before .before .before in
     let at-verify = at-parties .before .before .before in
     let g = state-asked _ _ (at-verify .verify .ensures) (at-parties .parties .given .1) in
-    (g .0, g .1, g .2, c .before .before .if1 .left, omega arith)
+    (record { indexed = g .0; isAccepted = g .1; areMains = g .2 }, c .before .before .if1 .left, omega arith)
 
 foretell-requires : tie.Need-foretell-requires
 foretell-requires c κs =

@@ -15,7 +15,7 @@ state-of-requires c κs =
     let at-if1 = c .before .before .before in
     let at-verify = at-if1 .before .before .before .before .before in
     let g = state-asked _ _ (at-verify .verify .ensures) (at-if1 .before .before .parties .given .1) in
-    (g .0, g .1, g .2, at-if1 .if1 .left, omega arith)
+    (record { indexed = g .0; isAccepted = g .1; areMains = g .2 }, at-if1 .if1 .left, omega arith)
 
 read-on-requires : tie.Need-read-on-requires
 read-on-requires c κs = (search (opened, needs), search needs)
