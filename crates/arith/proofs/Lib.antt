@@ -5,3 +5,4 @@ pub mod Numbers
 pub mod Lists
 pub mod Bytes
 pub mod Conds
+mod Values

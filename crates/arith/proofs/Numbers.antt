@@ -27,7 +27,7 @@ held-fits h = small (omega arith)
 -- ---- `omega sizes` shows `Within n (seen z)`, from what is known of the sizes of numbers and of what the machine
 -- reads back
 pub within-goal : (n : ℕ) (z : ℤ) → natAbs z ≤ n → Within n z
-within-goal n z h = record { within = le→leb (natAbs z) n h }
+within-goal n z h = record { near = le→leb (natAbs z) n h }
 
 pub seen-goal : (n : ℕ) (z : ℤ) → natAbs z ≤ n → Within n (seen z)
 seen-goal n z h = within-goal n (seen z) (omega (arith, abs-seen z))
@@ -37,7 +37,7 @@ pub test-fact : (a n : ℕ) → T (leb a n) → a ≤ n
 test-fact a n t = leb→le a n t
 
 pub within-seen : {n : ℕ} {z : ℤ} → Within n z → natAbs (seen z) ≤ n
-within-seen {n} {z} h = omega (arith, leb→le (natAbs z) n (h .within), abs-seen z)
+within-seen {n} {z} h = omega (arith, leb→le (natAbs z) n (h .near), abs-seen z)
 
 pub held-seen : {z : ℤ} → Held z → natAbs (seen z) ≤ limit
 held-seen {z} h = omega (arith, abs-seen z)

@@ -1,23 +1,30 @@
-// Arithmetic on the language's numbers, and integers read out of bytes.
+// Arithmetic on the language's numbers, numbers as values of a type, and integers read out of bytes.
 ghost use mathlib.Core.Path.{_≡_};
 ghost use Prim.Native.Nat.{ℕ, _+_, _≤_, _<_, min, max};
 ghost use lib.IntN.{pos, natAbs, _+ℤ_, _-ℤ_};
 ghost use lib.Signed.{ltZ};
 ghost use lib.ListN.{length};
 ghost use Rattle.csl.specs.Numbers as numbers;
-ghost use Rattle.csl.specs.Numbers.{Held, calculate, plus, minus, times, quot, eqZ, laterOf};
+ghost use Rattle.csl.specs.Numbers.{Held, calculate, plus, minus, times, quot, eqZ, inRange, laterOf};
 ghost use Rattle.arith.specs.Within.{Within, far};
+ghost use Rattle.arith.specs.Values.{valueOk, valuesOk};
+ghost use Rattle.csl.specs.Decode.{tyOf, tysOf};
 ghost use Rattle.csl.specs.Bytes as bytes;
 ghost use Rattle.csl.specs.Bytes.{le16, le32, isRecord, kindNumber, recordEnd};
+
+// The ends of the language's numbers.
+const BOTTOM: i64 = -1_000_000_000;
+
+const TOP: i64 = 1_000_000_000;
 
 // x, or the end of the range that it is beyond.
 pub fn held(x: i64) -> i64
     ensures { λ r. ⌜ (r ≡ numbers.held x) × Held r ⌝ }
 {
-    if x > 1_000_000_000 {
-        1_000_000_000
-    } else if x < -1_000_000_000 {
-        -1_000_000_000
+    if x > TOP {
+        TOP
+    } else if x < BOTTOM {
+        BOTTOM
     } else {
         x
     }
@@ -85,6 +92,42 @@ pub fn later(time: i64, last: i64) -> i64
     ensures { λ r. ⌜ ((n : ℕ) → time ≡ pos n → r ≡ pos (laterOf n last)) × Within (max (natAbs time) (natAbs last)) r ⌝ }
 {
     if time < last { last } else { time }
+}
+
+// x is one of the language's numbers.
+pub fn in_range(x: i64) -> bool
+    ensures { λ r. ⌜ r ≡ inRange x ⌝ }
+{
+    BOTTOM <= x && x <= TOP
+}
+
+// The value is of the type with this number, in its range.
+pub fn value_ok(ty: usize, value: i64, parties: usize) -> bool
+    ensures { λ r. ⌜ r ≡ valueOk parties (tyOf ty) value ⌝ }
+{
+    if ty == 1 {
+        return in_range(value);
+    }
+    if value < 0 {
+        return false;
+    }
+    let n = value as usize;
+    if ty == 2 { n < 2 } else { n < parties }
+}
+
+// Each value is of its type; those behind them do not matter.
+pub fn values_ok(types: &[u8], values: &[i64], parties: usize) -> bool
+    requires { ⌜ length (now types) ≤ length (now values) ⌝ }
+    ensures { λ r. ⌜ r ≡ valuesOk parties (tysOf (now (types .entry))) (now (values .entry)) ⌝ }
+{
+    let mut i = 0;
+    while i < types.len() {
+        if !value_ok(byte(types, i), values[i], parties) {
+            return false;
+        }
+        i += 1;
+    }
+    true
 }
 
 // What is read out of bytes is a usize, as places and lengths are.

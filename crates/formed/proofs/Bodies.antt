@@ -1,5 +1,5 @@
 -- Whether the main clause of an agreement and the bodies of its templates are whole.
-use mathlib.Core.Path.{_≡_, sym, _∙_}
+use mathlib.Core.Path.{_≡_, sym, ap, _∙_}
 use mathlib.Core.Bool.{Bool, true, false, _&&_}
 use mathlib.Core.List.{List}
 use Prim.Native.Nat.{ℕ, suc, _+_, _-_, _≤_, _<_}
@@ -11,24 +11,17 @@ use Rattle.csl.specs.Lists.{all}
 use Rattle.csl.specs.Bytes.{byte, part, recordEnd}
 use Rattle.csl.specs.Decode.{Piece, pieces, recordsEnd, templatesPlace, templatePieces, bodyPlace, bodyOf, mainPlace}
 use Rattle.csl.specs.Decode.{mainOf, clause, whole, headsOf, listed, wellFormed}
-use Rattle.records.specs.Index.{Indexed, templatePlace, pieceAt}
-use Rattle.records.proofs.Index.{piece, part-piece, pieces-more, pieces-none, template-facts}
+use Rattle.records.specs.Index.{templatePlace, templatePiece, Spans}
+use Rattle.records.proofs.Index.{piece, pieces-more, pieces-none, body-is}
+use Rattle.formed.specs.Tests.{bodiesWhole}
 use Rattle.formed.proofs.Exprs.{both-on, both-off}
 use Rattle.formed.proofs.Clauses.{whole-place}
 
--- ---- the body of template k; a, e and n are what calls gave
-module _ {places s : List ℕ} {k a e n : ℕ} (x : Indexed places s × (k < byte s 10)) (p : a ≡ templatePlace s k)
-    (q : e ≡ recordEnd s a) (h : n ≡ byte (pieceAt s (templatePlace s k)) 4) where
-  pub body-room : 8 + n ≤ length (part s a e)
-  body-room = rw (part-piece s p q, h) (template-facts (x .0) k (x .1) .long)
-
-  pub body-is : {r : Bool} → r ≡ whole (clause (headsOf s) 22 0 (part (part s a e) (8 + n) (length (part s a e))))
-      → r ≡ whole (bodyOf (headsOf s) (piece s (templatePlace s k)))
-  unfolding bodyOf bodyPlace
-  body-is g =
-      let t = pieceAt s (templatePlace s k) in
-      g ∙ rw (part-piece s p q, h) (whole-place (headsOf s) 22 0 (templatePlace s k + (8 + byte t 4))
-      (part t (8 + byte t 4) (length t)))
+-- ---- the body of template k; from and to are what a call gave
+pub body-whole : {s : List ℕ} {k from to : ℕ} {r : Bool} → Spans s k from to
+    → r ≡ whole (clause (headsOf s) 22 0 (part s from to)) → r ≡ whole (bodyOf (headsOf s) (templatePiece s k))
+body-whole {s} {k} {from} {to} b g =
+    g ∙ whole-place (headsOf s) 22 0 from (part s from to) ∙ ap whole (sym (body-is b (headsOf s)))
 
 -- ---- all of n records one after another, from record k on
 module _ (p : Piece → Bool) (n : ℕ) (s : List ℕ) (i : ℕ) where
@@ -51,28 +44,25 @@ module _ (s : List ℕ) where
   abbrev formed : Piece → Bool
   formed q = whole (bodyOf (headsOf s) q)
 
-  abbrev pub Bodies : Bool
-  Bodies = all formed (templatePieces s)
-
   abbrev pub Left : ℕ → Bool
   Left k = from formed (byte s 10) s (templatesPlace s) k
 
-  pub left-start : Bodies ≡ Left 0
+  pub left-start : bodiesWhole s ≡ Left 0
   unfolding templatePieces
   left-start = from-start formed (byte s 10) s (templatesPlace s)
 
-  module _ (k : ℕ) {n : ℕ} (h : Bodies ≡ Left k) (e : n ≡ byte s 10) where
-    pub left-end : n ≤ k → true ≡ Bodies
+  module _ (k : ℕ) {n : ℕ} (h : bodiesWhole s ≡ Left k) (e : n ≡ byte s 10) where
+    pub left-end : n ≤ k → true ≡ bodiesWhole s
     left-end l = from-end formed (byte s 10) s (templatesPlace s) k (omega arith) ∙ sym h
 
     module _ {x : Bool} (l : k < n) (g : x ≡ formed (piece s (templatePlace s k))) where
-      next : Bodies ≡ (x && Left (k + 1))
+      next : bodiesWhole s ≡ (x && Left (k + 1))
       next = h ∙ rw g (from-next formed (byte s 10) s (templatesPlace s) k (omega arith))
 
-      pub left-on : x ≡ true → Bodies ≡ Left (k + 1)
+      pub left-on : x ≡ true → bodiesWhole s ≡ Left (k + 1)
       left-on t = next ∙ rw t
 
-      pub left-off : x ≡ false → false ≡ Bodies
+      pub left-off : x ≡ false → false ≡ bodiesWhole s
       left-off t = sym (next ∙ rw t)
 
 pub ruleset bodies = (left-start, left-end, left-on, left-off, not-true, not-false, needs)
@@ -91,6 +81,6 @@ module _ (s : List ℕ) {x r : Bool} (p : x ≡ listed s) where
   unfolding wellFormed
   not-listed e h = h ∙ rw (sym p ∙ e)
 
-  pub is-listed : x ≡ true → r ≡ (whole (mainOf s) && Bodies s) → r ≡ wellFormed s
+  pub is-listed : x ≡ true → r ≡ (whole (mainOf s) && bodiesWhole s) → r ≡ wellFormed s
   unfolding wellFormed
   is-listed e h = h ∙ rw (sym p ∙ e)

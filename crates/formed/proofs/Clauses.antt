@@ -21,8 +21,8 @@ use Rattle.records.specs.Index.{headAt, firstClause}
 use Rattle.records.proofs.Trees.{clause-zero, clause-none, clause-at, clause-wait, clause-two, sided, kind-fulfilled}
 use Rattle.records.proofs.Trees.{kind-instance, kind-no-clause-low, kind-no-clause-from}
 use Rattle.records.proofs.Index.{heads-at, heads-past}
-use Rattle.formed.specs.Tests.{testsWhole}
-use Rattle.formed.proofs.Exprs.{walking, both-within, nothing, Arguments}
+use Rattle.formed.specs.Tests.{testsWhole, argumentsWhole}
+use Rattle.formed.proofs.Exprs.{walking, both-within, nothing}
 
 -- ---- where a clause stands does not matter
 module _ (hs : List Head) where
@@ -136,13 +136,14 @@ counted true k es bs = and-true (all wholeExpr es)
 counted false k es bs = and-false (all wholeExpr es)
 
 module _ (d : ℕ) (s : List ℕ) where
-  instance-is : (h : Head) → Arguments d s 5 (length (h .values)) (h .params) ≡ whole (instanceOf (expr d) s (some h))
+  instance-is : (h : Head)
+      → argumentsWhole d s 5 (length (h .values)) (h .params) ≡ whole (instanceOf (expr d) s (some h))
   unfolding instanceOf
   instance-is h = let i = recordsEnd (length (h .values)) s 5 in
       counted (eqb (i + h .params) (length s)) (byte s 4) (arguments (expr d) (length (h .values)) s 5)
       (part s i (length s))
 
-  arguments-short : (n m : ℕ) → length s < 5 → false ≡ Arguments d s 5 n m
+  arguments-short : (n m : ℕ) → length s < 5 → false ≡ argumentsWhole d s 5 n m
   unfolding all arguments recordsEnd
   arguments-short zero m l = rw (ne-eqb (5 + m) (length s) (λ e. omega arith))
   arguments-short (suc n) m l =
@@ -165,7 +166,7 @@ module _ (d : ℕ) (a s : List ℕ) where
   instance-unnamed p q l = rw (heads-past a (byte s 4) (omega arith))
 
   pub instance-named : {r : Bool} {k t n m : ℕ} → k ≡ byte s 4 → t ≡ byte a 10 → k < t
-      → n ≡ length (headAt a k .values) → m ≡ headAt a k .params → r ≡ Arguments d s 5 n m
+      → n ≡ length (headAt a k .values) → m ≡ headAt a k .params → r ≡ argumentsWhole d s 5 n m
       → r ≡ whole (instanceOf (expr d) s (at (headsOf a) (byte s 4)))
   instance-named {k = k} p q l i j h = h ∙ rw (i, j, ← p, heads-at a k (omega arith)) (instance-is d s (headAt a k))
 

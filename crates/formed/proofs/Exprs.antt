@@ -14,6 +14,7 @@ use Rattle.csl.specs.Bytes.{byte, signed32, part, isRecord, kindNumber, recordE
 use Rattle.csl.specs.Syntax.{Expr, numberLit, truthLit, partyLit, variable, badExpr}
 use Rattle.csl.specs.Decode.{truthKind, partyKind, variableKind, exprKind, ofLength, exprBody, expr}
 use Rattle.csl.specs.Decode.{wholeExpr, waitAt, wholeWait, recordsEnd, arguments}
+use Rattle.formed.specs.Tests.{argumentsWhole}
 use Rattle.arith.proofs.Bytes.{whole-from, record-no, record-end-within}
 use Rattle.arith.proofs.Lists.{length-part}
 use Rattle.records.proofs.Trees.{expr-zero, expr-none, expr-at, kind-number, kind-leaf, kind-not, kind-binary}
@@ -135,16 +136,12 @@ module _ (d : ℕ) (s : List ℕ) (i : ℕ) where
       (both-within (wholeExpr (expr d (part s (i + 1) (recordEnd s (i + 1))))) _ _))
 
 -- ---- an instance's arguments, and where they end
-module _ (d : ℕ) (s : List ℕ) (i n m : ℕ) where
-  abbrev pub Arguments : Bool
-  Arguments = all wholeExpr (arguments (expr d) n s i) && eqb (recordsEnd n s i + m) (length s)
-
-pub arguments-none : (d : ℕ) (s : List ℕ) (i n m : ℕ) → n ≡ 0 → eqb (i + m) (length s) ≡ Arguments d s i n m
+pub arguments-none : (d : ℕ) (s : List ℕ) (i n m : ℕ) → n ≡ 0 → eqb (i + m) (length s) ≡ argumentsWhole d s i n m
 unfolding all arguments recordsEnd
 arguments-none d s i n m e = rw e
 
 pub arguments-more : (d : ℕ) (s : List ℕ) (i n m : ℕ) {r : Bool} {e : ℕ} → (n ≡ 0 → ⊥) → e ≡ recordEnd s i
-    → r ≡ (wholeExpr (expr d (part s i e)) && Arguments d s e (n - 1) m) → r ≡ Arguments d s i n m
+    → r ≡ (wholeExpr (expr d (part s i e)) && argumentsWhole d s e (n - 1) m) → r ≡ argumentsWhole d s i n m
 unfolding all arguments recordsEnd
 arguments-more d s i zero m f p h = absurd (f refl)
 arguments-more d s i (suc n) m f p h = h

@@ -1,27 +1,28 @@
 // Refusal 2: 'record, count, type byte or nesting not as under Records, or an instance naming no template', for any bytes.
 ghost use mathlib.Core.Path.{_≡_};
 ghost use mathlib.Core.Bool.{true, _&&_};
-ghost use Prim.Native.Nat.{_+_, _≤_, _<_};
-ghost use lib.Dec.{eqb};
+ghost use Prim.Native.Nat.{_≤_, _<_};
 ghost use lib.ListN.{length};
 ghost use Rattle.csl.specs.Bytes as bytes;
-ghost use Rattle.csl.specs.Lists.{all, at};
-ghost use Rattle.csl.specs.Decode.{expr, wholeExpr, waitAt, wholeWait, recordsEnd, arguments, instanceOf, clause, whole, headsOf, bodyOf, templatePieces, mainOf, wellFormed};
-ghost use Rattle.records.specs.Index.{Indexed, templatePlace, pieceAt};
-ghost use Rattle.formed.specs.Tests.{testsWhole};
+ghost use Rattle.csl.specs.Lists.{at};
+ghost use Rattle.csl.specs.Decode.{expr, wholeExpr, waitAt, wholeWait, instanceOf, clause, whole, headsOf, bodyOf, mainOf, wellFormed};
+ghost use Rattle.records.specs.Index.{Indexed, templatePiece};
+ghost use Rattle.formed.specs.Tests.{testsWhole, argumentsWhole, bodiesWhole};
 use arith::byte;
 use arith::is_record;
 use arith::kind;
 use arith::record_end;
+use records::BODY_DEPTH;
+use records::MAIN_DEPTH;
+use records::body_span;
 use records::fill_index;
 use records::first_clause;
 use records::main_place;
 use records::param_count;
-use records::template_place;
 use records::value_count;
 
 // The bytes are one expression, at most `depth` deep.
-pub fn expr_formed(s: &[u8], depth: usize) -> bool
+fn expr_formed(s: &[u8], depth: usize) -> bool
     ensures { λ r. ⌜ r ≡ wholeExpr (expr depth (now (s .entry))) ⌝ }
 {
     if depth == 0 {
@@ -79,7 +80,7 @@ fn tests_formed(s: &[u8], kind: usize, depth: usize) -> bool
 // The n records from i are expressions, and `blames` bytes follow them to the end.
 fn arguments_formed(s: &[u8], i: usize, n: usize, blames: usize, depth: usize) -> bool
     requires { ⌜ (i ≤ length (now s)) × (blames ≤ 4) ⌝ }
-    ensures { λ r. ⌜ r ≡ (all wholeExpr (arguments (expr depth) n (now (s .entry)) i) && eqb (recordsEnd n (now (s .entry)) i + blames) (length (now (s .entry)))) ⌝ }
+    ensures { λ r. ⌜ r ≡ argumentsWhole depth (now (s .entry)) i n blames ⌝ }
 {
     if n == 0 {
         return i + blames == s.len();
@@ -106,7 +107,7 @@ fn instance_formed(agreement: &[u8], places: &[usize], s: &[u8], depth: usize) -
 }
 
 // The bytes are one clause, at most `depth` deep.
-pub fn clause_formed(agreement: &[u8], places: &[usize], s: &[u8], depth: usize) -> bool
+fn clause_formed(agreement: &[u8], places: &[usize], s: &[u8], depth: usize) -> bool
     requires { ⌜ Indexed (now places) (now agreement) ⌝ }
     ensures { λ r. ⌜ r ≡ whole (clause (headsOf (now (agreement .entry))) depth 0 (now (s .entry))) ⌝ }
 {
@@ -141,18 +142,17 @@ pub fn clause_formed(agreement: &[u8], places: &[usize], s: &[u8], depth: usize)
 // The body of template k is one clause.
 fn body_formed(agreement: &[u8], places: &[usize], k: usize) -> bool
     requires { ⌜ Indexed (now places) (now agreement) × (k < bytes.byte (now agreement) 10) ⌝ }
-    ensures { λ r. ⌜ r ≡ whole (bodyOf (headsOf (now (agreement .entry))) (record { place = templatePlace (now (agreement .entry)) k; bytes = pieceAt (now (agreement .entry)) (templatePlace (now (agreement .entry)) k) })) ⌝ }
+    ensures { λ r. ⌜ r ≡ whole (bodyOf (headsOf (now (agreement .entry))) (templatePiece (now (agreement .entry)) k)) ⌝ }
 {
-    let a = template_place(agreement, places, k);
-    let e = record_end(agreement, a);
-    let template = &agreement[a..e];
-    let b = 8 + value_count(agreement, places, k);
-    clause_formed(agreement, places, &template[b..], 22)
+    let body = body_span(agreement, places, k);
+    let from = body.from;
+    let to = body.to;
+    clause_formed(agreement, places, &agreement[from..to], BODY_DEPTH)
 }
 
 fn bodies_formed(agreement: &[u8], places: &[usize]) -> bool
     requires { ⌜ Indexed (now places) (now agreement) ⌝ }
-    ensures { λ r. ⌜ r ≡ all (λ q. whole (bodyOf (headsOf (now (agreement .entry))) q)) (templatePieces (now (agreement .entry))) ⌝ }
+    ensures { λ r. ⌜ r ≡ bodiesWhole (now (agreement .entry)) ⌝ }
 {
     for k in 0..byte(agreement, 10) {
         if !body_formed(agreement, places, k) {
@@ -162,13 +162,14 @@ fn bodies_formed(agreement: &[u8], places: &[usize]) -> bool
     true
 }
 
-// The main clause and the bodies. 'Records nest at most 24 deep, the agreement being depth 1'
+// The main clause and the bodies.
 fn clauses_formed(agreement: &[u8], places: &[usize]) -> bool
     requires { ⌜ Indexed (now places) (now agreement) ⌝ }
-    ensures { λ r. ⌜ r ≡ (whole (mainOf (now (agreement .entry))) && all (λ q. whole (bodyOf (headsOf (now (agreement .entry))) q)) (templatePieces (now (agreement .entry)))) ⌝ }
+    ensures { λ r. ⌜ r ≡ (whole (mainOf (now (agreement .entry))) && bodiesWhole (now (agreement .entry))) ⌝ }
 {
     let main = main_place(agreement, places);
-    clause_formed(agreement, places, &agreement[main..], 23) && bodies_formed(agreement, places)
+    clause_formed(agreement, places, &agreement[main..], MAIN_DEPTH)
+        && bodies_formed(agreement, places)
 }
 
 // What refusal 2 asks of an agreement; where it holds, `places` is the index.

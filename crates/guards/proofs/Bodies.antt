@@ -1,5 +1,5 @@
 -- Laws for the clauses of a well-formed agreement: its main clause, and its templates' bodies one after another.
-use mathlib.Core.Path.{_≡_, refl, sym, _∙_}
+use mathlib.Core.Path.{_≡_, refl, sym, ap, _∙_}
 use mathlib.Core.Bool.{Bool, true, false, not, _&&_}
 use mathlib.Core.List.{List, [], _∷_, _++_, map}
 use Prim.Native.Nat.{ℕ, suc, _+_, _-_, _<_, _≤_}
@@ -7,18 +7,15 @@ use native.Mathlib.Numerals.{add-one}
 use native.Mathlib.Omega.{arith}
 use lib.ListN.{length}
 use Rattle.csl.specs.Lists.{all}
-use Rattle.csl.specs.Bytes.{byte, part, recordEnd}
+use Rattle.csl.specs.Bytes.{byte, part}
 use Rattle.csl.specs.Syntax.{Clause, Template}
-use Rattle.csl.specs.Decode.{whole, pieces, recordsEnd, templatesPlace, mainPlace, templatePieces, headsOf, mainOf}
-use Rattle.csl.specs.Decode.{bodyPlace, bodyOf, templateOf, agreementOf, listed, wellFormed}
+use Rattle.csl.specs.Decode.{whole, clause, pieces, recordsEnd, templatesPlace, mainPlace, templatePieces, headsOf, mainOf}
+use Rattle.csl.specs.Decode.{bodyOf, templateOf, agreementOf, listed, wellFormed}
 use Rattle.csl.specs.Guards.{guardedIn, guardedFrom}
 use Rattle.csl.specs.Widths.{width, widthsFrom}
-use Rattle.arith.proofs.Lists.{length-part, part-part}
-use Rattle.arith.proofs.Bytes.{record-end-within, record-end-after}
-use Rattle.records.specs.Index.{Indexed, templatePlace, pieceAt}
-use Rattle.records.proofs.Index.{T-both, T-true, true-T, piece, all-pieces, pieces-more, template-within}
-use Rattle.records.proofs.Index.{template-facts}
-use Rattle.guards.specs.Walk.{Formed, Answers, Spans, bodyBytes, bodyAt}
+use Rattle.records.specs.Index.{templatePlace, Spans}
+use Rattle.records.proofs.Index.{T-both, T-true, true-T, piece, all-pieces, pieces-more, body-is}
+use Rattle.guards.specs.Walk.{Formed, Answers, bodyAt}
 
 -- ---- the main clause and each body are whole
 module _ (s : List ℕ) (x : wellFormed s ≡ true) where
@@ -44,38 +41,16 @@ module _ (s : List ℕ) (x : wellFormed s ≡ true) where
   main-answers f e a = (rw e at a) .is (headsOf s) (mainPlace s) main-whole
 
   module _ {k from to : ℕ} (l : k < byte s 10) (b : Spans s k from to) where
+    whole-there : whole (clause (headsOf s) 22 from (part s from to)) ≡ true
+    unfolding bodyAt
+    whole-there = ap whole (sym (body-is b (headsOf s))) ∙ body-whole k l
+
     pub body-formed : Formed 22 (part s from to)
-    unfolding bodyAt bodyOf bodyBytes
-    body-formed = let q = pieceAt s (templatePlace s k) in record {
-      heads = headsOf s;
-      place = templatePlace s k + bodyPlace q;
-      formed = rw (b .body) (body-whole k l);
-    }
+    body-formed = record { heads = headsOf s; place = from; formed = whole-there }
 
     pub body-answers : {A : Type 0} (f : Clause → A) {r : A} → Answers f 22 (part s from to) r → r ≡ f (bodyAt s k)
-    unfolding bodyAt bodyOf bodyBytes
-    body-answers f a = let q = pieceAt s (templatePlace s k) in
-        (rw (b .body) at a) .is (headsOf s) (templatePlace s k + bodyPlace q) (body-whole k l)
-
--- ---- where a body stands: a, n and e are what calls gave
-pub body-spans : {places s : List ℕ} {k a n e : ℕ} → Indexed places s × (k < byte s 10) → a ≡ templatePlace s k
-    → n ≡ byte (pieceAt s (templatePlace s k)) 4 → e ≡ recordEnd s a → Spans s k (a + (8 + n)) e
-unfolding bodyBytes bodyPlace
-body-spans {s = s} {k} x p q o =
-    let b = templatePlace s k in
-    let z = recordEnd s b in
-    let u = pieceAt s b in
-    let m = 8 + byte u 4 in
-    let w = record-end-within s b in
-    let h = template-facts (x .0) k (x .1) in
-    let g = length-part s b z w in
-    let v = record-end-after s b (template-within (x .0) k) in
-    let j : b + (z - b) ≡ z = omega arith in
-    rw (o, q, p) record {
-      ordered = omega (arith, h .long);
-      within = w;
-      body = sym (rw g (part-part s b z m (z - b) (omega arith) ∙ rw j));
-    }
+    unfolding bodyAt
+    body-answers f a = a .is (headsOf s) from whole-there ∙ ap f (sym (body-is b (headsOf s)))
 
 -- ---- the templates from number k on
 unfoldable pub templatesFrom : List ℕ → ℕ → List Template

@@ -10,14 +10,15 @@ ghost use Rattle.csl.specs.Decode.{wellFormed, agreementOf, mainOf};
 ghost use Rattle.csl.specs.Guards.{guardedIn, guardedFrom};
 ghost use Rattle.csl.specs.Widths.{allNarrow, narrowAll, widthsFrom};
 ghost use Rattle.records.specs.Index.{Indexed};
-ghost use Rattle.guards.specs.Walk.{Formed, Answers, Spans, bodyAt, counted, strictWidth, AsWide};
+ghost use Rattle.guards.specs.Walk.{Formed, Answers, bodyAt, counted, strictWidth, AsWide};
 use arith::byte;
 use arith::kind;
 use arith::record_end;
+use records::BODY_DEPTH;
+use records::MAIN_DEPTH;
+use records::body_span;
 use records::first_clause;
 use records::main_place;
-use records::template_place;
-use records::value_count;
 
 // In template n's body an unguarded instance names only a template below n; a `then` is guarded.
 fn guarded_in(s: &[u8], n: usize, depth: usize) -> bool
@@ -83,7 +84,7 @@ fn width(s: &[u8], widths: &[usize], depth: usize) -> usize
     }
 }
 
-// The same, or 257 where some `then` within is wider than 256: such a side makes the whole too wide.
+// The same, or 257 where some inner `then` is wider than 256: such a side makes the whole too wide.
 fn strict_width(s: &[u8], widths: &[usize], depth: usize) -> usize
     requires { ⌜ Formed depth (now s) ⌝ }
     ensures { λ r. ⌜ Answers (strictWidth (now (widths .entry))) depth (now (s .entry)) r × (r ≤ 257) ⌝ }
@@ -118,31 +119,12 @@ fn strict_width(s: &[u8], widths: &[usize], depth: usize) -> usize
     }
 }
 
-// The clause is narrow, and so is each `then` within.
+// The clause is narrow, and so is each inner `then`.
 fn all_narrow(s: &[u8], widths: &[usize], depth: usize) -> bool
     requires { ⌜ Formed depth (now s) ⌝ }
     ensures { λ r. ⌜ Answers (allNarrow (now (widths .entry))) depth (now (s .entry)) r ⌝ }
 {
     strict_width(s, widths, depth) <= 256
-}
-
-// Where the body of a template begins and ends. A body may nest 22 deep, the main clause 23.
-struct Span {
-    from: usize,
-    to: usize,
-}
-
-fn body_span(agreement: &[u8], places: &[usize], k: usize) -> Span
-    requires { ⌜ Indexed (now places) (now agreement) × (k < bytes.byte (now agreement) 10) ⌝ }
-    ensures { λ r. ⌜ Spans (now (agreement .entry)) k (r .from) (r .to) ⌝ }
-{
-    let a = template_place(agreement, places, k);
-    let n = value_count(agreement, places, k);
-    let e = record_end(agreement, a);
-    Span {
-        from: a + (8 + n),
-        to: e,
-    }
 }
 
 fn body_guarded(agreement: &[u8], places: &[usize], k: usize) -> bool
@@ -153,7 +135,7 @@ fn body_guarded(agreement: &[u8], places: &[usize], k: usize) -> bool
     let body = body_span(agreement, places, k);
     let from = body.from;
     let to = body.to;
-    guarded_in(&agreement[from..to], k, 22)
+    guarded_in(&agreement[from..to], k, BODY_DEPTH)
 }
 
 // Refusal 4 where this is false.
@@ -178,7 +160,7 @@ fn body_width(agreement: &[u8], places: &[usize], widths: &[usize], k: usize) ->
     let body = body_span(agreement, places, k);
     let from = body.from;
     let to = body.to;
-    width(&agreement[from..to], widths, 22)
+    width(&agreement[from..to], widths, BODY_DEPTH)
 }
 
 // The widths of the templates, each by those below it: no other is named unguarded.
@@ -202,7 +184,7 @@ fn body_narrow(agreement: &[u8], places: &[usize], widths: &[usize], k: usize) -
     let body = body_span(agreement, places, k);
     let from = body.from;
     let to = body.to;
-    all_narrow(&agreement[from..to], widths, 22)
+    all_narrow(&agreement[from..to], widths, BODY_DEPTH)
 }
 
 fn bodies_narrow(agreement: &[u8], places: &[usize], widths: &[usize]) -> bool
@@ -224,7 +206,7 @@ fn main_narrow(agreement: &[u8], places: &[usize], widths: &[usize]) -> bool
     ensures { λ r. ⌜ r ≡ allNarrow (now (widths .entry)) (mainOf (now (agreement .entry))) ⌝ }
 {
     let main = main_place(agreement, places);
-    all_narrow(&agreement[main..], widths, 23)
+    all_narrow(&agreement[main..], widths, MAIN_DEPTH)
 }
 
 // Refusal 5 where this is false.

@@ -225,7 +225,7 @@ module _ {s places : List ℕ} {us : List ℤ} {sights : List ℕ} {r : Run} (o 
     read-few = fitting-read .few
 
     pub read-soon : time < 4_294_967_296
-    read-soon = fitting-read .early
+    read-soon = fitting-read .small
 
     -- the time of the last reading, as the code compares
     earlier : {z : ℤ} {b : Bool} → z ≡ getD us 1 (pos 0) → b ≡ ltZ (toZ w64 time) z
@@ -260,7 +260,7 @@ module _ {s places : List ℕ} {us : List ℤ} {sights : List ℕ} {r : Run} (o 
           type = f .type;
           cells = f .cells;
           few = omega (arith, f .few, length-take n values);
-          fits = f .early;
+          fits = f .small;
           inOrder = λ now e. omega (
             arith,
             ltb-false time (shown .run .lastTime) (sym (earlier ez eb) ∙ t),

@@ -371,7 +371,11 @@ fn read_on(
     match readings::take(agreement, places, reading, &mut values) {
         Fitting::Malformed => Taken::Refused(Refusal::ReadingForm),
         Fitting::Untyped => Taken::Refused(Refusal::ReadingTyping),
-        Fitting::Fits(time, tag, n) => {
+        Fitting::Fits {
+            time,
+            tag,
+            count: n,
+        } => {
             let last = table[LAST_TIME];
             if less(time as i64, last) {
                 return Taken::Refused(Refusal::ReadingTime);

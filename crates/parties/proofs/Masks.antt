@@ -204,38 +204,37 @@ one-party b l = let z : b - 0 ≡ b = omega arith in
       z,
     ) (omega arith)
 
-one-param : (b : ℕ) → 128 ≤ b → b < 132 → maskOf (b ∷ []) ≡ 2 ^ (b - 112)
+one-param : (b : ℕ) → 128 ≤ b → b < 132 → maskOf (b ∷ []) ≡ 2 ^ (16 + (b - 128))
 unfolding maskOf bitsOf member
-one-param b l u = let z : b - 112 ≡ 16 + (b - 128) = omega arith in
-    rw (
-      bits-new 4 128 b [] (omega arith) (omega arith) refl,
-      bits-skip 16 0 b [] (λ x y. omega arith),
-      bits-nil 16 0,
-      bits-nil 4 128,
-      z,
-      pow-add 2 16 (b - 128),
-    ) (omega arith)
+one-param b l u = rw (
+  bits-new 4 128 b [] (omega arith) (omega arith) refl,
+  bits-skip 16 0 b [] (λ x y. omega arith),
+  bits-nil 16 0,
+  bits-nil 4 128,
+  pow-add 2 16 (b - 128),
+) (omega arith)
 
 -- a bit, as the code shifts it
 pub shifted : (k : ℕ) → k < 20 → (1 * 2 ^ k) % 2 ^ 64 ≡ 2 ^ k
 shifted k l = shl-exact 1 k 64 (omega arith) (omega arith) ∙ (omega arith)
 
-blame-yes : (parties params b k : ℕ) → mayBlame parties params b ≡ true → maskOf (b ∷ []) ≡ 2 ^ k → k < 20
-    → BlameMask parties params b ((1 * 2 ^ k) % 2 ^ 64)
-blame-yes parties params b k e m l = rw (shifted k l) (record {
+-- r is what `bit` gave
+blame-yes : (parties params b k : ℕ) {r : ℕ} → mayBlame parties params b ≡ true → maskOf (b ∷ []) ≡ 2 ^ k → k < 20
+    → r ≡ 2 ^ k → BlameMask parties params b r
+blame-yes parties params b k e m l g = rw g (record {
   is = rw e (sym m);
   refused = rw e (ne-eqb (2 ^ k) 0 (λ z. omega (arith, pow-pos k)));
   small = pow-lt {i = k} {j = 20} l;
 })
 
-pub blame-party : (parties params b : ℕ) → parties ≤ 16 → b < parties
-    → BlameMask parties params b ((1 * 2 ^ b) % 2 ^ 64)
+pub blame-party : (parties params b : ℕ) {r : ℕ} → parties ≤ 16 → b < parties → r ≡ 2 ^ b
+    → BlameMask parties params b r
 blame-party parties params b p l = blame-yes parties params b b (rw (lt-ltb b parties l)) (one-party b (omega arith))
     (omega arith)
 
-pub blame-param : (parties params b : ℕ) → params ≤ 4 → parties ≤ b → 128 ≤ b → b < 128 + params
-    → BlameMask parties params b ((1 * 2 ^ (b - 112)) % 2 ^ 64)
-blame-param parties params b p n l u = blame-yes parties params b (b - 112)
+pub blame-param : (parties params b : ℕ) {r : ℕ} → params ≤ 4 → parties ≤ b → 128 ≤ b → b < 128 + params
+    → r ≡ 2 ^ (16 + (b - 128)) → BlameMask parties params b r
+blame-param parties params b p n l u = blame-yes parties params b (16 + (b - 128))
     (rw (le-ltb b parties n, le-leb 128 b l, lt-ltb b (128 + params) u)) (one-param b l (omega arith)) (omega arith)
 
 blame-none : (parties params b : ℕ) → mayBlame parties params b ≡ false → BlameMask parties params b 0
@@ -249,6 +248,22 @@ blame-beyond parties params b n l u = blame-none parties params b
     (rw (le-ltb b parties n, le-leb 128 b l, le-ltb b (128 + params) u))
 
 pub ruleset blames = (blame-party, blame-param, blame-between, blame-beyond)
+
+-- ---- the bit of a party, among the parties alone
+pub bits-small : (ps : List ℕ) → bitsOf ps < 65_536
+unfolding bitsOf
+bits-small ps = bits-lt 16 0 ps
+
+pub bit-party : (p : ℕ) {r : ℕ} → p < 16 → r ≡ 2 ^ p → (r ≡ bitsOf (p ∷ [])) × (r < 65_536)
+unfolding bitsOf member
+bit-party p l g =
+    let z : p - 0 ≡ p = omega arith in
+    let e = g ∙ sym (bits-new 16 0 p [] (omega arith) (omega arith) refl ∙ rw (bits-nil 16 0, z) (omega arith)) in
+    (e, rw e (bits-small (p ∷ [])))
+
+pub bit-none : (p : ℕ) → 16 ≤ p → (0 ≡ bitsOf (p ∷ [])) × (0 < 65_536)
+unfolding bitsOf
+bit-none p l = (sym (bits-skip 16 0 p [] (λ a b. omega arith) ∙ bits-nil 16 0), omega arith)
 
 -- what a caller learns of a blame byte from its bit
 module _ (n : Names) (b : ℕ) {r : ℕ} (m : BlameMask (n .parties) (n .params) b r) where

@@ -13,13 +13,14 @@ use Rattle.csl.specs.Lists.{orElse, orNil, at}
 use Rattle.csl.specs.Bytes.{byte, part, recordEnd}
 use Rattle.csl.specs.Syntax.{Ty, Template, Agreement, Clause, fulfilled, obligation, choice, if, join, instance}
 use Rattle.csl.specs.Syntax.{badClause}
-use Rattle.csl.specs.Decode.{pieces, recordsEnd, clause, tysOf, headsOf, whole, bodyOf, bodyPlace, mainOf, mainPlace}
+use Rattle.csl.specs.Decode.{pieces, recordsEnd, clause, tysOf, headsOf, whole, bodyOf, mainOf, mainPlace}
 use Rattle.csl.specs.Decode.{templatesPlace, templatePieces, templateHead, templateOf, agreementOf}
 use Rattle.csl.specs.Typing.{typeClause, namesOf, thenSight}
 use Rattle.csl.specs.Places.{Found, find, findIn, clauseAt}
-use Rattle.records.specs.Index.{Indexed, templatePlace, pieceAt, headAt}
-use Rattle.records.proofs.Index.{piece, part-piece, template-facts, templates-at, template-within, pieces-more}
-use Rattle.records.proofs.Index.{pieces-from, pieces-none}
+use Rattle.records.specs.Index.{Indexed, Spans, templatePlace, pieceAt, headAt, templatePiece, valueCount, bodyFrom}
+use Rattle.records.specs.Index.{bodyTo}
+use Rattle.records.proofs.Index.{template-facts, templates-at, template-within, pieces-more, pieces-from, pieces-none}
+use Rattle.records.proofs.Index.{body-within, body-is, body-there}
 use Rattle.soundness.proofs.Places.{Out, find-none, orElse-none, none-orElse}
 use Rattle.soundness.proofs.Inversion.{some-inj}
 use Rattle.soundness.proofs.Decoding.{clause-ranged, decode-is}
@@ -58,7 +59,7 @@ module _ {A : List ℕ} {p : ℕ} {s : List ℕ} {place c : ℕ} {types out : Li
     into-typed t = record { depth = t .depth - 1; at = goes (t .depth) (t .at) .typed }
 
     pub into-room : Typed A p s (sightOf types c) → (4 ≤ x) × (x ≤ e) × (e ≤ length s) × (n ≤ 16)
-    into-room t = let g = goes (t .depth) (t .at) in (g .from, g .ordered, g .within, g .few)
+    into-room t = let g = goes (t .depth) (t .at) in (g .from, g .ordered, g .inside, g .few)
 
     pub descent-into : {out₂ : List ℕ} {q : Located} (params : ℕ)
         → DescentIs A (p + x) (part s x e) place params n out out₂ q → DescentIs A p s place params c types out₂ q
@@ -131,60 +132,58 @@ module _ (ag : Agreement) (p : ℕ) (f : Found) where
       (findIn-typed (ag .templates) (λ k t q. let x = fr .templates k t q in
       record { parties = x .blames; typed = x .typed }))
 
--- ---- the body of a template: a, e and n are what calls gave
-module _ {places A : List ℕ} {k a e n : ℕ} (x : Indexed places A) (l : k < byte A 10) (p : a ≡ templatePlace A k)
-    (q : e ≡ recordEnd A a) (m : n ≡ byte (pieceAt A (templatePlace A k)) 4) where
-  template-length : length (pieceAt A (templatePlace A k)) ≡ e - a
-  template-length = sym (ap length (part-piece A p q)) ∙ length-part A a e (omega (arith, record-end-within A a))
-
-  pub template-room : (a + (8 + n) ≤ e) × (e ≤ length A) × (n ≤ 8)
-  template-room =
+-- ---- the values of a template: a and n are what calls gave
+module _ {places A : List ℕ} {k a n : ℕ} (x : Indexed places A) (l : k < byte A 10) (p : a ≡ templatePlace A k)
+    (m : n ≡ valueCount A k) where
+  pub values-room : (a + 5 + n ≤ length A) × (n ≤ 8)
+  values-room =
+      let t = templatePlace A k in
       let f = template-facts x k l in (
-        omega (arith, template-length, f .long, record-end-after A a (omega (arith, template-within x k))),
-        omega (arith, record-end-within A a),
+        omega (
+          arith,
+          f .long,
+          length-part A t (recordEnd A t) (record-end-within A t),
+          record-end-within A t,
+          record-end-after A t (template-within x k),
+        ),
         omega (arith, f .few),
       )
-
-  body-is : bodyOf (headsOf A) (piece A (templatePlace A k)) ≡ clause (headsOf A) 22 (a + (8 + n))
-      (part A (a + (8 + n)) e)
-  unfolding bodyOf bodyPlace
-  body-is =
-      let s = pieceAt A (templatePlace A k) in
-      let r = template-room in
-      let bytes : part s (8 + byte s 4) (length s) ≡ part A (a + (8 + n)) e = ap
-      (λ (i : ℕ). part s (8 + i) (length s)) (sym m)
-      ∙ ap (λ (u : List ℕ). part u (8 + n) (length s)) (sym (part-piece A p q))
-      ∙ part-part A a e (8 + n) (length s) (omega (arith, template-length))
-      ∙ ap (λ (z : ℕ). part A (a + (8 + n)) z) (omega (arith, template-length)) in
-      rw (bytes, sym m, sym p)
 
   pub values-are : (types out : List ℕ) → take (0 + length (part A (a + 5) (a + 5 + n))) out ≡ take 0 types
       ++ part A (a + 5) (a + 5 + n) → sightOf out n ≡ headAt A k .values
   unfolding templateHead
   values-are types out h =
-      let s = pieceAt A (templatePlace A k) in
-      let r = template-room in
+      let t = templatePlace A k in
+      let s = pieceAt A t in
       let long : 0 + length (part A (a + 5) (a + 5 + n)) ≡ n = omega
-      (arith, length-part A (a + 5) (a + 5 + n) (omega arith)) in
-      let bytes : part s 5 (5 + byte s 4) ≡ part A (a + 5) (a + 5 + n) = ap (λ (i : ℕ). part s 5 (5 + i)) (sym m)
-      ∙ ap (λ (u : List ℕ). part u 5 (5 + n)) (sym (part-piece A p q)) ∙ part-part A a e 5 (5 + n) (omega arith)
-      ∙ ap (λ (z : ℕ). part A (a + 5) z) (omega arith) in
-      ap tysOf ((rw long at h) ∙ sym bytes)
+      (arith, length-part A (a + 5) (a + 5 + n) (values-room .0)) in
+      let same : part s 5 (5 + byte s 4) ≡ part A (t + 5) (t + (5 + byte s 4)) = part-part A t (recordEnd A t) 5
+      (5 + byte s 4) (omega (
+        arith,
+        template-facts x k l .long,
+        length-part A t (recordEnd A t) (record-end-within A t),
+      )) in
+      let place : t + (5 + byte s 4) ≡ a + 5 + n = omega arith in
+      let start : t + 5 ≡ a + 5 = omega arith in
+      ap tysOf ((rw long at h) ∙ sym (same ∙ rw (place, start)))
 
-  pub body-typed : {env : List Ty} → Accepted A → env ≡ headAt A k .values
-      → TypedAt A 22 (a + (8 + n)) (part A (a + (8 + n)) e) env
+-- ---- its body: from and to are what a call gave
+module _ {A : List ℕ} {k from to : ℕ} (l : k < byte A 10) (b : Spans A k from to) where
+  pub body-typed : {env : List Ty} → Accepted A → env ≡ headAt A k .values → TypedAt A 22 from (part A from to) env
   unfolding templateOf
   body-typed h v =
-      let f = fairly h .templates k (templateOf (headsOf A) (piece A (templatePlace A k))) (templates-at A k l) in
-      record { params = headAt A k .params; parties = f .blames; typed = rw (v, sym body-is) (f .typed) }
+      let f = fairly h .templates k (templateOf (headsOf A) (templatePiece A k)) (templates-at A k l) in
+      record {
+        params = headAt A k .params;
+        parties = f .blames;
+        typed = rw (v, sym (body-is b (headsOf A))) (f .typed);
+      }
 
-  pub template-located : {out₂ : List ℕ} {r : Located} {params place : ℕ} (out : List ℕ) → Accepted A
+  pub template-located : {out₂ : List ℕ} {r : Located} {n params place : ℕ} (out : List ℕ) → Accepted A
       → params ≡ headAt A k .params → sightOf out n ≡ headAt A k .values
-      → DescentIs A (a + (8 + n)) (part A (a + (8 + n)) e) place params n out out₂ r
-      → Locates (inTemplate A k place) out₂ r
+      → DescentIs A from (part A from to) place params n out out₂ r → Locates (inTemplate A k place) out₂ r
   unfolding inTemplate
-  template-located {out₂ = out₂} {r = r} {place = place} out h j v d =
-      rw (body-is, sym j, sym v) (d .each 22 (body-typed h v))
+  template-located out h j v d = rw (body-is b (headsOf A), sym j, sym v) (d .each 22 (body-typed h v))
 
 -- ---- which template holds the place
 module _ (A : List ℕ) (place : ℕ) where
@@ -206,25 +205,20 @@ module _ {places A : List ℕ} (x : Indexed places A) (place : ℕ) where
       → inTemplate A k place ≡ none
   unfolding inTemplate Out
   body-out k l o =
-      let a = templatePlace A k in
-      let e = recordEnd A a in
-      let n = byte (pieceAt A a) 4 in
-      let r = template-room x l refl refl refl in
-      let b = part A (a + (8 + n)) e in
-      rw (body-is x l refl refl refl) (find-none (agreementOf A .readings) (headAt A k .params) place (a + (8 + n))
-      (a + (8 + n) + length b) (clause (headsOf A) 22 (a + (8 + n)) b) (headAt A k .values)
-      (clause-ranged (headsOf A) 22 (a + (8 + n)) b) (go o))
+      let b = body-there (x, l) in
+      let from = bodyFrom A k in
+      let s = part A from (bodyTo A k) in
+      rw (body-is b (headsOf A)) (find-none (agreementOf A .readings) (headAt A k .params) place from
+      (from + length s) (clause (headsOf A) 22 from s) (headAt A k .values) (clause-ranged (headsOf A) 22 from s)
+      (go o))
     where
       go : Out place (templatePlace A k) (recordEnd A (templatePlace A k))
-          → Out place (templatePlace A k + (8 + byte (pieceAt A (templatePlace A k)) 4))
-          (templatePlace A k + (8 + byte (pieceAt A (templatePlace A k)) 4) + length
-          (part A (templatePlace A k + (8 + byte (pieceAt A (templatePlace A k)) 4)) (recordEnd A (templatePlace A k))))
+          → Out place (bodyFrom A k) (bodyFrom A k + length (part A (bodyFrom A k) (bodyTo A k)))
       go (inl h) = inl (omega arith)
       go (inr h) = inr (omega (
         arith,
-        length-part A (templatePlace A k + (8 + byte (pieceAt A (templatePlace A k)) 4))
-            (recordEnd A (templatePlace A k)) (record-end-within A (templatePlace A k)),
-        template-room x l refl refl refl,
+        length-part A (bodyFrom A k) (bodyTo A k) (record-end-within A (templatePlace A k)),
+        body-within x k l,
       ))
 
   first-of : (j k : ℕ) → InTemplates A place (suc j) k ≡ orElse (inTemplate A k place) (InTemplates A place j (k + 1))

@@ -17,25 +17,7 @@ use Rattle.csl.specs.Typing.{readingOfType, thenSight}
 use Rattle.records.specs.Index.{Indexed, readingPlace, pieceAt}
 use Rattle.records.proofs.Index.{reading-facts, reading-within, readings-at, readings-past, part-piece}
 use Rattle.soundness.proofs.Inversion.{some-inj}
-use Rattle.places.specs.Locate.{sightOf, Sees}
-
--- ---- appended one by one
-module _ (o : List ℕ) (n : ℕ) (f : List ℕ) where
-  pub append-first : take (n + 0) o ≡ take n o ++ take 0 f
-  append-first = let e : n + 0 ≡ n = omega arith in rw e (sym (append-nil (take n o)))
-
-  pub append-last : (i : ℕ) (u : List ℕ) → i ≤ length f → length f ≤ i → take (n + i) u ≡ take n o ++ take i f
-      → take (n + length f) u ≡ take n o ++ f
-  append-last i u l g h = let e : i ≡ length f = omega arith in
-      (rw e at h) ∙ ap (λ (x : List ℕ). take n o ++ x) (take-length f)
-
-  pub append-more : (i : ℕ) (u : List ℕ) → i < length f → n + i < length u → take (n + i) u ≡ take n o ++ take i f
-      → take (n + (i + 1)) (set u (n + i) (getD f i 0)) ≡ take n o ++ take (i + 1) f
-  append-more i u l k h =
-      let x = getD f i 0 ∷ [] in
-      let e : n + (i + 1) ≡ suc (n + i) = omega arith in
-      rw (e, add-one i) (take-suc-set u (n + i) (getD f i 0) k ∙ ap (λ (y : List ℕ). y ++ x) h
-      ∙ append-assoc (take n o) (take i f) x ∙ ap (λ (y : List ℕ). take n o ++ y) (sym (take-suc f i 0 l)))
+use Rattle.places.specs.Locate.{sightOf, Sees, SeesIn}
 
 -- ---- the types that bytes are
 pub tys-append : (bs cs : List ℕ) → tysOf (bs ++ cs) ≡ tysOf bs ++ tysOf cs
@@ -74,9 +56,9 @@ sees-at A env (suc k) s = go (decLe (byte A 9) k)
         (omega arith, omega arith, rw j (some-inj (sym (s .is) ∙ readings-at A k (omega arith))))
 
 module _ {places A : List ℕ} {w : ℕ} (types : List ℕ) (count : ℕ)
-    (pre : Indexed places A × (length types ≡ 16) × (count ≤ 16) × Sees A (sightOf types count) w) where
+    (pre : Indexed places A × SeesIn A types count w) where
   pub named : (1 ≤ w) × (w - 1 < byte A 9)
-  named = let h = sees-at A (sightOf types count) w (pre .3) in (h .0, h .1)
+  named = let h = sees-at A (sightOf types count) w (pre .1 .sees) in (h .0, h .1)
 
   module _ {a e : ℕ} (p : a ≡ readingPlace A (w - 1)) (q : e ≡ recordEnd A a) where
     piece-length : length (pieceAt A (readingPlace A (w - 1))) ≡ e - a
@@ -93,14 +75,14 @@ module _ {places A : List ℕ} {w : ℕ} (types : List ℕ) (count : ℕ)
       omega (arith, record-end-within A a),
     )
 
-    values-are : pre .3 .values ≡ tysOf (part A (a + 5) e)
+    values-are : pre .1 .sees .values ≡ tysOf (part A (a + 5) e)
     unfolding readingType
     values-are =
         let s = pieceAt A (readingPlace A (w - 1)) in
         let same : part s 5 (length s) ≡ part A (a + 5) e = ap (λ (u : List ℕ). part u 5 (length s))
         (sym (part-piece A p q)) ∙ part-part A a e 5 (length s) (omega (arith, piece-length, values-room))
         ∙ ap (λ (z : ℕ). part A (a + 5) z) (omega (arith, piece-length, values-room)) in
-        sees-at A (sightOf types count) w (pre .3) .2 ∙ ap tysOf same
+        sees-at A (sightOf types count) w (pre .1 .sees) .2 ∙ ap tysOf same
 
     pub sight-room : count + (e - a - 5) + 1 ≤ 16
     unfolding tysOf
@@ -108,9 +90,9 @@ module _ {places A : List ℕ} {w : ℕ} (types : List ℕ) (count : ℕ)
         let v = values-room in
         omega (
           arith,
-          pre .3 .few,
-          then-length (sightOf types count) (pre .3 .values),
-          sight-length types count (omega (arith, pre .1, pre .2)),
+          pre .1 .sees .few,
+          then-length (sightOf types count) (pre .1 .sees .values),
+          sight-length types count (omega (arith, pre .1 .room, pre .1 .few)),
           ap length values-are,
           length-map (part A (a + 5) e) tyOf,
           length-part A (a + 5) e (v .1),
@@ -125,5 +107,5 @@ module _ {places A : List ℕ} {w : ℕ} (types : List ℕ) (count : ℕ)
     unfolding orNil
     sight-is out l h =
         let n = count + (e - a - 5) in
-        rw (pre .3 .is, values-are) (then-is types out count n (part A (a + 5) e) (omega (arith, sight-room))
+        rw (pre .1 .sees .is, values-are) (then-is types out count n (part A (a + 5) e) (omega (arith, sight-room))
         (rw part-room at h))

@@ -278,7 +278,7 @@ module _ {A : List ℕ} {d p : ℕ} {s : List ℕ} (place c : ℕ) (types : List
       record {
         from = rw i (first-from m s room);
         ordered = rw i (first-within m s room);
-        within = omega arith;
+        inside = omega arith;
         few = q .0;
         typed = at-depth x (length s) (then-typed 5 (waitAt (expr (d - 1)) p s 5) refl
             (rw (sym i) at (wanted-first e)) out r v);
@@ -330,7 +330,7 @@ module _ {A : List ℕ} {d p : ℕ} {s : List ℕ} (place c : ℕ) (types : List
         record {
           from = begins;
           ordered = follows;
-          within = ends;
+          inside = ends;
           few = q .0;
           typed = at-depth x z (then-typed 4 (waitAt (expr (d - 1)) p s 4) refl (wanted-either e .0) out r v);
           same = λ n. other n e h ∙ none-orElse _ _ (not-below n z (length s) Env l)
@@ -342,7 +342,7 @@ module _ {A : List ℕ} {d p : ℕ} {s : List ℕ} (place c : ℕ) (types : List
     choice-else few e h l = record {
       from = omega (arith, begins, follows);
       ordered = ends;
-      within = omega arith;
+      inside = omega arith;
       few = few;
       typed = at-depth z (length s) (wanted-either e .1);
       same = λ n. other n e h ∙ orElse-none _ _ (not-beyond n x z (seen Readings Env s 4) ends follows l);
@@ -362,7 +362,7 @@ module _ {A : List ℕ} {d p : ℕ} {s : List ℕ} (place c : ℕ) (types : List
     sides-left few l u h = record {
       from = begins;
       ordered = follows;
-      within = ends;
+      inside = ends;
       few = few;
       typed = at-depth x z (either-side l u .0);
       same = λ n. in-sides n l u ∙ none-orElse _ _ (not-below n z (length s) Env h);
@@ -372,7 +372,7 @@ module _ {A : List ℕ} {d p : ℕ} {s : List ℕ} (place c : ℕ) (types : List
     sides-right few l u h = record {
       from = omega (arith, begins, follows);
       ordered = ends;
-      within = omega arith;
+      inside = omega arith;
       few = few;
       typed = at-depth z (length s) (either-side l u .1);
       same = λ n. in-sides n l u ∙ orElse-none _ _ (not-beyond n x z Env ends follows h);

@@ -5,6 +5,7 @@ use mathlib.Core.Option.{Option, none, some}
 use Prim.Native.Nat.{ℕ, _+_, _-_, _≤_}
 use lib.ListN.{length, take}
 use Rattle.csl.specs.Bytes.{part}
+use Rattle.csl.specs.Lists.{orNil}
 use Rattle.csl.specs.Syntax.{Ty, Clause, fulfilled, obligation, choice, if, join, instance, badClause}
 use Rattle.csl.specs.Decode.{tysOf, clause, headsOf, bodyOf, agreementOf}
 use Rattle.csl.specs.Typing.{namesOf, typeClause, readingOfType, thenSight}
@@ -67,12 +68,29 @@ pub record Sees (a : List ℕ) (env : List Ty) (wanted : ℕ) : Type 0 where
   pub is : readingOfType (agreementOf a .readings) wanted ≡ some values
   pub few : length (thenSight env values) ≤ 16
 
+-- the type bytes have room for 16, and `then` sees no more behind the first c of them
+pub record SeesIn (a types : List ℕ) (c wanted : ℕ) : Type 0 where
+  pub room : length types ≡ 16
+  pub few : c ≤ 16
+  pub sees : Sees a (sightOf types c) wanted
+
+-- what it sees
+abbrev pub seenIn : List ℕ → List ℕ → ℕ → ℕ → List Ty
+seenIn a types c wanted = thenSight (sightOf types c) (orNil (readingOfType (agreementOf a .readings) wanted))
+
+-- s is a clause of the agreement that stands at p, typed under the first c of the type bytes
+pub record Stands (a : List ℕ) (p : ℕ) (s types : List ℕ) (c : ℕ) : Type 0 where
+  pub room : length types ≡ 16
+  pub few : c ≤ 16
+  pub typed : Typed a p s (sightOf types c)
+  pub fits : p + length s ≤ length a
+
 -- ---- one step down: not in this clause, this clause, or only in the clause from x up to e, m in sight there
 pub record GoesInto (a : List ℕ) (d p : ℕ) (s : List ℕ) (place : ℕ) (env : List Ty) (out : List ℕ) (x e m : ℕ) : Type
     0 where
   pub from : 4 ≤ x
   pub ordered : x ≤ e
-  pub within : e ≤ length s
+  pub inside : e ≤ length s
   pub few : m ≤ 16
   pub typed : TypedAt a (d - 1) (p + x) (part s x e) (sightOf out m)
   pub same : (n : ℕ) → findAt a n place (clauseIn a d p s) env ≡ findAt a n place

@@ -1,18 +1,19 @@
 // The waiting clause at a byte place of the agreement, and what is in sight there.
 ghost use mathlib.Core.Path.{_≡_};
-ghost use mathlib.Core.List.{_++_};
-ghost use Prim.Native.Nat.{_+_, _≤_, _<_};
-ghost use lib.ListN.{length, take};
+ghost use mathlib.Core.List.{List};
+ghost use Prim.Native.Nat.{ℕ, _+_, _^_, _≤_, _<_};
+ghost use lib.ListN.{length};
 ghost use Rattle.csl.specs.Bytes as bytes;
-ghost use Rattle.csl.specs.Lists.{orNil};
-ghost use Rattle.csl.specs.Decode.{agreementOf, tysOf};
-ghost use Rattle.csl.specs.Typing.{readingOfType, thenSight};
+ghost use Rattle.csl.specs.Bytes.{kindNumber};
+ghost use Rattle.csl.specs.Decode.{agreementOf};
 ghost use Rattle.csl.specs.Places.{clauseAt};
 ghost use Rattle.records.specs.Index.{Indexed};
-ghost use Rattle.places.specs.Locate.{sightOf, Sees, Typed, StepIs, DescentIs, Locates, Accepted, inTemplate};
+ghost use Rattle.places.specs.Locate.{sightOf, seenIn, SeesIn, Stands, StepIs, DescentIs, Locates, Accepted, inTemplate};
 use arith::byte;
 use arith::kind;
 use arith::record_end;
+use records::append;
+use records::body_span;
 use records::first_clause;
 use records::main_place;
 use records::param_count;
@@ -20,30 +21,25 @@ use records::reading_place;
 use records::template_place;
 use records::value_count;
 
-// A place's clause: its kind, 17 or 18, its party parameters, and how many values are in sight.
+// A place's clause: its kind, 17 or 18, how many party parameters it has, and how many values are in sight.
 pub enum Located {
     Nothing,
-    At(usize, usize, usize),
+    At {
+        kind: usize,
+        params: usize,
+        count: usize,
+    },
 }
 
-// Where the search goes on: in the clause from a place up to a place, with so many values in sight.
-pub enum Step {
+// Where the search goes on: nowhere, at a clause of a kind, or in the clause from a place up to a place, with so many values in sight.
+enum Step {
     Absent,
     Here(usize),
-    Into(usize, usize, usize),
-}
-
-// The first n of out stay, and `from` stands behind them.
-fn append(out: &mut [u8], n: usize, from: &[u8])
-    requires { ⌜ n + length (now from) ≤ length (now out) ⌝ }
-    ensures { λ _. ⌜ take (n + length (now (from .entry))) (now (out .exit)) ≡ take n (now (out .entry)) ++ now (from .entry) ⌝ }
-{
-    let mut i = 0;
-    while i < from.len() {
-        let x = from[i];
-        out[n + i] = x;
-        i += 1;
-    }
+    Into {
+        from: usize,
+        to: usize,
+        count: usize,
+    },
 }
 
 // What `then` sees: the reading's values, and behind them the remaining time.
@@ -54,8 +50,8 @@ fn then_sight(
     count: usize,
     types: &mut [u8],
 ) -> usize
-    requires { ⌜ Indexed (now places) (now agreement) × (length (now types) ≡ 16) × (count ≤ 16) × Sees (now agreement) (sightOf (now types) count) wanted ⌝ }
-    ensures { λ r. ⌜ (r ≤ 16) × (sightOf (now (types .exit)) r ≡ thenSight (sightOf (now (types .entry)) count) (orNil (readingOfType (agreementOf (now (agreement .entry)) .readings) wanted))) ⌝ }
+    requires { ⌜ Indexed (now places) (now agreement) × SeesIn (now agreement) (now types) count wanted ⌝ }
+    ensures { λ r. ⌜ (r ≤ 16) × (sightOf (now (types .exit)) r ≡ seenIn (now (agreement .entry)) (now (types .entry)) count wanted) ⌝ }
 {
     let a = reading_place(agreement, places, wanted - 1);
     let e = record_end(agreement, a);
@@ -65,7 +61,88 @@ fn then_sight(
     n + 1
 }
 
-// One step towards the place: s is a clause that stands at `base`.
+// One step towards the place, from an obligation s that stands at `base`.
+fn from_obligation(
+    agreement: &[u8],
+    places: &[usize],
+    s: &[u8],
+    base: usize,
+    place: usize,
+    count: usize,
+    types: &mut [u8],
+) -> Step
+    requires { ⌜ Indexed (now places) (now agreement) × Stands (now agreement) base (now s) (now types) count ⌝ }
+    requires { ⌜ kindNumber (now s) ≡ 17 ⌝ }
+    ensures { λ r. ⌜ StepIs (now (agreement .entry)) base (now (s .entry)) place count (now (types .entry)) (now (types .exit)) r ⌝ }
+{
+    if place == base {
+        return Step::Here(17);
+    }
+    let c = first_clause(s, 17);
+    let n = then_sight(agreement, places, byte(s, 5), count, types);
+    Step::Into {
+        from: c,
+        to: s.len(),
+        count: n,
+    }
+}
+
+// The same from a choice.
+fn from_choice(
+    agreement: &[u8],
+    places: &[usize],
+    s: &[u8],
+    base: usize,
+    place: usize,
+    count: usize,
+    types: &mut [u8],
+) -> Step
+    requires { ⌜ Indexed (now places) (now agreement) × Stands (now agreement) base (now s) (now types) count ⌝ }
+    requires { ⌜ kindNumber (now s) ≡ 18 ⌝ }
+    ensures { λ r. ⌜ StepIs (now (agreement .entry)) base (now (s .entry)) place count (now (types .entry)) (now (types .exit)) r ⌝ }
+{
+    if place == base {
+        return Step::Here(18);
+    }
+    let c = first_clause(s, 18);
+    let f = record_end(s, c);
+    if place < base + f {
+        let n = then_sight(agreement, places, byte(s, 4), count, types);
+        return Step::Into {
+            from: c,
+            to: f,
+            count: n,
+        };
+    }
+    Step::Into {
+        from: f,
+        to: s.len(),
+        count: count,
+    }
+}
+
+// The same from a clause of kind 19 to 21, whose sides see what it sees.
+fn from_sides(s: &[u8], kind: usize, base: usize, place: usize, count: usize) -> Step
+    requires { ⌜ (4 ≤ length (now s)) × (kind ≡ kindNumber (now s)) × (19 ≤ kind) × (kind < 22) × (count ≤ 16) × (base + length (now s) < 2 ^ 64) ⌝ }
+    ensures { λ r. ⌜ ((a types : List ℕ) → StepIs a base (now (s .entry)) place count types types r) ⌝ }
+{
+    let c = first_clause(s, kind);
+    let f = record_end(s, c);
+    if place < base + f {
+        return Step::Into {
+            from: c,
+            to: f,
+            count: count,
+        };
+    }
+    Step::Into {
+        from: f,
+        to: s.len(),
+        count: count,
+    }
+}
+
+// The same from any clause.
 fn step_down(
     agreement: &[u8],
     places: &[usize],
@@ -75,44 +152,19 @@ fn step_down(
     count: usize,
     types: &mut [u8],
 ) -> Step
-    requires { ⌜ Indexed (now places) (now agreement) × (length (now types) ≡ 16) × (count ≤ 16) × Typed (now agreement) base (now s) (sightOf (now types) count) × (base + length (now s) ≤ length (now agreement)) ⌝ }
+    requires { ⌜ Indexed (now places) (now agreement) × Stands (now agreement) base (now s) (now types) count ⌝ }
     ensures { λ r. ⌜ StepIs (now (agreement .entry)) base (now (s .entry)) place count (now (types .entry)) (now (types .exit)) r ⌝ }
 {
     let k = kind(s);
     match k {
-        17 => {
-            if place == base {
-                return Step::Here(17);
-            }
-            let c = first_clause(s, k);
-            let n = then_sight(agreement, places, byte(s, 5), count, types);
-            Step::Into(c, s.len(), n)
-        }
-        18 => {
-            if place == base {
-                return Step::Here(18);
-            }
-            let c = first_clause(s, k);
-            let f = record_end(s, c);
-            if place < base + f {
-                let n = then_sight(agreement, places, byte(s, 4), count, types);
-                return Step::Into(c, f, n);
-            }
-            Step::Into(f, s.len(), count)
-        }
-        19..=21 => {
-            let c = first_clause(s, k);
-            let f = record_end(s, c);
-            if place < base + f {
-                return Step::Into(c, f, count);
-            }
-            Step::Into(f, s.len(), count)
-        }
+        17 => from_obligation(agreement, places, s, base, place, count, types),
+        18 => from_choice(agreement, places, s, base, place, count, types),
+        19..=21 => from_sides(s, k, base, place, count),
         _ => Step::Absent,
     }
 }
 
-// The waiting clause at the place, within the clause s that stands at `base`.
+// The waiting clause at the place, in the clause s that stands at `base`.
 fn descend(
     agreement: &[u8],
     places: &[usize],
@@ -123,26 +175,33 @@ fn descend(
     count: usize,
     types: &mut [u8],
 ) -> Located
-    requires { ⌜ Indexed (now places) (now agreement) × (length (now types) ≡ 16) × (count ≤ 16) × Typed (now agreement) base (now s) (sightOf (now types) count) × (base + length (now s) ≤ length (now agreement)) ⌝ }
+    requires { ⌜ Indexed (now places) (now agreement) × Stands (now agreement) base (now s) (now types) count ⌝ }
     ensures { λ r. ⌜ DescentIs (now (agreement .entry)) base (now (s .entry)) place params count (now (types .entry)) (now (types .exit)) r ⌝ }
 {
     match step_down(agreement, places, s, base, place, count, types) {
         Step::Absent => Located::Nothing,
-        Step::Here(k) => Located::At(k, params, count),
-        Step::Into(a, e, n) => descend(
-            agreement,
-            places,
-            &s[a..e],
-            base + a,
-            place,
-            params,
-            n,
-            types,
-        ),
+        Step::Here(kind) => Located::At {
+            kind: kind,
+            params: params,
+            count: count,
+        },
+        Step::Into { from, to, count: n } => {
+            let part = &s[from..to];
+            descend(
+                agreement,
+                places,
+                part,
+                base + from,
+                place,
+                params,
+                n,
+                types,
+            )
+        }
     }
 }
 
-// The same within the body of template k.
+// The same in the body of template k.
 fn in_template(
     agreement: &[u8],
     places: &[usize],
@@ -154,21 +213,14 @@ fn in_template(
     ensures { λ r. ⌜ Locates (inTemplate (now (agreement .entry)) k place) (now (types .exit)) r ⌝ }
 {
     let a = template_place(agreement, places, k);
-    let e = record_end(agreement, a);
     let n = value_count(agreement, places, k);
     let params = param_count(agreement, places, k);
+    let body = body_span(agreement, places, k);
+    let from = body.from;
+    let to = body.to;
     append(types, 0, &agreement[a + 5..a + 5 + n]);
-    let b = a + (8 + n);
-    descend(
-        agreement,
-        places,
-        &agreement[b..e],
-        b,
-        place,
-        params,
-        n,
-        types,
-    )
+    let s = &agreement[from..to];
+    descend(agreement, places, s, from, place, params, n, types)
 }
 
 // The waiting clause at a byte place: the main clause's, or in the template whose record holds the place.

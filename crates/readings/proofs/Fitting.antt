@@ -28,7 +28,8 @@ use Rattle.readings.specs.declared.Raw.{Raw}
 use Rattle.readings.specs.declared.Raw.the-variants.{Malformed, Read}
 use Rattle.readings.specs.Taking.{given, RawRead, RawIs, TypedIs, UntypedRead, FittingRead}
 use Rattle.readings.proofs.Options.{some-inj, given-some, given-none, given-then, from-bind, from-need}
-use Rattle.readings.proofs.Values.{AllFit, values-cells}
+use Rattle.arith.specs.Values.{valuesOk}
+use Rattle.readings.proofs.Values.{all-given, values-cells}
 
 -- the reading that fits has the time, the type and the numbers that were read
 record Kept (w : run.Raw) (d : Reading) : Type 0 where
@@ -143,15 +144,16 @@ module _ {places s : List ℕ} (x : Indexed places s) {k b a e : ℕ} (f : k ≡
       types-room = omega (arith, types-many, length-take-le n vs m)
 
       -- "value not of its type or out of its range"
-      pub typed-values : {ps : ℕ} {r : Bool} → ps ≡ byte s 8 → r ≡ AllFit ps (part s (a + 5) e) (take n vs)
+      pub typed-values : {ps : ℕ} {r : Bool} → ps ≡ byte s 8 → r ≡ valuesOk ps (tysOf (part s (a + 5) e)) (take n vs)
           → TypedIs s k (take n vs) r
       unfolding agreementOf
       typed-values u v = record {
         is = λ w y z.
             let c : length (tysOf (part s (a + 5) e)) ≡ length (w .numbers) = count ∙ sym h ∙ i
             ∙ sym (length-take-le n vs m) ∙ ap length z in
-            v ∙ ap (λ j. AllFit j (part s (a + 5) e) (take n vs)) u ∙ ap (AllFit (byte s 8) (part s (a + 5) e)) z
-            ∙ sym (typed-some (agreementOf s) w (tysOf (part s (a + 5) e)) (wanted w y)
+            let ts = tysOf (part s (a + 5) e) in
+            v ∙ ap (λ j. valuesOk j ts (take n vs)) u ∙ ap (valuesOk (byte s 8) ts) z
+            ∙ all-given (byte s 8) ts (w .numbers) ∙ sym (typed-some (agreementOf s) w (tysOf (part s (a + 5) e)) (wanted w y)
             ∙ rw (eq-eqb (length (tysOf (part s (a + 5) e))) (length (w .numbers)) c) refl);
       }
 
@@ -188,5 +190,5 @@ module _ {s bytes : List ℕ} {vs : List ℤ} {t k n : ℕ} {u : Bool} (x : RawR
         count = x .count ∙ q .count;
         cells = x .numbers ∙ q .cells;
         few = x .few;
-        early = x .early;
+        small = x .small;
       }

@@ -106,5 +106,5 @@ raw-read s vs {n} e f p q g l h =
       count = p ∙ sym (numbers-length ((length s - 9) / 4) s 9);
       numbers = q ∙ ap (λ i. numbersFrom i s 9) p;
       few = omega (arith, holds s y .short);
-      early = l;
+      small = l;
     }

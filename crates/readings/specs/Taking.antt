@@ -32,7 +32,7 @@ pub record RawRead (bytes : List ℕ) (values : List ℤ) (t k n : ℕ) : Type 0
   pub count : n ≡ length (raw .numbers)
   pub numbers : take n values ≡ raw .numbers
   pub few : n ≤ 4
-  pub early : t < 4_294_967_296
+  pub small : t < 4_294_967_296
 
 abbrev pub RawIs : List ℕ → List ℤ → Raw → Type 0
 RawIs bytes values Malformed = rawReading bytes ≡ none
@@ -59,7 +59,7 @@ pub record FittingRead (s bytes : List ℕ) (values : List ℤ) (t k n : ℕ) : 
   pub count : n ≡ length (reading .values)
   pub cells : take n values ≡ cellsOf (reading .values)
   pub few : n ≤ 4
-  pub early : t < 4_294_967_296
+  pub small : t < 4_294_967_296
 
 abbrev pub TakenIs : List ℕ → List ℕ → Taken → List ℤ → Type 0
 TakenIs s bytes Unread values = rawReading bytes ≡ none

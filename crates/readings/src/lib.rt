@@ -3,9 +3,7 @@ ghost use mathlib.Core.Path.{_≡_};
 ghost use Prim.Native.Nat.{_≤_};
 ghost use lib.ListN as lists;
 ghost use lib.ListN.{length};
-ghost use Rattle.csl.specs.Decode.{tyOf, tysOf};
 ghost use Rattle.csl.specs.Run.{rawReading, numbersFrom};
-ghost use Rattle.csl.specs.Values.{valueOf, valuesOf};
 ghost use Rattle.records.specs.Index.{Indexed};
 ghost use Rattle.readings.specs.Taking.{given, RawIs, TypedIs, TakenIs};
 use arith::byte;
@@ -14,19 +12,28 @@ use arith::kind;
 use arith::record_end;
 use arith::signed32;
 use arith::unsigned32;
+use arith::values_ok;
 use records::reading_place;
 
-// A reading as its bytes say: time, type, how many values.
-pub enum Raw {
+// A reading as its bytes say; `count` is how many values it has.
+enum Raw {
     Malformed,
-    Read(usize, usize, usize),
+    Read {
+        time: usize,
+        tag: usize,
+        count: usize,
+    },
 }
 
 // The same of a reading that fits the agreement.
 pub enum Taken {
     Malformed,
     Untyped,
-    Fits(usize, usize, usize),
+    Fits {
+        time: usize,
+        tag: usize,
+        count: usize,
+    },
 }
 
 // The bytes are a record of kind 64 with 0 to 4 values.
@@ -65,7 +72,7 @@ fn read_numbers(reading: &[u8], n: usize, values: &mut [i64])
 }
 
 // Refusal 8 where it is Malformed.
-pub fn raw_reading(reading: &[u8], values: &mut [i64]) -> Raw
+fn raw_reading(reading: &[u8], values: &mut [i64]) -> Raw
     requires { ⌜ length (now values) ≡ 4 ⌝ }
     ensures room { λ r. ⌜ length (now (values .exit)) ≡ 4 ⌝ }
     ensures read { λ r. ⌜ RawIs (now (reading .entry)) (now (values .exit)) r ⌝ }
@@ -77,36 +84,11 @@ pub fn raw_reading(reading: &[u8], values: &mut [i64]) -> Raw
     read_numbers(reading, n, values);
     let time = unsigned32(reading, 4);
     let ty = byte(reading, 8);
-    Raw::Read(time, ty, n)
-}
-
-// The value is of the type with this number, in its range.
-pub fn value_fits(ty: usize, value: i64, parties: usize) -> bool
-    ensures { λ r. ⌜ r ≡ given (valueOf parties (tyOf ty) value) ⌝ }
-{
-    if ty == 1 {
-        return -1_000_000_000 <= value && value <= 1_000_000_000;
+    Raw::Read {
+        time: time,
+        tag: ty,
+        count: n,
     }
-    if value < 0 {
-        return false;
-    }
-    let n = value as usize;
-    if ty == 2 { n < 2 } else { n < parties }
-}
-
-// Each value is of its type; those behind them do not matter.
-fn values_fit(types: &[u8], values: &[i64], parties: usize) -> bool
-    requires { ⌜ length (now types) ≤ length (now values) ⌝ }
-    ensures { λ r. ⌜ r ≡ given (valuesOf parties (tysOf (now (types .entry))) (now (values .entry))) ⌝ }
-{
-    let mut i = 0;
-    while i < types.len() {
-        if !value_fits(byte(types, i), values[i], parties) {
-            return false;
-        }
-        i += 1;
-    }
-    true
 }
 
 // The first n values are those of a reading of type ty. Type 0 is a time mark.
@@ -127,7 +109,7 @@ fn is_typed(agreement: &[u8], places: &[usize], ty: usize, n: usize, values: &[i
     }
     let parties = byte(agreement, 8);
     let from = a + 5;
-    values_fit(&agreement[from..e], &values[..n], parties)
+    values_ok(&agreement[from..e], &values[..n], parties)
 }
 
 // Refusal 8 where it is Malformed, refusal 9 where it is Untyped.
@@ -138,9 +120,9 @@ pub fn take(agreement: &[u8], places: &[usize], reading: &[u8], values: &mut [i6
 {
     match raw_reading(reading, values) {
         Raw::Malformed => Taken::Malformed,
-        Raw::Read(time, ty, n) => {
-            if is_typed(agreement, places, ty, n, values) {
-                Taken::Fits(time, ty, n)
+        Raw::Read { time, tag, count } => {
+            if is_typed(agreement, places, tag, count, values) {
+                Taken::Fits { time, tag, count }
             } else {
                 Taken::Untyped
             }

@@ -10,16 +10,17 @@ use native.Mathlib.Numerals.{add-one}
 use native.Mathlib.Omega.{arith}
 use lib.Dec.{T, leb, eqb, leb→le, eqb→eq}
 use lib.ListN.{length, length-map}
-use Rattle.arith.proofs.Lists.{length-part}
+use Rattle.arith.proofs.Lists.{length-part, part-part}
 use Rattle.arith.proofs.Bytes.{byte-part, le16-part, record-end-within, record-end-after}
 use Rattle.csl.specs.Lists.{all, at}
 use Rattle.csl.specs.Bytes.{byte, le16, part, isRecord, kindNumber, recordEnd}
 use Rattle.csl.specs.Syntax.{Head}
 use Rattle.csl.specs.Decode.{Piece, recordsEnd, pieces, templatesPlace, mainPlace, readingPieces, templatePieces}
-use Rattle.csl.specs.Decode.{headsOf, bodyPlace, templateOf, agreementOf, isType, tyOf, tysOf, readingTypeOk}
+use Rattle.csl.specs.Decode.{headsOf, bodyPlace, bodyOf, clause, templateOf, agreementOf, isType, tyOf, tysOf, readingTypeOk}
 use Rattle.csl.specs.Decode.{readingType, templateOk, templateHead, waitEnd}
 use Rattle.csl.specs.Typing.{headsIn}
-use Rattle.records.specs.Index.{Indexed, readingPlace, templatePlace, pieceAt, headAt, firstClause}
+use Rattle.records.specs.Index.{Indexed, readingPlace, templatePlace, pieceAt, headAt, templatePiece, valueCount}
+use Rattle.records.specs.Index.{bodyFrom, bodyTo, Spans, firstClause}
 
 -- ---- tests that hold
 pub T-both : {C : Type 0} (a b : Bool) → T (a && b) → (T a → T b → C) → C
@@ -272,6 +273,36 @@ module _ {places s : List ℕ} (x : Indexed places s) where
   body-within k l =
       let a = templatePlace s k in
       omega (arith, template-facts k l .long, length-part s a (recordEnd s a) (record-end-within s a))
+
+-- ---- the body of template k
+pub body-there : {places s : List ℕ} {k : ℕ} → Indexed places s × (k < byte s 10)
+    → Spans s k (bodyFrom s k) (bodyTo s k)
+body-there {s = s} {k} x = record {
+  begins = refl;
+  ends = refl;
+  ordered = body-within (x .0) k (x .1);
+  inside = record-end-within s (templatePlace s k);
+}
+
+-- a, n, h and e are what calls gave
+pub spans : {places s : List ℕ} {k a n h e : ℕ} → Indexed places s × (k < byte s 10) → a ≡ templatePlace s k
+    → n ≡ valueCount s k → h ≡ 8 + n → e ≡ recordEnd s a → Spans s k (a + h) e
+unfolding bodyPlace
+spans x p q m o = rw (o, m, q, p) (body-there x)
+
+-- from and to are what `body_span` gave
+module _ {s : List ℕ} {k from to : ℕ} (b : Spans s k from to) where
+  pub body-is : (hs : List Head) → bodyOf hs (templatePiece s k) ≡ clause hs 22 from (part s from to)
+  unfolding bodyOf
+  body-is hs =
+      let t = templatePlace s k in
+      let z = recordEnd s t in
+      let q = pieceAt s t in
+      let m = bodyPlace q in
+      let g = length-part s t z (record-end-within s t) in
+      let j : t + (z - t) ≡ z = omega (arith, b .ordered, b .begins, b .ends) in
+      let bytes : part q m (length q) ≡ part s (t + m) z = rw g (part-part s t z m (z - t) (omega arith) ∙ rw j) in
+      rw (b .begins, b .ends, bytes)
 
 -- ---- the record that code has cut out, and what it read there
 -- a and e are what calls gave

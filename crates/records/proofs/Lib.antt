@@ -1,3 +1,4 @@
+mod Appended
 pub mod Index
 mod Listed
 pub mod Trees

@@ -6,10 +6,10 @@ use Prim.Native.Nat.{ℕ, _+_, _≤_, _<_}
 use lib.Dec.{T, eqb}
 use lib.ListN.{length, getD}
 use Rattle.csl.specs.Lists.{all}
-use Rattle.csl.specs.Bytes.{byte, part, recordEnd}
+use Rattle.csl.specs.Bytes.{byte, le16, part, recordEnd}
 use Rattle.csl.specs.Syntax.{Head}
 use Rattle.csl.specs.Decode.{recordsEnd, templatesPlace, mainPlace, readingTypeOk, templateOk, templateHead}
-use Rattle.csl.specs.Decode.{readingPieces, templatePieces, waitEnd}
+use Rattle.csl.specs.Decode.{Piece, readingPieces, templatePieces, bodyPlace, waitEnd}
 
 -- ---- the places of reading type k + 1 and of template k, and their bytes
 abbrev pub readingPlace : List ℕ → ℕ → ℕ
@@ -23,6 +23,29 @@ pieceAt s a = part s a (recordEnd s a)
 
 abbrev pub headAt : List ℕ → ℕ → Head
 headAt s k = templateHead (pieceAt s (templatePlace s k))
+
+-- the record of template k, how many values it has, and its declared parties by bit
+abbrev pub templatePiece : List ℕ → ℕ → Piece
+templatePiece s k = record { place = templatePlace s k; bytes = pieceAt s (templatePlace s k) }
+
+abbrev pub valueCount : List ℕ → ℕ → ℕ
+valueCount s k = byte (pieceAt s (templatePlace s k)) 4
+
+abbrev pub declaredBits : List ℕ → ℕ → ℕ
+declaredBits s k = le16 (pieceAt s (templatePlace s k)) (6 + valueCount s k)
+
+-- where its body begins and ends
+abbrev pub bodyFrom : List ℕ → ℕ → ℕ
+bodyFrom s k = templatePlace s k + bodyPlace (pieceAt s (templatePlace s k))
+
+abbrev pub bodyTo : List ℕ → ℕ → ℕ
+bodyTo s k = recordEnd s (templatePlace s k)
+
+pub record Spans (s : List ℕ) (k from to : ℕ) : Type 0 where
+  pub begins : from ≡ bodyFrom s k
+  pub ends : to ≡ bodyTo s k
+  pub ordered : from ≤ to
+  pub inside : to ≤ length s
 
 -- ---- cell k is the place of reading type k + 1, cell 16 + k that of template k, cell 48 that of the main clause
 pub record Indexed (places : List ℕ) (s : List ℕ) : Type 0 where

@@ -1,20 +1,49 @@
 // The parts of an agreement: where its records stand, and what the heads of its templates say.
 ghost use mathlib.Core.Path.{_≡_};
 ghost use mathlib.Core.Bool.{true, _&&_};
+ghost use mathlib.Core.List.{_++_};
 ghost use Prim.Native.Nat.{ℕ, _+_, _≤_, _<_, min};
 ghost use lib.Dec.{eqb};
-ghost use lib.ListN.{length, getD};
+ghost use lib.ListN.{length, getD, take};
 ghost use Rattle.csl.specs.Lists.{all};
 ghost use Rattle.csl.specs.Bytes as bytes;
-ghost use Rattle.csl.specs.Bytes.{le16, kindNumber};
+ghost use Rattle.csl.specs.Bytes.{kindNumber};
 ghost use Rattle.csl.specs.Decode as decode;
 ghost use Rattle.csl.specs.Decode.{waitEnd, mainPlace, between, isType, readingTypeOk, templateOk, pieces, recordsEnd, countsOk, listed};
-ghost use Rattle.records.specs.Index.{Indexed, readingPlace, templatePlace, pieceAt, headAt, firstClause, recordOk};
+ghost use Rattle.records.specs.Index.{Indexed, readingPlace, templatePlace, headAt, valueCount, declaredBits, Spans, firstClause, recordOk};
 use arith::byte;
 use arith::is_record;
 use arith::kind;
 use arith::record_end;
 use arith::unsigned16;
+
+// The most bytes, parties, reading types and templates of an agreement.
+const MOST_BYTES: usize = 16_384;
+
+const MOST_PARTIES: usize = 16;
+
+const MOST_READINGS: usize = 16;
+
+const MOST_TEMPLATES: usize = 32;
+
+// 'Records nest at most 24 deep, the agreement being depth 1': so deep may the main clause be, and a template's body.
+pub const MAIN_DEPTH: usize = 23;
+
+pub const BODY_DEPTH: usize = 22;
+
+// The most values in sight.
+pub const IN_SIGHT: usize = 16;
+
+// The cells of an index that have the place of the first template and of the main clause.
+const FIRST_TEMPLATE: usize = 16;
+
+const MAIN_CLAUSE: usize = 48;
+
+// Where a template's body begins and ends.
+pub struct Span {
+    pub from: usize,
+    pub to: usize,
+}
 
 // Where `within` ends, the wanted reading type standing at i.
 pub fn wait_end(s: &[u8], i: usize) -> usize
@@ -59,20 +88,20 @@ pub fn template_place(agreement: &[u8], places: &[usize], k: usize) -> usize
     requires { ⌜ Indexed (now places) (now agreement) × (k < bytes.byte (now agreement) 10) ⌝ }
     ensures { λ r. ⌜ (r ≡ templatePlace (now (agreement .entry)) k) × (r ≤ length (now (agreement .entry))) ⌝ }
 {
-    places[16 + k]
+    places[FIRST_TEMPLATE + k]
 }
 
 pub fn main_place(agreement: &[u8], places: &[usize]) -> usize
     requires { ⌜ Indexed (now places) (now agreement) ⌝ }
     ensures { λ r. ⌜ (r ≡ mainPlace (now (agreement .entry))) × (r ≤ length (now (agreement .entry))) ⌝ }
 {
-    places[48]
+    places[MAIN_CLAUSE]
 }
 
 // The head of template k: how many values and party parameters it has, and its declared parties by bit.
 pub fn value_count(agreement: &[u8], places: &[usize], k: usize) -> usize
     requires { ⌜ Indexed (now places) (now agreement) × (k < bytes.byte (now agreement) 10) ⌝ }
-    ensures { λ r. ⌜ (r ≡ bytes.byte (pieceAt (now (agreement .entry)) (templatePlace (now (agreement .entry)) k)) 4) × (r ≡ length (headAt (now (agreement .entry)) k .values)) × (r ≤ 8) ⌝ }
+    ensures { λ r. ⌜ (r ≡ valueCount (now (agreement .entry)) k) × (r ≡ length (headAt (now (agreement .entry)) k .values)) × (r ≤ 8) ⌝ }
 {
     byte(agreement, template_place(agreement, places, k) + 4)
 }
@@ -87,10 +116,45 @@ pub fn param_count(agreement: &[u8], places: &[usize], k: usize) -> usize
 
 pub fn declared_bits(agreement: &[u8], places: &[usize], k: usize) -> usize
     requires { ⌜ Indexed (now places) (now agreement) × (k < bytes.byte (now agreement) 10) ⌝ }
-    ensures { λ r. ⌜ (r ≡ le16 (pieceAt (now (agreement .entry)) (templatePlace (now (agreement .entry)) k)) (6 + bytes.byte (pieceAt (now (agreement .entry)) (templatePlace (now (agreement .entry)) k)) 4)) × (r < 65_536) ⌝ }
+    ensures { λ r. ⌜ (r ≡ declaredBits (now (agreement .entry)) k) × (r < 65_536) ⌝ }
 {
     let n = value_count(agreement, places, k);
     unsigned16(agreement, template_place(agreement, places, k) + (6 + n))
+}
+
+// A template's head has so many bytes, with n values; its body stands behind it.
+fn head_size(n: usize) -> usize
+    requires { ⌜ n ≤ 8 ⌝ }
+    ensures { λ r. ⌜ r ≡ 8 + n ⌝ }
+{
+    8 + n
+}
+
+// Where the body of template k stands.
+pub fn body_span(agreement: &[u8], places: &[usize], k: usize) -> Span
+    requires { ⌜ Indexed (now places) (now agreement) × (k < bytes.byte (now agreement) 10) ⌝ }
+    ensures { λ r. ⌜ Spans (now (agreement .entry)) k (r .from) (r .to) ⌝ }
+{
+    let a = template_place(agreement, places, k);
+    let n = value_count(agreement, places, k);
+    let e = record_end(agreement, a);
+    Span {
+        from: a + head_size(n),
+        to: e,
+    }
+}
+
+// The first n of out stay, and `from` stands behind them.
+pub fn append(out: &mut [u8], n: usize, from: &[u8])
+    requires { ⌜ n + length (now from) ≤ length (now out) ⌝ }
+    ensures { λ _. ⌜ take (n + length (now (from .entry))) (now (out .exit)) ≡ take n (now (out .entry)) ++ now (from .entry) ⌝ }
+{
+    let mut i = 0;
+    while i < from.len() {
+        let x = from[i];
+        out[n + i] = x;
+        i += 1;
+    }
 }
 
 fn in_range(low: usize, high: usize, n: usize) -> bool
@@ -103,7 +167,7 @@ fn in_range(low: usize, high: usize, n: usize) -> bool
 pub fn sized(agreement: &[u8]) -> bool
     ensures { λ r. ⌜ r ≡ decode.sized (now (agreement .entry)) ⌝ }
 {
-    if !in_range(4, 16_384, agreement.len()) {
+    if !in_range(4, MOST_BYTES, agreement.len()) {
         return false;
     }
     unsigned16(agreement, 0) == agreement.len()
@@ -154,7 +218,7 @@ fn template_ok(piece: &[u8]) -> bool
     if n > 8 {
         return false;
     }
-    if piece.len() < 8 + n {
+    if piece.len() < head_size(n) {
         return false;
     }
     if !types_ok(&piece[5..5 + n]) {
@@ -223,13 +287,13 @@ fn counts_ok(agreement: &[u8]) -> bool
     if kind(agreement) != 1 {
         return false;
     }
-    if !in_range(1, 16, byte(agreement, 8)) {
+    if !in_range(1, MOST_PARTIES, byte(agreement, 8)) {
         return false;
     }
-    if !in_range(1, 16, byte(agreement, 9)) {
+    if !in_range(1, MOST_READINGS, byte(agreement, 9)) {
         return false;
     }
-    byte(agreement, 10) <= 32
+    byte(agreement, 10) <= MOST_TEMPLATES
 }
 
 // Whether kind, counts, reading types and templates' heads are as listed; where they are, `places` is the index.
@@ -252,7 +316,7 @@ pub fn fill_index(agreement: &[u8], places: &mut [usize]) -> bool
         return false;
     }
     let first = place_records(agreement, places, 0, 11, readings);
-    let main = place_records(agreement, places, 16, first, templates);
-    places[48] = main;
+    let main = place_records(agreement, places, FIRST_TEMPLATE, first, templates);
+    places[MAIN_CLAUSE] = main;
     records_ok(agreement, first, templates, 3)
 }

@@ -35,11 +35,14 @@ use Rattle.units.specs.declared.Waiting.the-variants.{Damaged as NoUnit, Of}
 use Rattle.units.specs.Cells.{numberBelow}
 use Rattle.units.specs.Units.{cellsIn, sightNumbers, PartiesOf, WaitingIs, sortOf}
 use Rattle.units.proofs.Cells.{below-is, yes-true, no-false}
-use Rattle.units.proofs.Blames.{at-past, joined-bits, bits-small}
+use Rattle.units.proofs.Blames.{at-past, joined-bits}
+use Rattle.parties.proofs.Masks.{bits-small}
 use Rattle.units.proofs.Waits.{none-is, option-none, split-takes, split-is}
 use Rattle.state.specs.declared.Walk.{Walk}
 use Rattle.state.specs.declared.Walk.the-variants.{Damaged, Tree}
-use Rattle.state.specs.Tree.{WaitsFirst, JoinsFirst, ReadsAs, TreeAs, WalkIs, SidesAs}
+use Rattle.state.specs.declared.First.{First}
+use Rattle.state.specs.declared.First.the-variants.{Waits, Joins, Nothing}
+use Rattle.state.specs.Tree.{WaitsFirst, JoinsFirst, ReadsAs, FirstIs, TreeAs, WalkIs, SidesAs}
 
 bits-below : {n : ℕ} (ps : List ℕ) → n ≡ bitsOf ps → n < 1_048_576
 bits-below ps e = omega (arith, bits-small ps)
@@ -378,6 +381,36 @@ module _ (ag : Agreement) where
           by-sort (joining j) is f = from-need (all isZero (cellsIn cells 1 24)) _ rs f λ z g. behind j qs room is z
               all-are g
 
+-- ---- the first unit
+pub no-kind : (cells : List ℤ) → unitSort (getD cells 0 (pos 0)) ≡ none → FirstIs cells Nothing
+unfolding FirstIs ReadsAs
+no-kind cells e ag (unit s p t v) w = none-is (sym e ∙ w .isSort)
+no-kind cells e ag (both j l r) w = none-is (sym e ∙ w .0 .isSort)
+
+-- r is what the code found
+pub is-waits : (cells : List ℤ) {r : First} {k : ℕ} → FirstIs cells r → r ≡ Waits k
+    → (sortNumber (sortOf k) ≡ k) × (getD cells 0 (pos 0) ≡ pos k)
+unfolding FirstIs
+is-waits cells h e = rw e at h
+
+pub is-joins : (cells : List ℤ) {r : First} {k : ℕ} → FirstIs cells r → r ≡ Joins k → JoinsFirst (joinOf k) cells
+unfolding FirstIs
+is-joins cells h e = rw e at h
+
+module _ (cells : List ℤ) (sort : ℕ) (first : getD cells 0 (pos 0) ≡ pos sort) (k : joinNumber (joinOf sort) ≡ sort)
+    {t : Bool} (h : t ≡ all isZero (cellsIn cells 1 24)) where
+  is-joining : unitSort (getD cells 0 (pos 0)) ≡ some (joining (joinOf sort))
+  is-joining = ap unitSort first ∙ sort-joining sort k
+
+  pub joins-cells : t ≡ false → FirstIs cells Nothing
+  unfolding FirstIs ReadsAs
+  joins-cells f ag (unit s p u v) w = sort-not ag (w .isSort) is-joining
+  joins-cells f ag (both j l r) w = absurd (true≢false (sym (w .0 .zeros) ∙ sym h ∙ f))
+
+  pub joins-first : 24 ≤ length cells → t ≡ true → FirstIs cells (Joins sort)
+  unfolding FirstIs
+  joins-first room f = record { room = room; isSort = is-joining; zeros = sym h ∙ f }
+
 -- ---- the code's answers
 module _ (a : List ℕ) (now n : ℕ) (cells : List ℤ) where
   abbrev ag : Agreement
@@ -387,10 +420,9 @@ module _ (a : List ℕ) (now n : ℕ) (cells : List ℤ) where
   unfolding WalkIs
   no-units sights e r w few = absurd (omega (arith, some-units ag r))
 
-  pub no-kind : (sights : List ℕ) → unitSort (getD cells 0 (pos 0)) ≡ none → WalkIs a now n cells sights Damaged
-  unfolding WalkIs ReadsAs
-  no-kind sights e (unit s p t v) w few = none-is (sym e ∙ w .isSort)
-  no-kind sights e (both j l r) w few = none-is (sym e ∙ w .0 .isSort)
+  pub no-first : (sights : List ℕ) → FirstIs cells Nothing → WalkIs a now n cells sights Damaged
+  unfolding WalkIs FirstIs
+  no-first sights f r w few = absurd (f ag r w)
 
   module _ (sort : ℕ) (first : getD cells 0 (pos 0) ≡ pos sort) where
     module _ (k : sortNumber (sortOf sort) ≡ sort) where
@@ -428,20 +460,6 @@ module _ (a : List ℕ) (now n : ℕ) (cells : List ℤ) where
             parties = w .parties;
             sighted = sights-put i c 0 sights two ∙ sym (w .sights);
           }
-
-    module _ (k : joinNumber (joinOf sort) ≡ sort) where
-      is-joining : unitSort (getD cells 0 (pos 0)) ≡ some (joining (joinOf sort))
-      is-joining = ap unitSort first ∙ sort-joining sort k
-
-      pub joins-cells : {t : Bool} (sights : List ℕ) → t ≡ all isZero (cellsIn cells 1 24) → not t ≡ true
-          → WalkIs a now n cells sights Damaged
-      unfolding WalkIs ReadsAs
-      joins-cells {t} sights h f (unit s p u v) w few = sort-not ag (w .isSort) is-joining
-      joins-cells {t} sights h f (both j l r) w few = absurd (true≢false (sym (w .0 .zeros) ∙ sym h ∙ no-false t f))
-
-      pub joins-first : {t : Bool} → 24 ≤ length cells → t ≡ all isZero (cellsIn cells 1 24) → not t ≡ false
-          → JoinsFirst (joinOf sort) cells
-      joins-first {t} room h f = record { room = room; isSort = is-joining; zeros = sym h ∙ yes-true t f }
 
   -- the sides
   left-none : (j : Join) (l r : Residue) → residueParties ag (mainsOf a) now l ≡ none

@@ -56,3 +56,8 @@ pub record HeadAt (a : List ℕ) (cells : List ℤ) (state time : ℕ) : Type 0 
   pub from : le32 a 4 ≤ time
   pub to : time < 4_294_967_296
   pub zeros : T (all isZero (take 3 (drop 5 cells)))
+
+-- what a table with a fulfilled state shows
+abbrev pub FulfilledIs : List ℤ → State → Type 0
+FulfilledIs cells r = (a : List ℕ) (time : ℕ) (sights : List ℕ) → HeadAt a cells 2 time
+    → Shows (runIn a cells) cells sights r

@@ -2,31 +2,52 @@
 ghost use mathlib.Core.Path.{_≡_};
 ghost use mathlib.Core.Bool.{true};
 ghost use mathlib.Core.List.{List};
-ghost use Prim.Native.Nat.{ℕ, _*_, _≤_, _<_};
-ghost use lib.IntN.{ℤ, pos};
-ghost use lib.ListN.{length, getD};
+ghost use Prim.Native.Nat.{ℕ, _≤_, _<_};
+ghost use lib.ListN.{length};
 ghost use Rattle.csl.specs.Parties.{member, bitsOf};
 ghost use Rattle.csl.specs.Typing.{joinOk};
-ghost use Rattle.csl.specs.Table.{sortNumber};
 ghost use Rattle.csl.specs.Decode.{joinOf};
-ghost use Rattle.records.specs.Index.{Indexed};
-ghost use Rattle.places.specs.Locate.{Accepted, mainsOf};
-ghost use Rattle.units.specs.Units.{sortOf};
-ghost use Rattle.state.specs.Tree.{SidesAs, WalkIs};
-ghost use Rattle.state.specs.Shown.{Shows, runIn, HeadAt};
+ghost use Rattle.places.specs.Locate.{mainsOf};
+ghost use Rattle.units.specs.Units.{Prepared};
+ghost use Rattle.state.specs.Tree.{UnitFirst, TreeRoom, FirstIs, JoinedIs, WalkIs};
+ghost use Rattle.state.specs.Shown.{Shows, runIn, HeadAt, FulfilledIs};
 use arith::unsigned32;
+use parties::is_subset;
 use parties::member_count;
 use parties::union;
-use parties::within;
+use units::UNIT;
 use units::Waiting;
 use units::number_below;
 use units::waiting_unit;
 use units::zeros;
 
+// A table's cells, and those of its head.
+const TABLE: usize = 3080;
+
+const HEAD: usize = 8;
+
+// No state, no kind of a unit, no count of units, no set of parties and no time is as great as these.
+const NO_STATE: usize = 4;
+
+const NO_KIND: usize = 22;
+
+const NO_COUNT: usize = 129;
+
+const NO_PARTIES: usize = 65_536;
+
+const NO_TIME: usize = 4_294_967_296;
+
+// The first unit: one that waits or a join, of a kind, or no unit.
+enum First {
+    Waits(usize),
+    Joins(usize),
+    Nothing,
+}
+
 // The tree of units at the front: damaged, or of so many units, with its parties by bit.
-pub enum Walk {
+enum Walk {
     Damaged,
-    Tree(usize, usize),
+    Tree { units: usize, bits: usize },
 }
 
 // What a table shows: running with so many units, fulfilled, or breached at a time by parties by bit.
@@ -43,29 +64,36 @@ fn read_unit(
     places: &[usize],
     mains: usize,
     time: usize,
-    sort: usize,
+    kind: usize,
     cells: &[i64],
     sights: &mut [usize],
 ) -> Walk
-    requires { ⌜ Indexed (now places) (now agreement) × Accepted (now agreement) × (mains ≡ bitsOf (mainsOf (now agreement))) × (time < 4_294_967_296) × (sortNumber (sortOf sort) ≡ sort) × (24 ≤ length (now cells)) × (getD (now cells) 0 (pos 0) ≡ pos sort) × (2 ≤ length (now sights)) ⌝ }
+    requires { ⌜ Prepared (now places) (now agreement) mains × UnitFirst time kind (now cells) (now sights) ⌝ }
     ensures { λ r. ⌜ ((n : ℕ) → 0 < n → WalkIs (now (agreement .entry)) time n (now (cells .entry)) (now (sights .exit)) r) ⌝ }
 {
-    match waiting_unit(agreement, places, mains, time, sort, &cells[1..24]) {
+    match waiting_unit(agreement, places, mains, time, kind, &cells[1..UNIT]) {
         Waiting::Damaged => Walk::Damaged,
-        Waiting::Of(bits, n, c) => {
-            sights[0] = n;
-            sights[1] = c;
-            Walk::Tree(1, bits)
+        Waiting::Of {
+            parties,
+            params,
+            count,
+        } => {
+            sights[0] = params;
+            sights[1] = count;
+            Walk::Tree {
+                units: 1,
+                bits: parties,
+            }
         }
     }
 }
 
 // 'The two sides of an `or` together have at most one member': of the parties of both sides.
-fn join_ok(sort: usize, bits: usize) -> bool
+fn join_ok(kind: usize, bits: usize) -> bool
     requires { ⌜ bits < 1_048_576 ⌝ }
-    ensures { λ r. ⌜ ((ps : List ℕ) → ((q : ℕ) → member q ps ≡ true → q < 16) → bits ≡ bitsOf ps → r ≡ joinOk (joinOf sort) ps) ⌝ }
+    ensures { λ r. ⌜ ((ps : List ℕ) → ((q : ℕ) → member q ps ≡ true → q < 16) → bits ≡ bitsOf ps → r ≡ joinOk (joinOf kind) ps) ⌝ }
 {
-    if sort == 20 {
+    if kind == 20 {
         true
     } else {
         member_count(bits) <= 1
@@ -73,17 +101,45 @@ fn join_ok(sort: usize, bits: usize) -> bool
 }
 
 // A join of two sides, of k and m units and with the parties x and y; where its right side begins goes into the sights.
-fn read_join(sort: usize, k: usize, x: usize, m: usize, y: usize, sights: &mut [usize]) -> Walk
+fn read_join(kind: usize, k: usize, x: usize, m: usize, y: usize, sights: &mut [usize]) -> Walk
     requires { ⌜ (x < 1_048_576) × (y < 1_048_576) × (k ≤ 128) × (m ≤ 128) × (2 ≤ length (now sights)) ⌝ }
-    ensures { λ r. ⌜ ((a : List ℕ) (last n : ℕ) (cells : List ℤ) → SidesAs a last n (joinOf sort) cells (now (sights .entry)) k x m y → WalkIs a last n cells (now (sights .exit)) r) ⌝ }
+    ensures { λ r. ⌜ JoinedIs (joinOf kind) k x m y (now (sights .entry)) (now (sights .exit)) r ⌝ }
 {
     let bits = union(x, y);
-    if !join_ok(sort, bits) {
+    if !join_ok(kind, bits) {
         return Walk::Damaged;
     }
     sights[0] = k;
     sights[1] = 0;
-    Walk::Tree(1 + k + m, bits)
+    Walk::Tree {
+        units: 1 + k + m,
+        bits: bits,
+    }
+}
+
+// The first unit, by its kind; a join's other cells are zero.
+fn first_unit(cells: &[i64]) -> First
+    requires { ⌜ 24 ≤ length (now cells) ⌝ }
+    ensures { λ r. ⌜ FirstIs (now (cells .entry)) r ⌝ }
+{
+    let kind = number_below(cells[0], NO_KIND);
+    if kind < 17 {
+        return First::Nothing;
+    }
+    if kind < 19 {
+        return First::Waits(kind);
+    }
+    if kind == 19 {
+        return First::Nothing;
+    }
+    if kind == NO_KIND {
+        return First::Nothing;
+    }
+    if zeros(&cells[1..UNIT]) {
+        First::Joins(kind)
+    } else {
+        First::Nothing
+    }
 }
 
 // The tree at the front of n units: a unit that waits, or a join with its left side behind it and then its right side.
@@ -96,57 +152,38 @@ fn walk_tree(
     n: usize,
     sights: &mut [usize],
 ) -> Walk
-    requires { ⌜ Indexed (now places) (now agreement) × Accepted (now agreement) × (mains ≡ bitsOf (mainsOf (now agreement))) × (time < 4_294_967_296) × (n ≤ 128) × (24 * n ≤ length (now cells)) × (2 * n ≤ length (now sights)) ⌝ }
+    requires { ⌜ Prepared (now places) (now agreement) mains × TreeRoom time n (now cells) (now sights) ⌝ }
     ensures { λ r. ⌜ WalkIs (now (agreement .entry)) time n (now (cells .entry)) (now (sights .exit)) r ⌝ }
 {
     if n == 0 {
         return Walk::Damaged;
     }
-    let sort = number_below(cells[0], 22);
-    if sort < 20 {
-        if sort < 17 {
-            return Walk::Damaged;
+    match first_unit(cells) {
+        First::Nothing => Walk::Damaged,
+        First::Waits(kind) => read_unit(agreement, places, mains, time, kind, cells, sights),
+        First::Joins(kind) => {
+            let rest = &cells[UNIT..];
+            let m = n - 1;
+            let left = walk_tree(agreement, places, mains, time, rest, m, &mut sights[2..]);
+            let Walk::Tree { units: k, bits: x } = left else {
+                return Walk::Damaged;
+            };
+            let more = &cells[UNIT + UNIT * k..];
+            let at = 2 + 2 * k;
+            let i = m - k;
+            let right = walk_tree(agreement, places, mains, time, more, i, &mut sights[at..]);
+            let Walk::Tree { units: j, bits: y } = right else {
+                return Walk::Damaged;
+            };
+            read_join(kind, k, x, j, y, sights)
         }
-        if sort == 19 {
-            return Walk::Damaged;
-        }
-        return read_unit(agreement, places, mains, time, sort, cells, sights);
-    }
-    if sort == 22 {
-        return Walk::Damaged;
-    }
-    if !zeros(&cells[1..24]) {
-        return Walk::Damaged;
-    }
-    match walk_tree(
-        agreement,
-        places,
-        mains,
-        time,
-        &cells[24..],
-        n - 1,
-        &mut sights[2..],
-    ) {
-        Walk::Damaged => Walk::Damaged,
-        Walk::Tree(k, x) => match walk_tree(
-            agreement,
-            places,
-            mains,
-            time,
-            &cells[24 + 24 * k..],
-            n - 1 - k,
-            &mut sights[2 + 2 * k..],
-        ) {
-            Walk::Damaged => Walk::Damaged,
-            Walk::Tree(m, y) => read_join(sort, k, x, m, y, sights),
-        },
     }
 }
 
 // Fulfilled: all other cells are zero.
 fn fulfilled(table: &[i64]) -> State
     requires { ⌜ length (now table) ≡ 3080 ⌝ }
-    ensures { λ r. ⌜ ((a : List ℕ) (time : ℕ) (sights : List ℕ) → HeadAt a (now (table .entry)) 2 time → Shows (runIn a (now (table .entry))) (now (table .entry)) sights r) ⌝ }
+    ensures { λ r. ⌜ FulfilledIs (now (table .entry)) r ⌝ }
 {
     if !zeros(&table[2..4]) {
         return State::Damaged;
@@ -154,7 +191,7 @@ fn fulfilled(table: &[i64]) -> State
     if !zeros(&table[4..5]) {
         return State::Damaged;
     }
-    if zeros(&table[8..3080]) {
+    if zeros(&table[HEAD..TABLE]) {
         State::Fulfilled
     } else {
         State::Damaged
@@ -173,20 +210,20 @@ fn breached(agreement: &[u8], mains: usize, time: usize, table: &[i64]) -> State
     if when < unsigned32(agreement, 4) {
         return State::Damaged;
     }
-    let bits = number_below(table[3], 65_536);
-    if bits == 65_536 {
+    let bits = number_below(table[3], NO_PARTIES);
+    if bits == NO_PARTIES {
         return State::Damaged;
     }
     if bits == 0 {
         return State::Damaged;
     }
-    if !within(bits, mains) {
+    if !is_subset(bits, mains) {
         return State::Damaged;
     }
     if !zeros(&table[4..5]) {
         return State::Damaged;
     }
-    if !zeros(&table[8..3080]) {
+    if !zeros(&table[HEAD..TABLE]) {
         return State::Damaged;
     }
     let t = table[2];
@@ -205,23 +242,32 @@ fn running(
     table: &[i64],
     sights: &mut [usize],
 ) -> State
-    requires { ⌜ Indexed (now places) (now agreement) × Accepted (now agreement) × (mains ≡ bitsOf (mainsOf (now agreement))) × (length (now table) ≡ 3080) × (256 ≤ length (now sights)) × HeadAt (now agreement) (now table) 1 time ⌝ }
+    requires { ⌜ Prepared (now places) (now agreement) mains × (length (now table) ≡ 3080) × (256 ≤ length (now sights)) ⌝ }
+    requires { ⌜ HeadAt (now agreement) (now table) 1 time ⌝ }
     ensures { λ r. ⌜ Shows (runIn (now (agreement .entry)) (now (table .entry))) (now (table .entry)) (now (sights .exit)) r ⌝ }
 {
     if !zeros(&table[2..4]) {
         return State::Damaged;
     }
-    let n = number_below(table[4], 129);
-    if n == 129 {
+    let n = number_below(table[4], NO_COUNT);
+    if n == NO_COUNT {
         return State::Damaged;
     }
-    match walk_tree(agreement, places, mains, time, &table[8..3080], n, sights) {
+    match walk_tree(
+        agreement,
+        places,
+        mains,
+        time,
+        &table[HEAD..TABLE],
+        n,
+        sights,
+    ) {
         Walk::Damaged => State::Damaged,
-        Walk::Tree(k, _) => {
+        Walk::Tree { units: k, bits: _ } => {
             if k != n {
                 return State::Damaged;
             }
-            if zeros(&table[8 + 24 * n..3080]) {
+            if zeros(&table[HEAD + UNIT * n..TABLE]) {
                 State::Running(n)
             } else {
                 State::Damaged
@@ -230,7 +276,8 @@ fn running(
     }
 }
 
-// The state that a table shows. The sights get two numbers for each unit: its party parameters and its values in sight, or for a join the units of its left side and 0.
+// The state that a table shows. The sights get two numbers for each unit: its party parameters and its values in sight, or for a join
+// the units of its left side and 0.
 pub fn state_of(
     agreement: &[u8],
     places: &[usize],
@@ -238,20 +285,20 @@ pub fn state_of(
     table: &[i64],
     sights: &mut [usize],
 ) -> State
-    requires { ⌜ Indexed (now places) (now agreement) × Accepted (now agreement) × (mains ≡ bitsOf (mainsOf (now agreement))) × (length (now table) ≡ 3080) × (256 ≤ length (now sights)) ⌝ }
+    requires { ⌜ Prepared (now places) (now agreement) mains × (length (now table) ≡ 3080) × (256 ≤ length (now sights)) ⌝ }
     ensures { λ r. ⌜ Shows (runIn (now (agreement .entry)) (now (table .entry))) (now (table .entry)) (now (sights .exit)) r ⌝ }
 {
-    let time = number_below(table[1], 4_294_967_296);
-    if time == 4_294_967_296 {
+    let time = number_below(table[1], NO_TIME);
+    if time == NO_TIME {
         return State::Damaged;
     }
     if time < unsigned32(agreement, 4) {
         return State::Damaged;
     }
-    if !zeros(&table[5..8]) {
+    if !zeros(&table[5..HEAD]) {
         return State::Damaged;
     }
-    match number_below(table[0], 4) {
+    match number_below(table[0], NO_STATE) {
         1 => running(agreement, places, mains, time, table, sights),
         2 => fulfilled(table),
         3 => breached(agreement, mains, time, table),

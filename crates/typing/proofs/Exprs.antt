@@ -166,31 +166,9 @@ module _ (ps : ℕ) (env : List Ty) where
       ∙ ap (λ (n : ℕ). operationType k (typeNumber (typeExpr ps env e)) n) r
       ∙ operation-by (eqb k 41) (eqb k 42) (eqb k 43) (arithmeticOf k) (typeExpr ps env e) (typeExpr ps env f)
 
--- ---- a number in range, in the machine's tests
-module _ {z : ℤ} (f : mag z < 2 ^ 63) (w : ℤ) (e : z ≡ w) where
-  pub range-over : ltZ top (seen z) ≡ true → false ≡ inRange w
-  unfolding inRange
-  range-over l = sym (lt-leb (natAbs w) limit
-      (omega (ints, parts w, up-pos limit, dn-pos limit, up-neg top, dn-neg top, rw e at (rw (read! f) at l))))
-
-  pub range-under : ltZ (seen z) bottom ≡ true → false ≡ inRange w
-  unfolding inRange
-  range-under l = sym (lt-leb (natAbs w) limit
-      (omega (ints, parts w, up-pos limit, dn-pos limit, up-neg top, dn-neg top, rw e at (rw (read! f) at l))))
-
-  pub range-in : ltZ top (seen z) ≡ false → ltZ (seen z) bottom ≡ false → true ≡ inRange w
-  unfolding inRange
-  range-in l u = sym (le-leb (natAbs w) limit
-      (omega (
-        ints,
-        parts w,
-        up-pos limit,
-        dn-pos limit,
-        up-neg top,
-        dn-neg top,
-        rw e at (rw (read! f) at l),
-        rw e at (rw (read! f) at u),
-      )))
+-- ---- a number in range; z is what the bytes gave, and reads from its bits
+pub ranged : {z : ℤ} {b : Bool} (f : mag z < 2 ^ 63) (w : ℤ) → z ≡ w → b ≡ inRange (seen z) → b ≡ inRange w
+ranged f w e h = h ∙ ap inRange (read! f ∙ e)
 
 -- ---- what `leaf_type` finds
 module _ (ps : ℕ) (bs : List ℕ) (k : ℕ) (s : List ℕ) where
@@ -216,7 +194,7 @@ module _ (ps : ℕ) (bs : List ℕ) (k : ℕ) (s : List ℕ) where
     unfolding leafType
     leaf-short l = rw (ne-eqb k 32 (e .0), ne-eqb k 33 (e .1), ne-eqb k 34 (e .2), ne-eqb (length s) 5 l)
 
-pub ruleset leaves = (leaf-number, leaf-truth, leaf-party, leaf-value, leaf-short)
+pub ruleset leaves = (ranged, leaf-number, leaf-truth, leaf-party, leaf-value, leaf-short)
 
 -- ---- a record by its kind's number
 no-kind : exprKind 0 ≡ noExpr

@@ -23,11 +23,11 @@ use Rattle.records.proofs.Index.{end-from, heads-in, heads-at, heads-past, temp
 use Rattle.parties.specs.Masks.{maskOf, mayBlame, BlameMask}
 use Rattle.parties.proofs.Masks.{mask-lt, mask-nil, mask-append, mask-members}
 use Rattle.typing.specs.Types.{byteType, tyNumber, typeNumber}
-use Rattle.typing.specs.Clauses.{isTyped, argumentsAs, argumentsOf, blamesOf, typedAs, Small, blamedAs}
+use Rattle.typing.specs.Clauses.{namesIn, isTyped, argumentsAs, argumentsOf, blamesOf, typedAs, Small, blamedAs}
 use Rattle.typing.specs.declared.Typed.{Typed}
 use Rattle.typing.specs.declared.Typed.the-variants.{Parties, Untyped}
 use Rattle.typing.proofs.Exprs.{byte-type}
-use Rattle.typing.proofs.Sights.{namesIn, has-is, parties-is, twice, tys-length}
+use Rattle.typing.proofs.Sights.{has-is, parties-is, twice, tys-length}
 
 -- what stands behind the first
 rest-is : (v : ℕ) (vs : List ℕ) → part (v ∷ vs) 1 (length (v ∷ vs)) ≡ vs

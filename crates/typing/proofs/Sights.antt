@@ -21,13 +21,9 @@ use Rattle.arith.proofs.Bytes.{record-end-within, record-end-after}
 use Rattle.records.specs.Index.{Indexed, readingPlace, pieceAt}
 use Rattle.records.proofs.Index.{readings-at, readings-past, reading-facts, reading-within}
 use Rattle.typing.specs.Types.{tyNumber, typeNumber}
-use Rattle.typing.specs.Clauses.{seenAs, thenOf, isTyped, waitTyped, waitSight, firstSight, JoinedSight}
+use Rattle.typing.specs.Clauses.{namesIn, seenAs, thenOf, isTyped, waitTyped, waitSight, firstSight, JoinedSight}
 use Rattle.parties.specs.Masks.{BlameMask, mayBlame}
 use Rattle.typing.proofs.Exprs.{same-number}
-
--- what a clause may name, in an agreement's bytes, with so many party parameters
-abbrev pub namesIn : List ℕ → ℕ → Names
-namesIn g m = namesOf (agreementOf g) m
 
 -- ---- no bytes are no expression
 no-bytes : (d : ℕ) → expr d [] ≡ badExpr
@@ -40,22 +36,7 @@ pub part-none : (ps : ℕ) (env : List Ty) (d : ℕ) (s : List ℕ) (a e : ℕ) 
 unfolding typeExpr typeNumber
 part-none ps env d s a e l = let z : e - a ≡ 0 = omega arith in rw (z, no-bytes d)
 
--- ---- bytes behind others
-pub append-more : (old out from : List ℕ) (n i : ℕ) → n + i < length out → i < length from
-    → take (n + i) out ≡ take n old ++ take i from → take (n + (i + 1)) (set out (n + i) (getD from i 0)) ≡ take n old
-    ++ take (i + 1) from
-append-more old out from n i l m e =
-    let q : n + (i + 1) ≡ suc (n + i) = omega arith in
-    rw (q, take-suc-set out (n + i) (getD from i 0) l, e, add-one i, take-suc from i 0 m)
-    (append-assoc (take n old) (take i from) (getD from i 0 ∷ []))
-
-pub append-none : (old from : List ℕ) (n : ℕ) → take (n + 0) old ≡ take n old ++ take 0 from
-append-none old from n = let z : n + 0 ≡ n = omega arith in rw (z, append-nil)
-
-pub append-done : (old out from : List ℕ) (n i : ℕ) → i ≡ length from → take (n + i) out ≡ take n old ++ take i from
-    → take (n + length from) out ≡ take n old ++ from
-append-done old out from n i e h = rw (e, take-all (length from) from (omega arith)) at h
-
+-- ---- the types in sight, written
 module _ (bs vs : List ℕ) where
   pub join-many : (out : List ℕ) → 16 ≤ length bs + length vs → JoinedSight bs vs 17 out
   join-many out l = record {

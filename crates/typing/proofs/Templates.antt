@@ -9,60 +9,33 @@ use lib.Bits.{bitOr}
 use lib.Dec.{eqb, ltb}
 use lib.ListN.{length}
 use Rattle.csl.specs.Lists.{_>>=_, need, all}
-use Rattle.csl.specs.Bytes.{byte, le16, part, recordEnd}
+use Rattle.csl.specs.Bytes.{byte, le16, part}
 use Rattle.csl.specs.Parties.{member, members}
 use Rattle.csl.specs.Syntax.{Ty}
-use Rattle.csl.specs.Decode.{tysOf, templatesPlace, clause, pieces, recordsEnd, headsOf, bodyPlace, bodyOf, templateOf}
+use Rattle.csl.specs.Decode.{tysOf, templatesPlace, clause, pieces, recordsEnd, headsOf, bodyOf, templateOf}
 use Rattle.csl.specs.Decode.{templateHead, mainPlace, mainOf, templatePieces, agreementOf}
 use Rattle.csl.specs.Typing.{Names, namesOf, isConstant, typeClause, typeTemplate, typeTemplates, headsIn}
 use Rattle.csl.specs.Typing as typing
-use Rattle.arith.proofs.Lists.{length-part, part-part}
-use Rattle.arith.proofs.Bytes.{record-end-within}
-use Rattle.records.specs.Index.{Indexed, headAt, pieceAt, templatePlace}
-use Rattle.records.proofs.Index.{heads-in, template-facts, few-params, pieces-more}
+use Rattle.records.specs.Index.{Indexed, Spans, headAt, pieceAt, templatePlace, templatePiece, valueCount}
+use Rattle.records.proofs.Index.{heads-in, few-params, pieces-more, body-is}
 use Rattle.parties.specs.Masks.{maskOf}
 use Rattle.parties.proofs.Masks as masks
-use Rattle.typing.specs.Clauses.{typedAs, holds, pieceOf, bodyTyped, templateTyped, templatesTyped}
+use Rattle.typing.specs.Clauses.{namesIn, typedAs, holds, bodyTyped, templateTyped, templatesTyped}
 use Rattle.typing.specs.declared.Typed.{Typed}
 use Rattle.typing.specs.declared.Typed.the-variants.{Parties, Untyped}
-use Rattle.typing.proofs.Sights.{namesIn, parties-is}
+use Rattle.typing.proofs.Sights.{parties-is}
 use Rattle.typing.proofs.Instances.{values-part, untyped}
 use Rattle.typing.proofs.Typings.{typed-place, valid}
 
--- ---- the body of template k, as code cuts its bytes out of the agreement
-module _ {places g : List ℕ} (x : Indexed places g) {k a n e : ℕ} (l : k < byte g 10) (p : a ≡ templatePlace g k)
-    (q : n ≡ byte (pieceAt g (templatePlace g k)) 4) (r : e ≡ recordEnd g a) where
-  body-long : templatePlace g k + 8 + byte (pieceAt g (templatePlace g k)) 4 ≤ recordEnd g (templatePlace g k)
-  body-long =
-      let t = templatePlace g k in
-      omega (arith, template-facts x k l .long, length-part g t (recordEnd g t) (record-end-within g t))
-
-  pub body-start : a + 8 + n ≤ e
-  body-start = rw (r, q, p) body-long
-
-  body-part : part (pieceAt g (templatePlace g k)) (8 + byte (pieceAt g (templatePlace g k)) 4)
-      (length (pieceAt g (templatePlace g k))) ≡ part g (a + 8 + n) e
-  body-part =
-      let t = templatePlace g k in
-      let z = recordEnd g t in
-      let b = byte (pieceAt g t) 4 in
-      let u : t + (z - t) ≡ z = omega (arith, body-long) in
-      let v : t + (8 + b) ≡ t + 8 + b = omega arith in
-      rw (r, q, p) (ap (λ (m : ℕ). part (pieceAt g t) (8 + b) m) (length-part g t z (record-end-within g t))
-      ∙ part-part g t z (8 + b) (z - t) (omega arith) ∙ rw (u, v))
-
-  pub body-typed : {m : ℕ} {t : Typed} → m ≡ headAt g k .params
-      → t ≡ typedAs (typeClause (namesIn g m) (tysOf (part g (a + 5) (a + 5 + n)))
-      (clause (headsOf g) 22 0 (part g (a + 8 + n) e))) → t ≡ typedAs (bodyTyped g k)
-  unfolding bodyOf bodyPlace
-  body-typed {m} h f =
-      let t = templatePlace g k in
-      let b = 8 + byte (pieceAt g t) 4 in
-      f ∙ rw (h, ← values-part x l p q, ← body-part)
-      (ap typedAs (typed-place (namesIn g (headAt g k .params)) (headsOf g) 22 (headAt g k .values) 0 (t + b)
-      (part (pieceAt g t) b (length (pieceAt g t)))))
-
-pub ruleset bodies = (body-start, body-typed)
+-- ---- the body of template k; from, to, a and n are what calls gave
+pub body-typed : {places g : List ℕ} (x : Indexed places g) {k from to a n m : ℕ} {t : Typed} → k < byte g 10
+    → Spans g k from to → a ≡ templatePlace g k → n ≡ valueCount g k → m ≡ headAt g k .params
+    → t ≡ typedAs (typeClause (namesIn g m) (tysOf (part g (a + 5) (a + 5 + n)))
+    (clause (headsOf g) 22 0 (part g from to))) → t ≡ typedAs (bodyTyped g k)
+body-typed {g = g} x {k} {from} {to} l b p q h f =
+    f ∙ rw (h, ← values-part x l p q) (ap typedAs (typed-place (namesIn g (headAt g k .params)) (headsOf g) 22
+    (headAt g k .values) 0 from (part g from to) ∙ ap (typeClause (namesIn g (headAt g k .params)) (headAt g k .values))
+    (sym (body-is b (headsOf g)))))
 
 -- ---- template k
 abbrev within : ℕ → List ℕ → Bool
@@ -119,7 +92,7 @@ module _ {places g : List ℕ} (x : Indexed places g) (k : ℕ) {d : ℕ} (l : k
       unfolding _>>=_
       template-within {r = r} s u v w = from-typed (bodyTyped g k) f u (λ qs y z.
           masks.body-within qs s (valid x (headAt g k .params) (few-params x k l) (headAt g k .values)
-          (bodyOf (headsOf g) (pieceOf g k)) qs y) z v w
+          (bodyOf (headsOf g) (templatePiece g k)) qs y) z v w
           ∙ sym (unfolded ∙ rw y (holds-is (within (declaredAt g k) qs)) ∙ ap (λ (m : ℕ). within m qs) (sym p)))
 
 pub ruleset templates = (template-beyond, template-untyped, template-within)

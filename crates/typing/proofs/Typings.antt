@@ -27,11 +27,11 @@ use Rattle.parties.specs.Masks.{maskOf, BlameMask, ValidMembers}
 use Rattle.parties.proofs.Masks.{mask-nil, mask-append, mask-count, valid-append}
 use Rattle.parties.proofs.Typed.{valid-typed, declared-valid}
 use Rattle.typing.specs.Types.{recordKind}
-use Rattle.typing.specs.Clauses.{seenAs, waitSight, firstSight, firstEnd, typedAs, fulfilledAs, blamedAs}
+use Rattle.typing.specs.Clauses.{namesIn, seenAs, waitSight, firstSight, firstEnd, typedAs, fulfilledAs, blamedAs}
 use Rattle.typing.specs.Clauses.{sidesAs, joinedAs}
 use Rattle.typing.specs.declared.Typed.{Typed}
 use Rattle.typing.specs.declared.Typed.the-variants.{Parties, Untyped}
-use Rattle.typing.proofs.Sights.{namesIn, seen-some, seen-none}
+use Rattle.typing.proofs.Sights.{seen-some, seen-none}
 use Rattle.typing.proofs.Instances.{untyped}
 
 -- ---- a clause's type does not go by its place

@@ -8,18 +8,22 @@ use lib.Bits.{bitOr}
 use lib.Count.{ones}
 use lib.Dec.{eqb, leb, ltb}
 use lib.ListN.{length, take}
-use Rattle.csl.specs.Lists.{_>>=_, need, all}
+use Rattle.csl.specs.Lists.{_>>=_, need, all, at}
 use Rattle.csl.specs.Bytes.{byte, part, recordEnd}
-use Rattle.csl.specs.Syntax.{Ty, number, truth, Expr, Wait, Head}
-use Rattle.csl.specs.Decode.{tysOf, waitAt, arguments, recordsEnd, Piece, pieces, headsOf, bodyOf, templateOf}
+use Rattle.csl.specs.Syntax.{Ty, number, truth, Expr, Wait, Head, Clause}
+use Rattle.csl.specs.Decode.{expr, tysOf, waitAt, arguments, recordsEnd, instanceOf, pieces, headsOf, bodyOf, templateOf}
 use Rattle.csl.specs.Decode.{agreementOf}
 use Rattle.csl.specs.Typing.{Names, blameOk, typeExpr, hasType, haveTypes, readingOfType, thenSight, typeWait}
 use Rattle.csl.specs.Typing.{typeClause, typeTemplate, typeTemplates, namesOf}
-use Rattle.records.specs.Index.{templatePlace, pieceAt, headAt}
+use Rattle.records.specs.Index.{templatePlace, templatePiece, headAt}
 use Rattle.parties.specs.Masks.{maskOf, maskEnd, mayBlame}
 use Rattle.typing.specs.Types.{tyNumber, typeNumber}
 use Rattle.typing.specs.declared.Typed.{Typed}
 use Rattle.typing.specs.declared.Typed.the-variants.{Parties, Untyped}
+
+-- what a clause may name in an agreement's bytes, with so many party parameters
+abbrev pub namesIn : List ℕ → ℕ → Names
+namesIn g m = namesOf (agreementOf g) m
 
 -- ---- the types in sight, as the first n bytes of out; none where n is over 16
 unfoldable pub seenAs : ℕ → List ℕ → Option (List Ty)
@@ -37,6 +41,10 @@ unfoldable pub thenOf : List (List Ty) → List Ty → ℕ → Option (List Ty)
 thenOf rs env k = readingOfType rs k >>= λ vs. need (leb (length (thenSight env vs)) 16) >>= λ _. some
     (thenSight env vs)
 
+-- the same of the agreement's readings, the type bytes being in sight
+abbrev pub thenIn : List ℕ → List ℕ → ℕ → Option (List Ty)
+thenIn g types k = thenOf (agreementOf g .readings) (tysOf types) k
+
 -- ---- a wait
 unfoldable pub isTyped : ℕ → List Ty → Expr → Ty → Bool
 isTyped ps env e t = eqb (typeNumber (typeExpr ps env e)) (tyNumber t)
@@ -49,6 +57,10 @@ waitTyped ps inner env w = isTyped ps inner (w .condition) truth && isTyped ps e
 unfoldable pub waitSight : Names → List Ty → Wait → Option (List Ty)
 waitSight n env w = typeWait n env w >>= λ vs. some (thenSight env vs)
 
+-- of the wait in the record s, the wanted reading type standing at i
+abbrev pub waitIn : List ℕ → List ℕ → ℕ → List ℕ → ℕ → Option (List Ty)
+waitIn g types d s i = waitSight (namesIn g 0) (tysOf types) (waitAt (expr d) 0 s i)
+
 -- what the first clause part of a clause of kind 17 to 21 sees, where what stands before it is typed
 unfoldable pub firstSight : Names → List Ty → (List ℕ → Expr) → ℕ → List ℕ → Option (List Ty)
 firstSight n env e k s =
@@ -56,6 +68,9 @@ firstSight n env e k s =
     (cond (eqb k 18) (waitSight n env (waitAt e 0 s 4))
     (cond (eqb k 19) (hasType (n .parties) env (e (part s 4 (recordEnd s 4))) truth >>= λ _. some env)
     (some env)))
+
+abbrev pub firstIn : List ℕ → ℕ → List ℕ → ℕ → ℕ → List ℕ → Option (List Ty)
+firstIn g params types d k s = firstSight (namesIn g params) (tysOf types) (expr d) k s
 
 -- where it ends, if it begins at c
 unfoldable pub firstEnd : ℕ → List ℕ → ℕ → ℕ
@@ -65,6 +80,10 @@ firstEnd k s c = cond (eqb k 17) (length s) (recordEnd s c)
 unfoldable pub typedAs : Option (List ℕ) → Typed
 typedAs none = Untyped
 typedAs (some ps) = Parties (maskOf ps)
+
+-- the parties of a clause, the type bytes being in sight
+abbrev pub typedIn : List ℕ → ℕ → List ℕ → Clause → Option (List ℕ)
+typedIn g params types c = typeClause (namesIn g params) (tysOf types) c
 
 unfoldable pub fulfilledAs : ℕ → Typed
 fulfilledAs n = cond (eqb n 4) (Parties 0) Untyped
@@ -94,6 +113,20 @@ argumentsOf h ps env e s =
     let n = length (h .values) in
     argumentsAs (haveTypes ps env (arguments e n s 5) (h .values)) (recordsEnd n s 5)
 
+-- of so many arguments from i on as there are bytes of value types
+abbrev pub argumentsIn : ℕ → List ℕ → List ℕ → ℕ → List ℕ → ℕ → ℕ
+argumentsIn ps types values d s i =
+    let n = length values in
+    argumentsAs (haveTypes ps (tysOf types) (arguments (expr d) n s i) (tysOf values)) (recordsEnd n s i)
+
+-- of an instance of template k
+abbrev pub argumentsAt : List ℕ → ℕ → List ℕ → ℕ → List ℕ → ℕ
+argumentsAt g k types d s = argumentsOf (headAt g k) (byte g 8) (tysOf types) (expr d) s
+
+-- the clause that an instance is
+abbrev pub instanceIn : List ℕ → ℕ → List ℕ → Clause
+instanceIn g d s = instanceOf (expr d) s (at (headsOf g) (byte s 4))
+
 unfoldable pub blamesOf : ℕ → ℕ → List ℕ → Option (List ℕ)
 blamesOf ps params bs = need (all (mayBlame ps params) bs) >>= λ _. some bs
 
@@ -102,16 +135,14 @@ unfoldable pub holds : Option (Unit {0}) → Bool
 holds none = false
 holds (some _) = true
 
-abbrev pub pieceOf : List ℕ → ℕ → Piece
-pieceOf s k = record { place = templatePlace s k; bytes = pieceAt s (templatePlace s k) }
-
 -- the parties of template k's body
 abbrev pub bodyTyped : List ℕ → ℕ → Option (List ℕ)
-bodyTyped s k = typeClause (namesOf (agreementOf s) (headAt s k .params)) (headAt s k .values)
-    (bodyOf (headsOf s) (pieceOf s k))
+bodyTyped s k = typeClause (namesIn s (headAt s k .params)) (headAt s k .values)
+    (bodyOf (headsOf s) (templatePiece s k))
 
 abbrev pub templateTyped : List ℕ → ℕ → Option (Unit {0})
-templateTyped s k = typeTemplate (byte s 8) (agreementOf s .readings) (headsOf s) (templateOf (headsOf s) (pieceOf s k))
+templateTyped s k = typeTemplate (byte s 8) (agreementOf s .readings) (headsOf s)
+    (templateOf (headsOf s) (templatePiece s k))
 
 -- the templates from k on
 abbrev pub templatesTyped : List ℕ → ℕ → Option (Unit {0})

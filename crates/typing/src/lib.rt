@@ -1,21 +1,19 @@
 // Refusal 3: types of expressions, typing and parties of clauses.
 ghost use mathlib.Core.Path.{_≡_};
 ghost use Prim.Native.Nat.{ℕ, _+_, _≤_, _<_};
-ghost use mathlib.Core.List.{_++_};
 ghost use mathlib.Core.Option.{some};
-ghost use lib.ListN.{length, take};
-ghost use Rattle.csl.specs.Lists.{at};
-ghost use Rattle.csl.specs.Numbers.{inRange};
+ghost use lib.ListN.{length};
 ghost use Rattle.csl.specs.Bytes as bytes;
 ghost use Rattle.csl.specs.Bytes.{part};
-ghost use Rattle.csl.specs.Decode.{expr, tysOf, waitAt, agreementOf, arguments, recordsEnd, instanceOf, headsOf, clause};
+ghost use Rattle.csl.specs.Decode.{expr, tysOf, waitAt, agreementOf, headsOf, clause};
 ghost use Rattle.csl.specs.Typing as typing;
-ghost use Rattle.csl.specs.Typing.{typeExpr, haveTypes, typeClause, namesOf};
+ghost use Rattle.csl.specs.Typing.{typeExpr};
 ghost use Rattle.typing.specs.Types.{byteType, typeNumber, sightType, recordKind, literalType, leafType, notType, operandType, resultType, operationType};
-ghost use Rattle.typing.specs.Clauses.{seenAs, thenOf, waitTyped, waitSight, firstSight, firstEnd, JoinedSight, argumentsAs, argumentsOf, blamesOf, bodyTyped, templateTyped, templatesTyped, holds, typedAs, fulfilledAs, Small, blamedAs, sidesAs, joinedAs};
-ghost use Rattle.records.specs.Index.{Indexed, headAt};
+ghost use Rattle.typing.specs.Clauses.{seenAs, thenIn, waitTyped, waitIn, firstIn, firstEnd, JoinedSight, argumentsIn, argumentsAt, blamesOf, typedIn, instanceIn, bodyTyped, templateTyped, templatesTyped, holds, typedAs, fulfilledAs, Small, blamedAs, sidesAs, joinedAs};
+ghost use Rattle.records.specs.Index.{Indexed};
 ghost use Rattle.parties.specs.Masks.{maskEnd};
 use arith::byte;
+use arith::in_range;
 use arith::is_record;
 use arith::kind;
 use arith::record_end;
@@ -23,9 +21,14 @@ use arith::signed32;
 use parties::below;
 use parties::blame_mask;
 use parties::constants;
+use parties::is_subset;
 use parties::member_count;
 use parties::union;
-use parties::within;
+use records::BODY_DEPTH;
+use records::IN_SIGHT;
+use records::MAIN_DEPTH;
+use records::append;
+use records::body_span;
 use records::declared_bits;
 use records::first_clause;
 use records::main_place;
@@ -33,6 +36,9 @@ use records::param_count;
 use records::reading_place;
 use records::template_place;
 use records::value_count;
+
+// The answer of what counts the values in sight, where they are too many or what is asked is not typed.
+const UNSEEN: usize = 17;
 
 // A clause's parties by bit, where it is typed.
 pub enum Typed {
@@ -62,20 +68,6 @@ fn sight_type(types: &[u8], i: usize) -> usize
     }
 }
 
-// The number at 4 is one of the language's.
-fn in_range(s: &[u8]) -> bool
-    ensures { λ r. ⌜ r ≡ inRange (bytes.signed32 (now (s .entry)) 4) ⌝ }
-{
-    let z = signed32(s, 4);
-    if z > 1_000_000_000 {
-        false
-    } else if z < -1_000_000_000 {
-        false
-    } else {
-        true
-    }
-}
-
 // A literal of n bytes, with a type where it is allowed.
 fn literal_type(s: &[u8], n: usize, allowed: bool, t: usize) -> usize
     ensures { λ r. ⌜ (r ≡ literalType n (now (s .entry)) allowed t) × (r ≤ t) ⌝ }
@@ -93,7 +85,7 @@ fn leaf_type(s: &[u8], types: &[u8], parties: usize, kind: usize) -> usize
 {
     let n = byte(s, 4);
     match kind {
-        32 => literal_type(s, 8, in_range(s), 1),
+        32 => literal_type(s, 8, in_range(signed32(s, 4)), 1),
         33 => literal_type(s, 5, n <= 1, 2),
         34 => literal_type(s, 5, n < parties, 3),
         _ => if s.len() == 5 {
@@ -163,7 +155,7 @@ fn record_kind(s: &[u8], depth: usize) -> usize
 }
 
 // The type of an expression, 0 where it has none.
-pub fn type_of(s: &[u8], types: &[u8], parties: usize, depth: usize) -> usize
+fn type_of(s: &[u8], types: &[u8], parties: usize, depth: usize) -> usize
     ensures { λ r. ⌜ (r ≡ typeNumber (typeExpr parties (tysOf (now (types .entry))) (expr depth (now (s .entry))))) × (r ≤ 3) ⌝ }
 {
     let kind = record_kind(s, depth);
@@ -192,27 +184,14 @@ fn part_type(s: &[u8], a: usize, e: usize, types: &[u8], parties: usize, depth: 
     }
 }
 
-// The first n of out stay, and `from` stands behind them.
-fn append(out: &mut [u8], n: usize, from: &[u8])
-    requires { ⌜ n + length (now from) ≤ length (now out) ⌝ }
-    ensures { λ _. ⌜ take (n + length (now (from .entry))) (now (out .exit)) ≡ take n (now (out .entry)) ++ now (from .entry) ⌝ }
-{
-    let mut i = 0;
-    while i < from.len() {
-        let x = from[i];
-        out[n + i] = x;
-        i += 1;
-    }
-}
-
-// The types in sight, a reading's, and a number behind them; 17 where they are more than 16.
+// The types in sight, a reading's, and a number behind them; UNSEEN where they are more than 16.
 fn join_sight(types: &[u8], values: &[u8], out: &mut [u8]) -> usize
     requires { ⌜ (length (now types) ≤ 16) × (length (now values) ≤ 16) × (length (now out) ≡ 16) ⌝ }
     ensures { λ r. ⌜ JoinedSight (now (types .entry)) (now (values .entry)) r (now (out .exit)) ⌝ }
 {
     let n = types.len() + values.len();
-    if n >= 16 {
-        return 17;
+    if n >= IN_SIGHT {
+        return UNSEEN;
     }
     append(out, 0, types);
     append(out, types.len(), values);
@@ -220,7 +199,7 @@ fn join_sight(types: &[u8], values: &[u8], out: &mut [u8]) -> usize
     n + 1
 }
 
-// What `then` sees of a reading of the wanted type; 17 where there is no such type, or too much to see.
+// What `then` sees of a reading of the wanted type; UNSEEN where there is no such type, or too much to see.
 fn then_sight(
     agreement: &[u8],
     places: &[usize],
@@ -229,13 +208,13 @@ fn then_sight(
     out: &mut [u8],
 ) -> usize
     requires { ⌜ Indexed (now places) (now agreement) × (length (now types) ≤ 16) × (length (now out) ≡ 16) ⌝ }
-    ensures { λ r. ⌜ (thenOf (agreementOf (now (agreement .entry)) .readings) (tysOf (now (types .entry))) wanted ≡ seenAs r (now (out .exit))) × (1 ≤ r) ⌝ }
+    ensures { λ r. ⌜ (thenIn (now (agreement .entry)) (now (types .entry)) wanted ≡ seenAs r (now (out .exit))) × (1 ≤ r) ⌝ }
 {
     if wanted == 0 {
-        return 17;
+        return UNSEEN;
     }
     if wanted > byte(agreement, 9) {
-        return 17;
+        return UNSEEN;
     }
     let a = reading_place(agreement, places, wanted - 1);
     let e = record_end(agreement, a);
@@ -259,7 +238,7 @@ fn wait_typed(s: &[u8], i: usize, inner: &[u8], types: &[u8], parties: usize, de
     part_type(s, b, e, types, parties, depth) == 1
 }
 
-// What `then` sees, 17 where the wait is not typed; the wanted reading type stands at i.
+// What `then` sees, UNSEEN where the wait is not typed; the wanted reading type stands at i.
 fn wait_sight(
     agreement: &[u8],
     places: &[usize],
@@ -270,16 +249,16 @@ fn wait_sight(
     depth: usize,
 ) -> usize
     requires { ⌜ Indexed (now places) (now agreement) × (length (now types) ≤ 16) × (length (now out) ≡ 16) × (i ≤ 5) ⌝ }
-    ensures { λ r. ⌜ waitSight (namesOf (agreementOf (now (agreement .entry))) 0) (tysOf (now (types .entry))) (waitAt (expr depth) 0 (now (s .entry)) i) ≡ seenAs r (now (out .exit)) ⌝ }
+    ensures { λ r. ⌜ waitIn (now (agreement .entry)) (now (types .entry)) depth (now (s .entry)) i ≡ seenAs r (now (out .exit)) ⌝ }
 {
     let n = then_sight(agreement, places, types, byte(s, i), out);
-    if n > 16 {
-        return 17;
+    if n > IN_SIGHT {
+        return UNSEEN;
     }
     if wait_typed(s, i, &out[..n - 1], types, byte(agreement, 8), depth) {
         n
     } else {
-        17
+        UNSEEN
     }
 }
 
@@ -291,7 +270,7 @@ fn same_sight(types: &[u8], out: &mut [u8]) -> usize
     types.len()
 }
 
-// Kinds 17 to 21: what the first clause part sees, 17 where what stands before it is not typed.
+// Kinds 17 to 21: what the first clause part sees, UNSEEN where what stands before it is not typed.
 fn first_sight(
     agreement: &[u8],
     places: &[usize],
@@ -303,20 +282,20 @@ fn first_sight(
     depth: usize,
 ) -> usize
     requires { ⌜ Indexed (now places) (now agreement) × (length (now types) ≤ 16) × (length (now out) ≡ 16) × (params ≤ 4) ⌝ }
-    ensures { λ r. ⌜ firstSight (namesOf (agreementOf (now (agreement .entry))) params) (tysOf (now (types .entry))) (expr depth) kind (now (s .entry)) ≡ seenAs r (now (out .exit)) ⌝ }
+    ensures { λ r. ⌜ firstIn (now (agreement .entry)) params (now (types .entry)) depth kind (now (s .entry)) ≡ seenAs r (now (out .exit)) ⌝ }
 {
     let parties = byte(agreement, 8);
     match kind {
         17 => {
             if blame_mask(byte(s, 4), parties, params) == 0 {
-                return 17;
+                return UNSEEN;
             }
             wait_sight(agreement, places, s, 5, types, out, depth)
         }
         18 => wait_sight(agreement, places, s, 4, types, out, depth),
         19 => {
             if part_type(s, 4, record_end(s, 4), types, parties, depth) != 2 {
-                return 17;
+                return UNSEEN;
             }
             same_sight(types, out)
         }
@@ -370,7 +349,7 @@ fn arguments_end(
     parties: usize,
     depth: usize,
 ) -> usize
-    ensures { λ r. ⌜ r ≡ argumentsAs (haveTypes parties (tysOf (now (types .entry))) (arguments (expr depth) (length (now (values .entry))) (now (s .entry)) i) (tysOf (now (values .entry)))) (recordsEnd (length (now (values .entry))) (now (s .entry)) i) ⌝ }
+    ensures { λ r. ⌜ r ≡ argumentsIn parties (now (types .entry)) (now (values .entry)) depth (now (s .entry)) i ⌝ }
 {
     if values.len() == 0 {
         return i;
@@ -392,7 +371,7 @@ fn instance_arguments(
     depth: usize,
 ) -> usize
     requires { ⌜ Indexed (now places) (now agreement) × (k < bytes.byte (now agreement) 10) ⌝ }
-    ensures { λ r. ⌜ r ≡ argumentsOf (headAt (now (agreement .entry)) k) (bytes.byte (now (agreement .entry)) 8) (tysOf (now (types .entry))) (expr depth) (now (s .entry)) ⌝ }
+    ensures { λ r. ⌜ r ≡ argumentsAt (now (agreement .entry)) k (now (types .entry)) depth (now (s .entry)) ⌝ }
 {
     let a = template_place(agreement, places, k);
     let n = value_count(agreement, places, k);
@@ -431,7 +410,7 @@ fn instance_parties(
     depth: usize,
 ) -> Typed
     requires { ⌜ Indexed (now places) (now agreement) × (params ≤ 4) × (4 ≤ length (now s)) ⌝ }
-    ensures { λ r. ⌜ r ≡ typedAs (typeClause (namesOf (agreementOf (now (agreement .entry))) params) (tysOf (now (types .entry))) (instanceOf (expr depth) (now (s .entry)) (at (headsOf (now (agreement .entry))) (bytes.byte (now (s .entry)) 4)))) ⌝ }
+    ensures { λ r. ⌜ r ≡ typedAs (typedIn (now (agreement .entry)) params (now (types .entry)) (instanceIn (now (agreement .entry)) depth (now (s .entry)))) ⌝ }
 {
     let k = byte(s, 4);
     if k >= byte(agreement, 10) {
@@ -476,7 +455,7 @@ fn first_end(s: &[u8], kind: usize, c: usize) -> usize
 }
 
 // A clause's parties: `types` are in sight, and there are `params` party parameters.
-pub fn clause_parties(
+fn clause_parties(
     agreement: &[u8],
     places: &[usize],
     s: &[u8],
@@ -485,16 +464,16 @@ pub fn clause_parties(
     depth: usize,
 ) -> Typed
     requires { ⌜ Indexed (now places) (now agreement) × (length (now types) ≤ 16) × (params ≤ 4) ⌝ }
-    ensures { λ r. ⌜ r ≡ typedAs (typeClause (namesOf (agreementOf (now (agreement .entry))) params) (tysOf (now (types .entry))) (clause (headsOf (now (agreement .entry))) depth 0 (now (s .entry)))) ⌝ }
+    ensures { λ r. ⌜ r ≡ typedAs (typedIn (now (agreement .entry)) params (now (types .entry)) (clause (headsOf (now (agreement .entry))) depth 0 (now (s .entry)))) ⌝ }
 {
     let kind = record_kind(s, depth);
     match kind {
         16 => fulfilled_parties(s),
         17..=21 => {
             let d = depth - 1;
-            let mut next = [0u8; 16];
+            let mut next = [0u8; IN_SIGHT];
             let n = first_sight(agreement, places, s, kind, types, params, &mut next, d);
-            if n > 16 {
+            if n > IN_SIGHT {
                 return Typed::Untyped;
             }
             let c = first_clause(s, kind);
@@ -515,17 +494,19 @@ fn body_parties(agreement: &[u8], places: &[usize], k: usize) -> Typed
     requires { ⌜ Indexed (now places) (now agreement) × (k < bytes.byte (now agreement) 10) ⌝ }
     ensures { λ r. ⌜ r ≡ typedAs (bodyTyped (now (agreement .entry)) k) ⌝ }
 {
+    let body = body_span(agreement, places, k);
+    let from = body.from;
+    let to = body.to;
     let a = template_place(agreement, places, k);
-    let e = record_end(agreement, a);
     let n = value_count(agreement, places, k);
     let params = param_count(agreement, places, k);
     clause_parties(
         agreement,
         places,
-        &agreement[a + 8 + n..e],
+        &agreement[from..to],
         &agreement[a + 5..a + 5 + n],
         params,
-        22,
+        BODY_DEPTH,
     )
 }
 
@@ -537,7 +518,7 @@ fn template_typed(agreement: &[u8], places: &[usize], k: usize) -> bool
     let declared = declared_bits(agreement, places, k);
     if below(declared, byte(agreement, 8)) {
         match body_parties(agreement, places, k) {
-            Typed::Parties(m) => within(constants(m), declared),
+            Typed::Parties(m) => is_subset(constants(m), declared),
             Typed::Untyped => false,
         }
     } else {
@@ -567,7 +548,14 @@ pub fn agreement_parties(agreement: &[u8], places: &[usize]) -> Typed
 {
     if templates_typed(agreement, places, 0) {
         let a = main_place(agreement, places);
-        clause_parties(agreement, places, &agreement[a..], &agreement[0..0], 0, 23)
+        clause_parties(
+            agreement,
+            places,
+            &agreement[a..],
+            &agreement[0..0],
+            0,
+            MAIN_DEPTH,
+        )
     } else {
         Typed::Untyped
     }

@@ -29,7 +29,7 @@ use Rattle.records.proofs.Trees.{kind-instance, kind-no-clause-low, kind-no-cla
 use Rattle.records.proofs.Index.{T-both, heads-at, heads-past}
 use Rattle.parties.proofs.Members.{member-self, member-tail, bits-lt, bits-nil, bits-append, bits-new, bits-skip}
 use Rattle.parties.proofs.Members.{members-in}
-use Rattle.parties.proofs.Masks.{shifted, bits-members}
+use Rattle.parties.proofs.Masks.{bits-members, bits-small}
 use Rattle.soundness.proofs.Inversion.{from-bind, from-need, some-inj}
 use Rattle.soundness.proofs.Members.{stand-++}
 use Rattle.places.specs.Locate.{clauseIn}
@@ -68,22 +68,6 @@ module _ (params : List ℕ) (b : ℕ) where
   stands-none l h = sym (stands-from none (by-byte false (le-ltb b 128 l) ∙ at-past params (b - 128) h))
 
 -- ---- bits
-pub bits-small : (ps : List ℕ) → bitsOf ps < 65_536
-unfolding bitsOf
-bits-small ps = bits-lt 16 0 ps
-
-pub bit-party : (p : ℕ) → p < 16 → ((1 * 2 ^ p) % 2 ^ 64 ≡ bitsOf (p ∷ [])) × ((1 * 2 ^ p) % 2 ^ 64 < 65_536)
-unfolding bitsOf member
-bit-party p l =
-    let z : p - 0 ≡ p = omega arith in
-    let e = shifted p (omega arith) ∙ sym (bits-new 16 0 p [] (omega arith) (omega arith) refl
-    ∙ rw (bits-nil 16 0, z) (omega arith)) in
-    (e, rw e (bits-small (p ∷ [])))
-
-pub bit-none : (p : ℕ) → 16 ≤ p → (0 ≡ bitsOf (p ∷ [])) × (0 < 65_536)
-unfolding bitsOf
-bit-none p l = (sym (bits-skip 16 0 p [] (λ a b. omega arith) ∙ bits-nil 16 0), omega arith)
-
 pub joined-bits : {a b r : ℕ} (ps qs : List ℕ) → a ≡ bitsOf ps → b ≡ bitsOf qs → r ≡ bitOr a b → r ≡ bitsOf (ps ++ qs)
 unfolding bitsOf
 joined-bits ps qs p q e = e ∙ ap₂ bitOr p q ∙ sym (bits-append 16 0 ps qs)

@@ -24,7 +24,7 @@ use Rattle.csl.specs.Syntax.{truth, party}
 use Rattle.csl.specs.Decode.{tyOf, tysOf}
 use Rattle.csl.specs.Values.{asNat}
 use Rattle.csl.specs.Table.{isZero}
-use Rattle.units.specs.Cells.{numberBelow, partiesIn, valueOk, valuesOk}
+use Rattle.units.specs.Cells.{numberBelow, partiesIn}
 
 -- ---- a test turned round
 pub yes-true : (b : Bool) → not b ≡ false → b ≡ true
@@ -166,71 +166,3 @@ module _ (zs : List ℤ) (ps : ℕ) where
   reads-last {out} {i} l h =
       let e : i ≡ length zs = omega (arith, h .within) in
       h .same ∙ rw (e, drop-length zs) (ap some (append-nil (take (length zs) out)))
-
--- ---- values
-module _ (z : ℤ) where
-  pub range-over : ltZ (pos 1_000_000_000) z ≡ true → false ≡ inRange z
-  unfolding inRange up dn
-  range-over h = sym (lt-leb (natAbs z) limit (omega (ints, parts z)))
-
-  pub range-under : ltZ z (negsuc 999_999_999) ≡ true → false ≡ inRange z
-  unfolding inRange up dn
-  range-under h = sym (lt-leb (natAbs z) limit (omega (ints, parts z)))
-
-  pub range-in : ltZ (pos 1_000_000_000) z ≡ false → ltZ z (negsuc 999_999_999) ≡ false → true ≡ inRange z
-  unfolding inRange up dn
-  range-in h g = sym (le-leb (natAbs z) limit (omega (ints, parts z)))
-
-truth-at : {r : ℕ} (ps : ℕ) (z : ℤ) → r ≡ numberBelow 2 z → ltb r 2 ≡ valueOk ps truth z
-unfolding numberBelow valueOk
-truth-at {r} ps (pos n) h = go (decLe n 1)
-  where
-    go : Dec (n ≤ 1) → ltb r 2 ≡ leb n 1
-    go (yes l) = rw (le-leb n 1 l) (lt-ltb r 2 (omega arith))
-    go (no l) = rw (lt-leb n 1 (omega arith)) (le-ltb r 2 (omega arith))
-truth-at {r} ps (negsuc n) h = le-ltb r 2 (omega arith)
-
-party-at : {r : ℕ} (ps : ℕ) (z : ℤ) → r ≡ numberBelow ps z → ltb r ps ≡ valueOk ps party z
-unfolding numberBelow valueOk
-party-at {r} ps (pos n) h = go (decLe ps n)
-  where
-    go : Dec (ps ≤ n) → ltb r ps ≡ ltb n ps
-    go (yes l) = rw (le-ltb n ps l) (le-ltb r ps (omega arith))
-    go (no l) = rw (lt-ltb n ps (omega arith)) (lt-ltb r ps (omega arith))
-party-at {r} ps (negsuc n) h = le-ltb r ps (omega arith)
-
-module _ {t : ℕ} (ps : ℕ) (z : ℤ) where
-  pub number-ok : {b : Bool} → t ≡ 1 → b ≡ inRange z → b ≡ valueOk ps (tyOf t) z
-  unfolding valueOk tyOf
-  number-ok e h = rw e h
-
-  pub truth-ok : {r : ℕ} → t ≡ 2 → r ≡ numberBelow 2 z → ltb r 2 ≡ valueOk ps (tyOf t) z
-  unfolding tyOf
-  truth-ok e h = rw e (truth-at ps z h)
-
-  pub party-ok : {r : ℕ} → (t ≡ 1 → ⊥) → (t ≡ 2 → ⊥) → r ≡ numberBelow ps z → ltb r ps ≡ valueOk ps (tyOf t) z
-  unfolding tyOf
-  party-ok f g h = rw (ne-eqb t 1 f, ne-eqb t 2 g) (party-at ps z h)
-
-module _ (ps : ℕ) (ts : List ℕ) (zs : List ℤ) (room : length ts ≤ length zs) where
-  abbrev ValuesFrom : ℕ → Type 0
-  ValuesFrom i = (i ≤ length ts) × (valuesOk ps (tysOf ts) zs ≡ valuesOk ps (tysOf (drop i ts)) (drop i zs))
-
-  pub values-first : ValuesFrom 0
-  values-first = (omega arith, refl)
-
-  module _ {i : ℕ} {b : Bool} (l : i < length ts) (e : b ≡ valueOk ps (tyOf (getD ts i 0)) (getD zs i (pos 0)))
-      (h : ValuesFrom i) where
-    one-more : valuesOk ps (tysOf ts) zs ≡ (b && valuesOk ps (tysOf (drop (i + 1) ts)) (drop (i + 1) zs))
-    unfolding valuesOk tysOf
-    one-more = h .1 ∙ rw (drop-cons ts i 0 l, drop-cons zs i (pos 0) (omega arith), add-one i, e)
-
-    pub values-more : not b ≡ false → ValuesFrom (i + 1)
-    values-more g = (omega arith, one-more ∙ rw (yes-true b g))
-
-    pub values-not : not b ≡ true → false ≡ valuesOk ps (tysOf ts) zs
-    values-not g = sym (one-more ∙ rw (no-false b g))
-
-  pub values-last : {i : ℕ} → length ts ≤ i → ValuesFrom i → true ≡ valuesOk ps (tysOf ts) zs
-  unfolding valuesOk tysOf
-  values-last {i} l h = let e : i ≡ length ts = omega arith in sym (h .1 ∙ rw (e, drop-length ts))

@@ -29,11 +29,12 @@ use Rattle.parties.proofs.Typed.{valid-typed, declared-valid}
 use Rattle.soundness.proofs.Inversion.{from-bind, from-need, some-bind, passes, some-inj, T-both, both-true}
 use Rattle.soundness.proofs.Members.{member→in, in→member, stand-in}
 use Rattle.soundness.proofs.ReadBack.{found-placed}
+use Rattle.arith.specs.Values.{valuesOk}
 use Rattle.places.specs.Locate.{mainsOf, Accepted}
 use Rattle.places.proofs.Descents.{fairly, found-clause, found-typed}
 use Rattle.units.specs.declared.Waiting.the-variants.{Damaged, Of}
 use Rattle.units.specs.Blames.{blamesOf, WholeIn, PartiesAre}
-use Rattle.units.specs.Cells.{partiesIn, valuesOk}
+use Rattle.units.specs.Cells.{partiesIn}
 use Rattle.units.specs.Units.{cellsIn, CellsShow, FoundThere, LocatedIs, recorded}
 use Rattle.units.proofs.Cells.{yes-true, no-false}
 use Rattle.units.proofs.Blames.{typed-blames, stands-itself, stands-param, stands-none, whole-room}
@@ -220,14 +221,14 @@ module _ {A : List ℕ} {place n : ℕ} {types : List ℕ} (acc : Accepted A) (h
         unfolding LocatedIs
         located-out f params u =
             let same : params ≡ take n own = some-inj (sym (u .cells .areParams) ∙ (rw p at (cells .areParams))) in
-            true-false (u .within) (ap (λ (l : List ℕ). subset (standFor l (recorded A place)) (mainsOf A)) same
+            true-false (u .among) (ap (λ (l : List ℕ). subset (standFor l (recorded A place)) (mainsOf A)) same
             ∙ sym in-mains ∙ f)
 
         pub located-in : b ≡ true → LocatedIs A place n types zs (Of bits n (length types))
         unfolding LocatedIs
         located-in f = record {
           params = take n own;
-          has = record { cells = rw p at cells; within = sym in-mains ∙ f };
+          has = record { cells = rw p at cells; among = sym in-mains ∙ f };
           same = bits-are;
           paramCount = refl;
           valueCount = refl;

@@ -26,10 +26,11 @@ use Rattle.csl.specs.Table.{isZero, isSort, sortNumber, asNats, waitingUnit, st
 use Rattle.soundness.proofs.Inversion.{from-bind, from-need, some-bind, passes, some-inj, T-both, both-true}
 use Rattle.places.specs.declared.Located.{Located}
 use Rattle.places.specs.declared.Located.the-variants.{Nothing, At}
+use Rattle.arith.specs.Values.{valueOk, valuesOk}
 use Rattle.places.specs.Locate.{mainsOf, Accepted, waitNumber, FoundAt, Locates}
 use Rattle.units.specs.declared.Waiting.{Waiting}
 use Rattle.units.specs.declared.Waiting.the-variants.{Damaged, Of}
-use Rattle.units.specs.Cells.{numberBelow, valueOk, valuesOk}
+use Rattle.units.specs.Cells.{numberBelow}
 use Rattle.units.specs.Units.{cellsIn, UnitHas, sightNumbers, UnitShows, recorded, FoundThere, LocatedIs}
 use Rattle.units.specs.Units.{WaitingIs, sortOf}
 use Rattle.units.proofs.Cells.{below-is, below-not}
@@ -255,7 +256,7 @@ module _ {A : List ℕ} (acc : Accepted A) (now : ℕ) (s : Sort) (zs : List ℤ
             areValues = rw last at (i₁₂ .0);
             noValues = rw rest at (T→true (all isZero (vs .1)) t₁₃);
           };
-          within = rw blames at (T→true (subset (standFor params bs) (mainsOf A)) t₁₆);
+          among = rw blames at (T→true (subset (standFor params bs) (mainsOf A)) t₁₆);
         };
       }
 
@@ -299,7 +300,7 @@ module _ {A : List ℕ} (acc : Accepted A) (now : ℕ) (s : Sort) (zs : List ℤ
       ∙ some-bind (clauseAt Ag (h .place)) _ f (h .isAt)
       ∙ some-bind (typeClause (namesOf Ag n) (f .sight) (f .clause)) _ (recorded A (h .place))
       (found-parties acc (h .place) f (h .isAt))
-      ∙ passes (subset (standFor (h .params) (recorded A (h .place))) (mainsOf A)) _ (true→T (h .has .within)) in
+      ∙ passes (subset (standFor (h .params) (recorded A (h .place))) (mainsOf A)) _ (true→T (h .has .among)) in
       record {
         residue = res;
         is = reads;

@@ -15,17 +15,25 @@ use Rattle.csl.specs.Decode.{tysOf, headsOf, agreementOf}
 use Rattle.csl.specs.Outcomes.{Sort, anObligation, aChoice, Residue, unit, both, units}
 use Rattle.csl.specs.Places.{Found, clauseAt}
 use Rattle.csl.specs.Table.{isZero, waitingUnit, standFor, residueParties}
-use Rattle.places.specs.Locate.{mainsOf, clauseIn}
+use Rattle.arith.specs.Values.{valuesOk}
+use Rattle.records.specs.Index.{Indexed}
+use Rattle.places.specs.Locate.{Accepted, mainsOf, clauseIn}
 use Rattle.units.specs.Blames.{blamesOf}
-use Rattle.units.specs.Cells.{partiesIn, valuesOk}
+use Rattle.units.specs.Cells.{partiesIn}
 use Rattle.units.specs.declared.Waiting.{Waiting}
 use Rattle.units.specs.declared.Waiting.the-variants.{Damaged, Of}
+
+-- the agreement is indexed and accepted, and mains has the bits of its main clause's parties
+pub record Prepared (places a : List ℕ) (mains : ℕ) : Type 0 where
+  pub indexed : Indexed places a
+  pub isAccepted : Accepted a
+  pub areMains : mains ≡ bitsOf (mainsOf a)
 
 -- the cells from a up to e: what `&cells[a..e]` is
 abbrev pub cellsIn : List ℤ → ℕ → ℕ → List ℤ
 cellsIn zs a e = take (e - a) (drop a zs)
 
--- ---- the cells behind a unit's sort, given how many party parameters there are and the types in sight
+-- ---- the cells behind a unit's kind, given how many party parameters there are and the types in sight
 pub record CellsShow (parties n : ℕ) (ts : List Ty) (zs : List ℤ) (params : List ℕ) : Type 0 where
   pub areParams : partiesIn parties (cellsIn zs 2 (2 + n)) ≡ some params
   pub noParams : all isZero (cellsIn zs (2 + n) 7) ≡ true
@@ -39,7 +47,7 @@ recorded a place = blamesOf (headsOf a) (clauseIn a 23 place (part a place (reco
 -- and the unit's parties, those of the clause at its place, are among the main clause's
 pub record UnitHas (a : List ℕ) (place n : ℕ) (ts : List Ty) (zs : List ℤ) (params : List ℕ) : Type 0 where
   pub cells : CellsShow (byte a 8) n ts zs params
-  pub within : subset (standFor params (recorded a place)) (mainsOf a) ≡ true
+  pub among : subset (standFor params (recorded a place)) (mainsOf a) ≡ true
 
 -- by what was found there, n party parameters and the type bytes in sight
 pub record FoundThere (a : List ℕ) (place n : ℕ) (types : List ℕ) : Type 0 where
@@ -60,7 +68,7 @@ unfoldable pub LocatedIs : List ℕ → ℕ → ℕ → List ℕ → List ℤ �
 LocatedIs a place n types zs Damaged = (params : List ℕ) → UnitHas a place n (tysOf types) zs params → ⊥
 LocatedIs a place n types zs (Of bits m c) = HasBits a place n types zs bits m c
 
--- ---- a unit's sort by its number, 17 or 18
+-- ---- csl's name for a waiting unit's kind, 17 or 18
 unfoldable pub sortOf : ℕ → Sort
 sortOf k = cond (eqb k 17) anObligation aChoice
 

@@ -7,31 +7,50 @@ ghost use Prim.Native.Nat.{ℕ, _+_, _≤_, _<_};
 ghost use lib.IntN.{pos};
 ghost use lib.ListN.{length, take};
 ghost use Rattle.csl.specs.Lists.{all};
-ghost use Rattle.csl.specs.Decode.{tyOf, tysOf};
+ghost use Rattle.csl.specs.Decode.{tysOf};
 ghost use Rattle.csl.specs.Bytes.{kindNumber};
 ghost use Rattle.csl.specs.Parties.{bitsOf};
 ghost use Rattle.csl.specs.Table.{isZero, standsFor, standFor, sortNumber};
 ghost use Rattle.records.specs.Index.{Indexed};
-ghost use Rattle.places.specs.Locate.{Accepted, mainsOf};
-ghost use Rattle.units.specs.Cells.{numberBelow, partiesIn, valueOk, valuesOk};
+ghost use Rattle.units.specs.Cells.{numberBelow, partiesIn};
 ghost use Rattle.units.specs.Blames.{WholeIn, PartiesAre};
-ghost use Rattle.units.specs.Units.{CellsShow, FoundThere, LocatedIs, WaitingIs, sortOf};
+ghost use Rattle.units.specs.Units.{Prepared, CellsShow, FoundThere, LocatedIs, WaitingIs, sortOf};
 use arith::byte;
 use arith::kind;
 use arith::record_end;
 use arith::unsigned32;
+use arith::values_ok;
+use parties::PARAMS_FROM;
+use parties::is_subset;
+use parties::party_bit;
 use parties::union;
-use parties::within;
 use places::Located;
 use places::locate;
+use records::IN_SIGHT;
 use records::declared_bits;
 use records::first_clause;
 use records::param_count;
 
+// A unit's cells. Behind its kind stand its place and its time, its party parameters and its values.
+pub const UNIT: usize = 24;
+
+const FIRST_PARAM: usize = 2;
+
+const FIRST_VALUE: usize = 7;
+
+const CELLS: usize = 23;
+
+// No place of an agreement is so far.
+const NO_PLACE: usize = 9_223_372_036_854_775_808;
+
 // What a waiting unit shows: its parties by bit, and how many party parameters and values it has.
 pub enum Waiting {
     Damaged,
-    Of(usize, usize, usize),
+    Of {
+        parties: usize,
+        params: usize,
+        count: usize,
+    },
 }
 
 // A cell as a number below `end`, or `end` where it is none.
@@ -77,56 +96,18 @@ fn party_cells(cells: &[i64], parties: usize, out: &mut [usize]) -> bool
     true
 }
 
-// A cell is a value of the type that a type byte says.
-fn value_ok(t: u8, z: i64, parties: usize) -> bool
-    ensures { λ r. ⌜ r ≡ valueOk parties (tyOf t) z ⌝ }
-{
-    match t {
-        1 => if z > 1_000_000_000 {
-            false
-        } else if z < -1_000_000_000 {
-            false
-        } else {
-            true
-        },
-        2 => number_below(z, 2) < 2,
-        _ => number_below(z, parties) < parties,
-    }
-}
-
-// The first cells are values of the types.
-fn values_ok(types: &[u8], cells: &[i64], parties: usize) -> bool
-    requires { ⌜ length (now types) ≤ length (now cells) ⌝ }
-    ensures { λ r. ⌜ r ≡ valuesOk parties (tysOf (now (types .entry))) (now (cells .entry)) ⌝ }
-{
-    let mut i = 0;
-    while i < types.len() {
-        if !value_ok(types[i], cells[i], parties) {
-            return false;
-        }
-        i += 1;
-    }
-    true
-}
-
 // The party that a blame byte stands for: itself, or a parameter's.
 fn stands_for(b: usize, params: &[usize]) -> usize
     ensures { λ r. ⌜ r ≡ standsFor (now (params .entry)) b ⌝ }
 {
-    if b < 128 {
+    if b < PARAMS_FROM {
         return b;
     }
-    if b - 128 < params.len() {
-        params[b - 128]
+    if b - PARAMS_FROM < params.len() {
+        params[b - PARAMS_FROM]
     } else {
         0
     }
-}
-
-fn party_bit(p: usize) -> usize
-    ensures { λ r. ⌜ (r ≡ bitsOf (p ∷ [])) × (r < 65_536) ⌝ }
-{
-    if p < 16 { 1 << p } else { 0 }
 }
 
 // The parties of a run of blame bytes, by bit.
@@ -178,22 +159,22 @@ fn clause_parties(agreement: &[u8], places: &[usize], s: &[u8], params: &[usize]
     }
 }
 
-// The cells behind a unit's sort hold n parties, values of the types, and else zeros; the parties go to the front of `own`.
+// The cells behind a unit's kind hold n parties, values of the types, and else zeros; the parties go to the front of `own`.
 fn unit_cells(cells: &[i64], n: usize, types: &[u8], parties: usize, own: &mut [usize]) -> bool
     requires { ⌜ (length (now cells) ≡ 23) × (n ≤ 4) × (length (now types) ≤ 16) × (length (now own) ≡ 4) ⌝ }
     ensures yes { λ r. ⌜ (r ≡ true → CellsShow parties n (tysOf (now (types .entry))) (now (cells .entry)) (take n (now (own .exit)))) ⌝ }
     ensures no { λ r. ⌜ (r ≡ false → (params : List ℕ) → CellsShow parties n (tysOf (now (types .entry))) (now (cells .entry)) params → ⊥) ⌝ }
 {
-    if !party_cells(&cells[2..2 + n], parties, own) {
+    if !party_cells(&cells[FIRST_PARAM..FIRST_PARAM + n], parties, own) {
         return false;
     }
-    if !zeros(&cells[2 + n..7]) {
+    if !zeros(&cells[FIRST_PARAM + n..FIRST_VALUE]) {
         return false;
     }
-    if !values_ok(types, &cells[7..23], parties) {
+    if !values_ok(types, &cells[FIRST_VALUE..CELLS], parties) {
         return false;
     }
-    zeros(&cells[7 + types.len()..23])
+    zeros(&cells[FIRST_VALUE + types.len()..CELLS])
 }
 
 // A waiting unit whose clause was found: n party parameters, and the types in sight.
@@ -206,7 +187,7 @@ fn located_unit(
     types: &[u8],
     cells: &[i64],
 ) -> Waiting
-    requires { ⌜ Indexed (now places) (now agreement) × Accepted (now agreement) × (mains ≡ bitsOf (mainsOf (now agreement))) × FoundThere (now agreement) place n (now types) × (length (now cells) ≡ 23) ⌝ }
+    requires { ⌜ Prepared (now places) (now agreement) mains × FoundThere (now agreement) place n (now types) × (length (now cells) ≡ 23) ⌝ }
     ensures { λ r. ⌜ LocatedIs (now (agreement .entry)) place n (now (types .entry)) (now (cells .entry)) r ⌝ }
 {
     let mut own = [0usize; 4];
@@ -215,27 +196,31 @@ fn located_unit(
     }
     let e = record_end(agreement, place);
     let bits = clause_parties(agreement, places, &agreement[place..e], &own[0..n]);
-    if within(bits, mains) {
-        Waiting::Of(bits, n, types.len())
+    if is_subset(bits, mains) {
+        Waiting::Of {
+            parties: bits,
+            params: n,
+            count: types.len(),
+        }
     } else {
         Waiting::Damaged
     }
 }
 
-// The cells behind a waiting unit's sort, 17 or 18, at the last reading time.
+// The cells behind a waiting unit's kind, 17 or 18, at the last reading time.
 pub fn waiting_unit(
     agreement: &[u8],
     places: &[usize],
     mains: usize,
     time: usize,
-    sort: usize,
+    kind: usize,
     cells: &[i64],
 ) -> Waiting
-    requires { ⌜ Indexed (now places) (now agreement) × Accepted (now agreement) × (mains ≡ bitsOf (mainsOf (now agreement))) × (time < 4_294_967_296) × (sortNumber (sortOf sort) ≡ sort) × (length (now cells) ≡ 23) ⌝ }
-    ensures { λ r. ⌜ WaitingIs (now (agreement .entry)) time (sortOf sort) (now (cells .entry)) r ⌝ }
+    requires { ⌜ Prepared (now places) (now agreement) mains × (time < 4_294_967_296) × (sortNumber (sortOf kind) ≡ kind) × (length (now cells) ≡ 23) ⌝ }
+    ensures { λ r. ⌜ WaitingIs (now (agreement .entry)) time (sortOf kind) (now (cells .entry)) r ⌝ }
 {
-    let place = number_below(cells[0], 9_223_372_036_854_775_808);
-    if place == 9_223_372_036_854_775_808 {
+    let place = number_below(cells[0], NO_PLACE);
+    if place == NO_PLACE {
         return Waiting::Damaged;
     }
     let when = number_below(cells[1], time + 1);
@@ -245,14 +230,26 @@ pub fn waiting_unit(
     if when < unsigned32(agreement, 4) {
         return Waiting::Damaged;
     }
-    let mut types = [0u8; 16];
+    let mut types = [0u8; IN_SIGHT];
     match locate(agreement, places, place, &mut types) {
         Located::Nothing => Waiting::Damaged,
-        Located::At(k, n, c) => {
-            if k != sort {
+        Located::At {
+            kind: k,
+            params,
+            count,
+        } => {
+            if k != kind {
                 return Waiting::Damaged;
             }
-            located_unit(agreement, places, mains, place, n, &types[0..c], cells)
+            located_unit(
+                agreement,
+                places,
+                mains,
+                place,
+                params,
+                &types[0..count],
+                cells,
+            )
         }
     }
 }

@@ -1,12 +1,13 @@
 -- The bodies before k are whole, so those from k on decide.
 use mathlib.Core.Path.{_≡_}
 use Prim.Native.Nat.{_-_, _≤_}
-use Rattle.formed.proofs.Bodies.{Bodies, Left, bodies}
+use Rattle.formed.specs.Tests.{bodiesWhole}
+use Rattle.formed.proofs.Bodies.{Left, bodies}
 use Rattle.formed.proofs.bodies_formed.Statement.{statement}
 use Rattle.formed.proofs.bodies_formed.Tie as tie
 
 abbrev Inv-loop : tie.InvT-loop
-Inv-loop agreement places k₀ k-end k = (k ≤ k-end) × (Bodies agreement ≡ Left agreement k)
+Inv-loop agreement places k₀ k-end k = (k ≤ k-end) × (bodiesWhole agreement ≡ Left agreement k)
 
 abbrev μ-loop : tie.MeasureT-loop
 μ-loop agreement places k₀ k-end k = k-end - k

@@ -12,8 +12,11 @@ state-of-requires c κs =
     let at-admit = at-mains .before .before .before .before in
     let at-start = at-admit .before .before .before .before .before in
     let admitted = admitted-yes _ _ _ (at-admit .admit .ensures) (at-mains .mains .given .1) in
-    let asked = state-asked (admitted .0) in
-    (asked .0, asked .1, asked .2, admitted .1, omega (arith, at-start .pre .1))
+    let asked = state-asked (admitted .0) in (
+      record { indexed = asked .0; isAccepted = asked .1; areMains = asked .2 },
+      admitted .1,
+      omega (arith, at-start .pre .1),
+    )
 
 returns : tie.Need-returns
 returns c =

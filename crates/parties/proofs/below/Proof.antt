@@ -3,13 +3,15 @@ use mathlib.Core.Path.{sym, ap, _∙_}
 use native.Mathlib.Omega.{arith}
 use borrow.Author.Needs.{needs}
 use lib.Dec.{ltb}
-use Rattle.parties.proofs.Masks.{shifted, declared-below}
+use Rattle.parties.proofs.Masks.{declared-below}
 use Rattle.parties.proofs.below.Statement.{statement}
 use Rattle.parties.proofs.below.Tie as tie
 
 returns : tie.Need-returns
-returns c = let e = ap (ltb (c .args .n)) (shifted (c .args .k) (omega arith)) in
-    (e, e ∙ sym (declared-below (c .args .n) (c .args .k) (omega arith)))
+returns c =
+    let s = c .before in
+    let e = ap (ltb (s .args .n)) (c .bit .ensures) in
+    (e, e ∙ sym (declared-below (s .args .n) (s .args .k) (omega arith)))
 
 pub below-spec : {M : Type 1} → statement M
-below-spec = tie.close (tie.spec (λ c. search needs) returns)
+below-spec = tie.close (tie.spec (λ c κs. search needs) returns)

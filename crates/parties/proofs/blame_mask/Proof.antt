@@ -17,5 +17,5 @@ returns-4 : tie.Need-returns-4
 returns-4 c = search blames
 
 pub blame-mask-spec : {M : Type 1} → statement M
-blame-mask-spec = tie.close (tie.spec (λ c. search needs) (λ c. search needs) (λ c. search needs) (λ c. search needs)
-    returns returns-2 returns-3 returns-4)
+blame-mask-spec = tie.close (tie.spec (λ c κs. search needs) (λ c. search needs) (λ c. search needs)
+    (λ c κs. search needs) returns returns-2 returns-3 returns-4)

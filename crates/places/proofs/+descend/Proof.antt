@@ -34,25 +34,26 @@ descend-add-descend t c =
     let at-start = at-step-down .before .before .before .before .before .before in
     omega (
       arith,
-      into-room (at-step-down .step-down .ensures) (c .before .before .a .given .1)
-          (at-start .pre .1 .3),
+      into-room (at-step-down .step-down .ensures) (c .before .before .from .given .1)
+          (at-start .pre .1 .1 .typed),
     )
 
 descend-descend-requires : (t : ℕ) → descend-lts.Need-descend-requires (claims t) (descend-at t) descend.Post
 descend-descend-requires t c κs =
-    let at-a = c .before .before .before in
-    let at-step-down = at-a .before .before .before .before in
+    let at-from = c .before .before .before in
+    let at-step-down = at-from .before .before .before .before in
     let at-start = at-step-down .before .before .before .before .before .before in
-    let r = into-room (at-step-down .step-down .ensures) (at-a .a .given .1) (at-start .pre .1 .3) in
-    let l = length-part (at-start .args .s .now) (at-a .a .given .0 .0) (at-a .a .given .0 .1 .0) (r .2) in (
-      omega (arith, at-start .pre .0, typed-room (at-start .pre .1 .3)),
+    let r = into-room (at-step-down .step-down .ensures) (at-from .from .given .1) (at-start .pre .1 .1 .typed) in
+    let l = length-part (at-start .args .s .now) (at-from .from .given .0 .0) (at-from .from .given .0 .1 .0) (r .2) in (
+      omega (arith, at-start .pre .0, typed-room (at-start .pre .1 .1 .typed)),
       (
         at-start .pre .1 .0,
-        omega (arith, at-start .pre .1 .1, at-step-down .step-down .kept .1 .1 .1 .1 .1 .1 .0),
-        r .3,
-        into-typed (at-step-down .step-down .ensures) (at-a .a .given .1) (at-start .pre .1 .3),
-        omega
-            (arith, at-start .pre .1 .4),
+        record {
+          room = omega (arith, at-start .pre .1 .1 .room, at-step-down .step-down .kept .1 .1 .1 .1 .1 .1 .0);
+          few = r .3;
+          typed = into-typed (at-step-down .step-down .ensures) (at-from .from .given .1) (at-start .pre .1 .1 .typed);
+          fits = omega (arith, at-start .pre .1 .1 .fits);
+        },
       ),
     )
 
@@ -66,15 +67,15 @@ descend-returns-2 : (t : ℕ) → descend-lts.Need-returns-2 (claims t) (descend
 descend-returns-2 t c =
     let at-step-down = c .before .before .before .before .before in
     let at-start = at-step-down .before .before .before .before .before .before in
-    descent-here (at-step-down .step-down .ensures) (at-start .args .params) (at-start .pre .1 .2)
-    (c .before .k .given .1)
+    descent-here (at-step-down .step-down .ensures) (at-start .args .params) (at-start .pre .1 .1 .few)
+    (c .before .kind .given .1)
 
 descend-returns-3 : (t : ℕ) → descend-lts.Need-returns-3 (claims t) (descend-at t) descend.Post
 descend-returns-3 t c =
-    let at-a = c .before .before .before .before .before .before in
-    let at-step-down = at-a .before .before .before .before in
+    let at-from = c .before .before .before .before .before .before in
+    let at-step-down = at-from .before .before .before .before in
     let at-start = at-step-down .before .before .before .before .before .before in
-    descent-into (at-step-down .step-down .ensures) (at-a .a .given .1) (at-start .args .params)
+    descent-into (at-step-down .step-down .ensures) (at-from .from .given .1) (at-start .args .params)
     (c .before .before .descend .ensures)
 
 pub +descend-spec : {M : Type 1} → statement M
@@ -82,12 +83,12 @@ pub +descend-spec : {M : Type 1} → statement M
     (λ c κs. search needs) (λ c. search needs) (λ c. search needs) (λ c. search needs)
     (λ c. let at-step-down = c .before .before .before .before .before in
     let at-start = at-step-down .before .before .before .before .before .before in
-    omega (arith, into-room (at-step-down .step-down .ensures) (c .before .a .given .1) (at-start .pre .1 .3)))
+    omega (arith, into-room (at-step-down .step-down .ensures) (c .before .from .given .1) (at-start .pre .1 .1 .typed)))
     (λ c. let at-step-down = c .before .before .before .before .before in
     let at-start = at-step-down .before .before .before .before .before .before in
-    omega (arith, into-room (at-step-down .step-down .ensures) (c .before .a .given .1) (at-start .pre .1 .3)))
+    omega (arith, into-room (at-step-down .step-down .ensures) (c .before .from .given .1) (at-start .pre .1 .1 .typed)))
     (λ c. let at-step-down = c .before .before .before .before .before in
     let at-start = at-step-down .before .before .before .before .before .before in
-    omega (arith, into-room (at-step-down .step-down .ensures) (c .before .a .given .1) (at-start .pre .1 .3)))
+    omega (arith, into-room (at-step-down .step-down .ensures) (c .before .from .given .1) (at-start .pre .1 .1 .typed)))
     (descend-add-descend t) (descend-descend-requires t) (λ c. search needs) (descend-returns t)
     (λ c. search needs) (descend-returns-2 t) (λ c. search needs) (descend-returns-3 t)

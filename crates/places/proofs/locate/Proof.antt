@@ -23,13 +23,15 @@ descend-requires c κs =
     let s = c .before .before .before .before .before .before .before in let m = at-main-place .main-place in let A
     = s .args .agreement .now in (
       s .pre .0,
-      s .pre .2,
-      omega arith,
       record {
-        depth = 23;
-        at = main-typed (s .pre .0) (s .args .place) (s .args .types .now) (s .pre .1) (m .ensures .0);
+        room = s .pre .2;
+        few = omega arith;
+        typed = record {
+          depth = 23;
+          at = main-typed (s .pre .0) (s .args .place) (s .args .types .now) (s .pre .1) (m .ensures .0);
+        };
+        fits = omega (arith, length-part A (m .result) (length A) (omega arith), m .ensures);
       },
-      omega (arith, length-part A (m .result) (length A) (omega arith), m .ensures),
     )
 
 returns : tie.Need-returns Inv-loop μ-loop

@@ -48,7 +48,7 @@ returns c =
           (at-record-end .record-end .ensures .0),
       sight-is (at-start .args .types .now) (at-start .args .count)
           (at-start .pre) (reading-place .ensures .0) (at-record-end .record-end .ensures .0) (append .last .0)
-          (omega (arith, append .kept .0, at-start .pre)) (append .ensures),
+          (omega (arith, append .kept .0, at-start .pre .1 .room)) (append .ensures),
     )
 
 pub then-sight-spec : {M : Type 1} → statement M

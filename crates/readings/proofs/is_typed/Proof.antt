@@ -24,25 +24,25 @@ returns-3 c =
     (t .if2 .left) (e .before .reading-place .ensures .0) (e .record-end .ensures .0) (s .args .values .now)
     (s .pre .1) (c .before .byte2 .ensures .0) (c .if3 .taken)
 
-sub-values-fit : tie.Need-sub-values-fit
-sub-values-fit c =
+sub-values-ok : tie.Need-sub-values-ok
+sub-values-ok c =
     let e = c .before .before .before .before in let t = e .before .before in let o = t .before .before in let s =
     o .before .before .before in types-from (s .pre .0) (o .if1 .left) (t .before .byte .ensures .0)
     (t .if2 .left) (e .before .reading-place .ensures .0) (e .record-end .ensures .0)
 
-part-values-fit-start : tie.Need-part-values-fit-start
-part-values-fit-start c =
+part-values-ok-start : tie.Need-part-values-ok-start
+part-values-ok-start c =
     let e = c .before .before .before .before in
-    let h : e .before .reading-place .result + 5 ≤ e .record-end .result = sub-values-fit c in
+    let h : e .before .reading-place .result + 5 ≤ e .record-end .result = sub-values-ok c in
     search needs
 
-slice-aggregate-values-fit : tie.Need-slice-aggregate-values-fit
-slice-aggregate-values-fit c =
+slice-aggregate-values-ok : tie.Need-slice-aggregate-values-ok
+slice-aggregate-values-ok c =
     let s = c .before .before .before .before .before .before .before .before .before .before .before .before .before in
     sym (length-take-le (s .args .n) (s .args .values .now) (s .pre .1))
 
-values-fit-requires : tie.Need-values-fit-requires
-values-fit-requires c κs =
+values-ok-requires : tie.Need-values-ok-requires
+values-ok-requires c κs =
     let b = c .before .before .before in let e = b .before .before .before in let t = e .before .before in let o =
     t .before .before in let s = o .before .before .before in types-room (s .pre .0) (o .if1 .left)
     (t .before .byte .ensures .0) (t .if2 .left) (e .before .reading-place .ensures .0)
@@ -55,10 +55,10 @@ returns-4 c =
     let o = t .before .before in let s = o .before .before .before in typed-values (s .pre .0) (o .if1 .left)
     (t .before .byte .ensures .0) (t .if2 .left) (e .before .reading-place .ensures .0)
     (e .record-end .ensures .0) (s .args .values .now) (s .pre .1) (b .before .byte2 .ensures .0) (b .if3 .left)
-    (at-byte3 .byte3 .ensures .0) (c .values-fit .ensures)
+    (at-byte3 .byte3 .ensures .0) (c .values-ok .ensures)
 
 pub is-typed-spec : {M : Type 1} → statement M
 is-typed-spec = tie.close (tie.spec returns (λ c κs. search needs) returns-2 (λ c. search needs)
     (λ c κs. search needs) (λ c κs. search needs) (λ c. search needs) (λ c. search needs) (λ c. search needs)
-    (λ c κs. search needs) returns-3 (λ c κs. search needs) (λ c. search needs) sub-values-fit part-values-fit-start
-    (λ c. search needs) slice-aggregate-values-fit values-fit-requires returns-4)
+    (λ c κs. search needs) returns-3 (λ c κs. search needs) (λ c. search needs) sub-values-ok part-values-ok-start
+    (λ c. search needs) slice-aggregate-values-ok values-ok-requires returns-4)

@@ -30,22 +30,23 @@ returns-3 c =
 
 returns-4 : tie.Need-returns-4
 returns-4 c =
-    let at-start = c .before .before .before .before .before .before .before .before in
+    let at-start = c .before .before .before .before .before .before .before .before .before in
     template-no (at-start .args .piece .now) λ h. omega (arith, h .long)
 
 returns-5 : tie.Need-returns-5
 returns-5 c =
-    let at-byte = c .before .before .before .before .before in
+    let at-byte = c .before .before .before .before .before .before in
     let at-start = at-byte .before .before .before .before .before .before in
     let q = at-start .args .piece .now in let n = at-byte .byte .ensures .0 in template-no q λ h. untold
     (c .before .types-ok .ensures ∙ ap (λ i. all isType (part q 5 (5 + i))) n) (c .if5 .taken) (h .types)
 
 returns-6 : tie.Need-returns-6
 returns-6 c =
-    let at-byte = c .before .before .before .before .before .before in
+    let at-byte = c .before .before .before .before .before .before .before in
     let at-start = at-byte .before .before .before .before .before .before in
-    let q = at-start .args .piece .now in let n = at-byte .byte .ensures .0 in let k =
-    c .before .before .before .before .before .before .before .before in let types = told-yes
+    let q = at-start .args .piece .now in
+    let n = at-byte .byte .ensures .0 in
+    let k = at-byte .before .before in let types = told-yes
     (c .before .before .types-ok .ensures ∙ ap (λ i. all isType (part q 5 (5 + i))) n) (c .before .if5 .left) in
     ap (λ i. leb i 4) (c .byte2 .ensures .0 ∙ ap (λ i. byte q (5 + i)) n) ∙ template-last q
     (told-yes (k .before .before .is-record .ensures) (k .before .if1 .left))

@@ -51,7 +51,7 @@ returns-5 c =
     λ sights. breached-others (s .args .table .now) (s .pre .0) (s .args .agreement .now) (s .pre .2) sights
     (number-below2 .ensures .0 ∙ ap (numberBelow 65_536)
     (read! (at-if3 .before .before .number-below-arg2 .given))) (number-below2 .ensures .1) (at-if3 .if3 .left)
-    (s .pre .1) (c .before .within .ensures) (c .if5 .taken)
+    (s .pre .1) (c .before .is-subset .ensures) (c .if5 .taken)
 
 returns-6 : tie.Need-returns-6
 returns-6 c =
@@ -81,7 +81,7 @@ returns-8 c =
     (at-if2 .before .unsigned32 .ensures .0) (at-if2 .if2 .left)
     (number-below2 .ensures .0 ∙ ap (numberBelow 65_536)
     (read! (at-if3 .before .before .number-below-arg2 .given))) (number-below2 .ensures .1) (at-if3 .if3 .left)
-    (at-if5 .before .before .if4 .left) (s .pre .1) (at-if5 .before .within .ensures) (at-if5 .if5 .left)
+    (at-if5 .before .before .if4 .left) (s .pre .1) (at-if5 .before .is-subset .ensures) (at-if5 .if5 .left)
     (at-if6 .before .zeros .ensures) (at-if6 .if6 .left) (c .before .before .zeros2 .ensures)
     (c .before .if7 .left) (read! (c .t .given))
 

@@ -7,12 +7,12 @@ use Rattle.state.proofs.read_join.Tie as tie
 returns : tie.Need-returns
 returns c =
     let at-start = c .before .before .before .before in
-    λ a last n cells t. joins-not a last n (at-start .args .sort) cells t (c .before .before .union .ensures .0)
+    λ a last n cells t. joins-not a last n (at-start .args .kind) cells t (c .before .before .union .ensures .0)
     (c .before .join-ok .ensures) (c .if1 .taken) _
 
 returns-2 : tie.Need-returns-2
 returns-2 c =
-    let s = c .before .before .before .before in λ a last n cells t. joins-both a last n (s .args .sort) cells t
+    let s = c .before .before .before .before in λ a last n cells t. joins-both a last n (s .args .kind) cells t
     (c .before .before .union .ensures .0) (c .before .join-ok .ensures) (c .if1 .left) (s .pre .4)
 
 pub read-join-spec : {M : Type 1} → statement M

@@ -28,31 +28,34 @@ count c =
 
 few : (c : tie.Else2) → c .before .number-below .result ≤ 128
 few c =
-    let s = begun (c .before) in fewer (s .args .table .now) (s .pre .3) (s .args .agreement .now) (s .pre .5)
+    let s = begun (c .before) in fewer (s .args .table .now) (s .pre .0 .1) (s .args .agreement .now) (s .pre .1)
     (count (c .before)) (c .before .number-below .ensures .1) (c .if2 .left)
 
 returns : tie.Need-returns
 returns c =
-    let s = c .before .before .before .before .before .before in running-head (s .args .table .now) (s .pre .3)
-    (s .args .agreement .now) (s .pre .5) (s .args .sights .now) (c .before .zeros .ensures) (c .if1 .taken)
+    let s = c .before .before .before .before .before .before in running-head (s .args .table .now) (s .pre .0 .1)
+    (s .args .agreement .now) (s .pre .1) (s .args .sights .now) (c .before .zeros .ensures) (c .if1 .taken)
 
 returns-2 : tie.Need-returns-2
 returns-2 c =
-    let s = begun (c .before) in running-many (s .args .table .now) (s .pre .3) (s .args .agreement .now)
-    (s .pre .5) (s .args .sights .now) (count (c .before)) (c .if2 .taken)
+    let s = begun (c .before) in running-many (s .args .table .now) (s .pre .0 .1) (s .args .agreement .now)
+    (s .pre .1) (s .args .sights .now) (count (c .before)) (c .if2 .taken)
 
 walk-tree-requires : tie.Need-walk-tree-requires
 walk-tree-requires c κs =
     let k = c .before .before in let s = begun (k .before) in (
-      s .pre .0,
-      s .pre .1,
-      s .pre .2,
-      s .pre .5 .to,
-      few k,
-      omega
-          (arith, few k, s .pre .3, length-part (s .args .table .now) 8 3080 (omega (arith, s .pre .3))),
-      omega
-          (arith, few k, s .pre .4),
+      s .pre .0 .0,
+      record {
+        soon = s .pre .1 .to;
+        few = few k;
+        long = omega (
+          arith,
+          few k,
+          s .pre .0 .1,
+          length-part (s .args .table .now) 8 3080 (omega (arith, s .pre .0 .1)),
+        );
+        room = omega (arith, few k, s .pre .0 .2);
+      },
     )
 
 returns-3 : tie.Need-returns-3
@@ -61,7 +64,7 @@ returns-3 c =
     let k = c .before .before .before .before .before .before .before .before .before in
     let s = begun (k .before) in
     let w = at-walk-tree .walk-tree in
-    running-other (s .args .table .now) (s .pre .3) (s .args .agreement .now) (s .pre .5) (count (k .before))
+    running-other (s .args .table .now) (s .pre .0 .1) (s .args .agreement .now) (s .pre .1) (count (k .before))
     (k .before .number-below .ensures .1) (k .if2 .left) (w .last .1 .1 .1 .1 .1 .1 .0) (w .ensures)
     (c .before .before .k .given .1) (c .if3 .taken)
 
@@ -71,15 +74,15 @@ returns-4 c =
     let k = c .before .before .before .before .before .before .before in
     let s = begun (k .before) in
     let w = at-walk-tree .walk-tree in
-    running-torn (s .args .table .now) (s .pre .3) (s .args .agreement .now) (s .pre .5) (count (k .before))
+    running-torn (s .args .table .now) (s .pre .0 .1) (s .args .agreement .now) (s .pre .1) (count (k .before))
     (k .before .number-below .ensures .1) (k .if2 .left) (w .last .1 .1 .1 .1 .1 .1 .0) (w .ensures)
     (c .enum-told .given .1)
 
 returns-5 : tie.Need-returns-5
 returns-5 c =
     let o = c .before .before .before in let k = counted o in let s = begun (k .before) in let w =
-    o .before .before .before .before .before .before .walk-tree in running-is (s .args .table .now) (s .pre .3)
-    (s .args .agreement .now) (s .pre .5) (count (k .before)) (k .before .number-below .ensures .1)
+    o .before .before .before .before .before .before .walk-tree in running-is (s .args .table .now) (s .pre .0 .1)
+    (s .args .agreement .now) (s .pre .1) (count (k .before)) (k .before .number-below .ensures .1)
     (k .if2 .left) (w .last .1 .1 .1 .1 .1 .1 .0) (w .ensures) (o .before .before .k .given .1) (o .if3 .left)
     (c .before .zeros2 .ensures) (k .before .before .before .before .zeros .ensures)
     (k .before .before .before .if1 .left) (c .if4 .taken)
@@ -88,7 +91,7 @@ returns-6 : tie.Need-returns-6
 returns-6 c =
     let o = c .before .before .before in let k = counted o in let s = begun (k .before) in let w =
     o .before .before .before .before .before .before .walk-tree in running-more (s .args .table .now)
-    (s .pre .3) (s .args .agreement .now) (s .pre .5) (count (k .before)) (k .before .number-below .ensures .1)
+    (s .pre .0 .1) (s .args .agreement .now) (s .pre .1) (count (k .before)) (k .before .number-below .ensures .1)
     (k .if2 .left) (w .last .1 .1 .1 .1 .1 .1 .0) (w .ensures) (o .before .before .k .given .1) (o .if3 .left)
     (c .before .zeros2 .ensures) (c .if4 .left)
 

@@ -11,7 +11,7 @@ use Rattle.state.proofs.state_of.Tie as tie
 
 returns : tie.Need-returns
 returns c =
-    let s = c .before .before .before .before .before .before in head-timeless (s .args .table .now) (s .pre .3)
+    let s = c .before .before .before .before .before .before in head-timeless (s .args .table .now) (s .pre .1)
     (s .args .agreement .now) (s .args .sights .now)
     (c .before .number-below .ensures .0 ∙ ap (numberBelow 4_294_967_296)
     (read! (c .before .before .number-below-arg .given))) (c .if1 .taken)
@@ -20,7 +20,7 @@ returns-2 : tie.Need-returns-2
 returns-2 c =
     let at-number-below = c .before .before .before in
     let s = c .before .before .before .before .before .before .before .before in
-    head-early (s .args .table .now) (s .pre .3) (s .args .agreement .now) (s .args .sights .now)
+    head-early (s .args .table .now) (s .pre .1) (s .args .agreement .now) (s .args .sights .now)
     (at-number-below .number-below .ensures .0 ∙ ap (numberBelow 4_294_967_296)
     (read! (at-number-below .before .number-below-arg .given))) (at-number-below .number-below .ensures .1)
     (c .before .before .if1 .left) (c .before .unsigned32 .ensures .0) (c .if2 .taken)
@@ -28,7 +28,7 @@ returns-2 c =
 returns-3 : tie.Need-returns-3
 returns-3 c =
     let s = c .before .before .before .before .before .before .before .before .before .before .before in head-zeros
-    (s .args .table .now) (s .pre .3) (s .args .agreement .now) (s .args .sights .now)
+    (s .args .table .now) (s .pre .1) (s .args .agreement .now) (s .args .sights .now)
     (c .before .zeros .ensures) (c .if3 .taken)
 
 running-requires : tie.Need-running-requires
@@ -38,12 +38,8 @@ running-requires c κs =
     let at-number-below = at-if2 .before .before .before in
     let s = c .before .before .before .before .before .before .before .before .before .before .before .before
     .before .before .before in (
-      s .pre .0,
-      s .pre .1,
-      s .pre .2,
-      s .pre .3,
-      s .pre .4,
-      head-at (s .args .table .now) (s .pre .3)
+      s .pre,
+      head-at (s .args .table .now) (s .pre .1)
           (s .args .agreement .now) (s .args .sights .now)
           (at-number-below .number-below .ensures .0 ∙ ap (numberBelow 4_294_967_296)
           (read! (at-number-below .before .number-below-arg .given))) (at-number-below .number-below .ensures .1)
@@ -60,9 +56,9 @@ breached-requires c κs =
     let at-number-below = at-if2 .before .before .before in
     let s = c .before .before .before .before .before .before .before .before .before .before .before .before
     .before .before in (
-      s .pre .3,
-      s .pre .2,
-      head-at (s .args .table .now) (s .pre .3) (s .args .agreement .now)
+      s .pre .1,
+      s .pre .0 .areMains,
+      head-at (s .args .table .now) (s .pre .1) (s .args .agreement .now)
           (s .args .sights .now) (at-number-below .number-below .ensures .0 ∙ ap (numberBelow 4_294_967_296)
           (read! (at-number-below .before .number-below-arg .given))) (at-number-below .number-below .ensures .1)
           (at-if2 .before .before .if1 .left) (at-if2 .before .unsigned32 .ensures .0) (at-if2 .if2 .left)
@@ -79,7 +75,7 @@ returns-5 c =
     let s = c .before .before .before .before .before .before .before .before .before .before .before .before
     .before .before .before in
     c .fulfilled .ensures (s .args .agreement .now) (at-number-below .number-below .result) (s .args .sights .now)
-    (head-at (s .args .table .now) (s .pre .3) (s .args .agreement .now) (s .args .sights .now)
+    (head-at (s .args .table .now) (s .pre .1) (s .args .agreement .now) (s .args .sights .now)
     (at-number-below .number-below .ensures .0 ∙ ap (numberBelow 4_294_967_296)
     (read! (at-number-below .before .number-below-arg .given))) (at-number-below .number-below .ensures .1)
     (at-if2 .before .before .if1 .left) (at-if2 .before .unsigned32 .ensures .0) (at-if2 .if2 .left)
@@ -96,7 +92,7 @@ returns-6 c =
 returns-7 : tie.Need-returns-7
 returns-7 c =
     let s = c .before .before .before .before .before .before .before .before .before .before .before .before
-    .before .before in head-other (s .args .table .now) (s .pre .3) (s .args .agreement .now)
+    .before .before in head-other (s .args .table .now) (s .pre .1) (s .args .agreement .now)
     (s .args .sights .now) (c .before .number-below2 .ensures .0 ∙ ap (numberBelow 4)
     (read! (c .before .before .number-below-arg2 .given))) (λ e. omega (arith, c .match .rest))
     (λ e. omega (arith, c .match .rest)) (λ e. omega (arith, c .match .rest))

@@ -7,5 +7,6 @@ use Rattle.typing.proofs.leaf_type.Tie as tie
 pub leaf-type-spec : {M : Type 1} → statement M
 leaf-type-spec = tie.close (tie.spec
     (λ c κs. search needs) (λ c κs. search needs) (λ c κs. search needs) (λ c κs. search needs)
-    (λ c κs. search needs) (λ c κs. search needs) (λ c. search (leaves, needs)) (λ c. search (leaves, needs))
-    (λ c. search (leaves, needs)) (λ c. search (leaves, needs)) (λ c. search (leaves, needs)))
+    (λ c κs. search needs) (λ c κs. search needs) (λ c κs. search needs) (λ c. search (leaves, needs))
+    (λ c. search (leaves, needs)) (λ c. search (leaves, needs)) (λ c. search (leaves, needs))
+    (λ c. search (leaves, needs)))

@@ -19,7 +19,7 @@ use Rattle.arith.proofs.record_end.Reads as record-end-reads
 use Rattle.parties.proofs.union.Reads as union-reads
 use Rattle.records.proofs.first_clause.Reads as first-clause-reads
 use Rattle.units.proofs.instance_parties.Reads as instance-parties-reads
-use Rattle.units.proofs.party_bit.Reads as party-bit-reads
+use Rattle.parties.proofs.party_bit.Reads as party-bit-reads
 use Rattle.units.proofs.stands_for.Reads as stands-for-reads
 use Rattle.units.proofs.+clause_parties.{statement}
 use Rattle.units.proofs.+clause_parties.Tie.{close}

@@ -1,5 +1,6 @@
 -- At each turn the bits are those of the parties that the first i blames stand for.
-use Rattle.units.proofs.Blames.{blamed-first, blamed-more, blamed-last, bits-small}
+use Rattle.units.proofs.Blames.{blamed-first, blamed-more, blamed-last}
+use Rattle.parties.proofs.Masks.{bits-small}
 use Rattle.csl.specs.Table.{standFor}
 use Rattle.csl.specs.Parties.{bitsOf}
 use lib.ListN.{length, take}

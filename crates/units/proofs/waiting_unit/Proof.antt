@@ -14,24 +14,24 @@ returns : tie.Need-returns
 returns c =
     let number-below-arg = c .before .before .number-below-arg in
     let at-start = c .before .before .before .before .before in
-    wait-negative (at-start .pre .1) (at-start .args .time) (at-start .args .sort) (at-start .args .cells .now)
-    (at-start .pre .5) (number-below-arg .given)
+    wait-negative (at-start .pre .0 .isAccepted) (at-start .args .time) (at-start .args .kind) (at-start .args .cells .now)
+    (at-start .pre .3) (number-below-arg .given)
     (c .before .number-below .ensures .0 ∙ ap (numberBelow 9_223_372_036_854_775_808)
     (read! (number-below-arg .given))) (c .if1 .taken)
 
 returns-2 : tie.Need-returns-2
 returns-2 c =
     let at-start = c .before .before .before .before .before .before .before .before in
-    wait-late (at-start .pre .1) (at-start .args .time) (at-start .args .sort) (at-start .args .cells .now)
-    (at-start .pre .5) (c .before .number-below2 .ensures .0 ∙ ap (numberBelow (at-start .args .time + 1))
+    wait-late (at-start .pre .0 .isAccepted) (at-start .args .time) (at-start .args .kind) (at-start .args .cells .now)
+    (at-start .pre .3) (c .before .number-below2 .ensures .0 ∙ ap (numberBelow (at-start .args .time + 1))
     (read! (c .before .before .number-below-arg2 .given))) (c .if2 .taken)
 
 returns-3 : tie.Need-returns-3
 returns-3 c =
     let at-number-below2 = c .before .before .before in
     let at-start = at-number-below2 .before .before .before .before .before .before .before in
-    wait-early (at-start .pre .1) (at-start .args .time) (at-start .args .sort) (at-start .args .cells .now)
-    (at-start .pre .5) (at-number-below2 .number-below2 .ensures .0 ∙ ap
+    wait-early (at-start .pre .0 .isAccepted) (at-start .args .time) (at-start .args .kind) (at-start .args .cells .now)
+    (at-start .pre .3) (at-number-below2 .number-below2 .ensures .0 ∙ ap
     (numberBelow (at-start .args .time + 1)) (read! (at-number-below2 .before .number-below-arg2 .given)))
     (c .before .before .if2 .left) (c .before .unsigned32 .ensures .0) (c .if3 .taken)
 
@@ -42,13 +42,13 @@ returns-4 c =
     let at-if1 = at-if2 .before .before .before in
     let number-below = at-if1 .before .number-below in
     let at-start = at-if1 .before .before .before .before .before in
-    wait-other (at-start .pre .1) (at-start .args .time) (at-start .args .sort) (at-start .args .cells .now)
-    (at-start .pre .5) (at-if2 .before .number-below2 .ensures .0 ∙ ap (numberBelow (at-start .args .time + 1))
+    wait-other (at-start .pre .0 .isAccepted) (at-start .args .time) (at-start .args .kind) (at-start .args .cells .now)
+    (at-start .pre .3) (at-if2 .before .number-below2 .ensures .0 ∙ ap (numberBelow (at-start .args .time + 1))
     (read! (at-if2 .before .before .number-below-arg2 .given))) (at-if2 .if2 .left)
     (number-below .ensures .0 ∙ ap (numberBelow 9_223_372_036_854_775_808)
     (read! (at-if1 .before .before .number-below-arg .given))) (number-below .ensures .1) (at-if1 .if1 .left)
     (at-locate .locate .last .1 .1 .1 .0) (at-locate .locate .ensures) (c .before .before .k .given .1)
-    (at-start .pre .4) (c .if4 .taken)
+    (at-start .pre .2) (c .if4 .taken)
 
 part-located-unit-end : tie.Need-part-located-unit-end
 part-located-unit-end c =
@@ -60,8 +60,8 @@ part-located-unit-end c =
     let at-start = at-if1 .before .before .before .before .before in
     omega (
       arith,
-      wait-room (at-start .pre .1) (at-start .args .time) (at-start .args .sort)
-          (at-start .args .cells .now) (at-start .pre .5)
+      wait-room (at-start .pre .0 .isAccepted) (at-start .args .time) (at-start .args .kind)
+          (at-start .args .cells .now) (at-start .pre .3)
           (at-if2 .before .number-below2 .ensures .0 ∙ ap (numberBelow (at-start .args .time + 1))
           (read! (at-if2 .before .before .number-below-arg2 .given))) (at-if2 .if2 .left)
           (number-below .ensures .0 ∙ ap (numberBelow 9_223_372_036_854_775_808)
@@ -79,17 +79,15 @@ located-unit-requires c κs =
     let number-below = at-if1 .before .number-below in
     let at-start = at-if1 .before .before .before .before .before in (
       at-start .pre .0,
-      at-start .pre .1,
-      at-start .pre .2,
-      found-there (at-start .pre .1) (at-start .args .time)
-          (at-start .args .sort) (at-start .args .cells .now) (at-start .pre .5)
+      found-there (at-start .pre .0 .isAccepted) (at-start .args .time)
+          (at-start .args .kind) (at-start .args .cells .now) (at-start .pre .3)
           (at-if2 .before .number-below2 .ensures .0 ∙ ap (numberBelow (at-start .args .time + 1))
           (read! (at-if2 .before .before .number-below-arg2 .given))) (at-if2 .if2 .left)
           (number-below .ensures .0 ∙ ap (numberBelow 9_223_372_036_854_775_808)
           (read! (at-if1 .before .before .number-below-arg .given))) (number-below .ensures .1) (at-if1 .if1 .left)
           (at-locate .locate .last .1 .1 .1 .0) (at-locate .locate .ensures) (at-k .k .given .1)
           (at-locate .locate .kept .1 .1 .1 .0),
-      at-start .pre .5,
+      at-start .pre .3,
     )
 
 returns-5 : tie.Need-returns-5
@@ -99,8 +97,8 @@ returns-5 c =
     let at-if1 = at-if2 .before .before .before in
     let number-below = at-if1 .before .number-below in
     let at-start = at-if1 .before .before .before .before .before in
-    wait-nowhere (at-start .pre .1) (at-start .args .time) (at-start .args .sort) (at-start .args .cells .now)
-    (at-start .pre .5) (at-if2 .before .number-below2 .ensures .0 ∙ ap (numberBelow (at-start .args .time + 1))
+    wait-nowhere (at-start .pre .0 .isAccepted) (at-start .args .time) (at-start .args .kind) (at-start .args .cells .now)
+    (at-start .pre .3) (at-if2 .before .number-below2 .ensures .0 ∙ ap (numberBelow (at-start .args .time + 1))
     (read! (at-if2 .before .before .number-below-arg2 .given))) (at-if2 .if2 .left)
     (number-below .ensures .0 ∙ ap (numberBelow 9_223_372_036_854_775_808)
     (read! (at-if1 .before .before .number-below-arg .given))) (number-below .ensures .1) (at-if1 .if1 .left)
@@ -115,14 +113,14 @@ returns-6 c =
     let number-below = at-number-below-arg2 .before .before .number-below in
     let at-number-below-arg = at-number-below-arg2 .before .before .before in
     let at-start = at-number-below-arg .before .before .before in
-    wait-located (at-start .pre .1) (at-start .args .time) (at-start .args .sort) (at-start .args .cells .now)
-    (at-start .pre .5) (at-unsigned32 .before .before .number-below2 .ensures .0 ∙ ap
+    wait-located (at-start .pre .0 .isAccepted) (at-start .args .time) (at-start .args .kind) (at-start .args .cells .now)
+    (at-start .pre .3) (at-unsigned32 .before .before .number-below2 .ensures .0 ∙ ap
     (numberBelow (at-start .args .time + 1)) (read! (at-number-below-arg2 .number-below-arg2 .given)))
     (at-unsigned32 .before .if2 .left) (number-below .ensures .0 ∙ ap (numberBelow 9_223_372_036_854_775_808)
     (read! (at-number-below-arg .number-below-arg .given))) (number-below .ensures .1)
     (at-number-below-arg2 .before .if1 .left) (at-locate .locate .last .1 .1 .1 .0) (at-locate .locate .ensures)
     (at-if4 .before .before .k .given .1) (at-unsigned32 .unsigned32 .ensures .0)
-    (at-locate .before .before .if3 .left) (at-start .pre .4) (at-if4 .if4 .left)
+    (at-locate .before .before .if3 .left) (at-start .pre .2) (at-if4 .if4 .left)
     (at-locate .locate .kept .1 .1 .1 .0) (c .located-unit .result) (c .located-unit .ensures)
 
 pub waiting-unit-spec : {M : Type 1} → statement M

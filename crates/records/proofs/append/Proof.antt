@@ -1,13 +1,12 @@
 -- At each turn what was there and the first i of `from` stand at the front.
+use borrow.Author.Needs.{needs}
 use mathlib.Core.Path.{_≡_, refl}
 use mathlib.Core.List.{_++_}
 use Prim.Native.Nat.{_+_, _-_, _≤_}
-use native.Mathlib.Omega.{arith}
 use lib.ListN.{length, take, length-set}
-use Rattle.typing.proofs.Sights.{append-more, append-none, append-done}
-use borrow.Author.Needs.{needs}
-use Rattle.typing.proofs.append.Statement.{statement}
-use Rattle.typing.proofs.append.Tie as tie
+use Rattle.records.proofs.Appended.{append-first, append-more, append-last}
+use Rattle.records.proofs.append.Statement.{statement}
+use Rattle.records.proofs.append.Tie as tie
 
 abbrev Inv-loop : tie.InvT-loop
 Inv-loop out₀ n from i₀ out i = (i ≤ length from) × (length out ≡ length out₀)
@@ -17,22 +16,22 @@ abbrev μ-loop : tie.MeasureT-loop
 μ-loop out₀ n from i₀ out i = length from - i
 
 loop-holds : tie.Need-loop-holds Inv-loop μ-loop
-loop-holds c = (search needs, refl, append-none (c .args .out .now) (c .args .from .now) (c .args .n))
+loop-holds c = (search needs, refl, append-first (c .args .out .now) (c .args .n) (c .args .from .now))
 
 loop-again : tie.Need-loop-again Inv-loop μ-loop
 loop-again c =
-    let h = c .before .before in let s = h .before in (
+    let l = c .before .before in (
       search needs,
-      simp length-set (h .loop .inv .1),
-      append-more (s .args .out .now) (h .loop .out)
-          (s .args .from .now) (s .args .n) (h .loop .i) (omega arith) (omega arith) (h .loop .inv .2),
+      simp length-set (l .loop .inv .1),
+      append-more
+          (l .before .args .out .now) (l .before .args .n) (l .before .args .from .now) (l .loop .i) (l .loop .out)
+          (c .before .loop-test .taken) (search needs) (l .loop .inv .2),
     )
 
 returns : tie.Need-returns Inv-loop μ-loop
 returns c =
-    let l = c .before .loop in
-    let s = c .before .before in
-    append-done (s .args .out .now) (l .out) (s .args .from .now) (s .args .n) (l .i) (omega arith) (l .inv .2)
+    let l = c .before in append-last (l .before .args .out .now) (l .before .args .n) (l .before .args .from .now)
+    (l .loop .i) (l .loop .out) (l .loop .inv .0) (c .loop-test .left) (l .loop .inv .2)
 
 pub append-spec : {M : Type 1} → statement M
 append-spec = tie.close (tie.spec Inv-loop μ-loop
