@@ -1,5 +1,6 @@
 //! What the commands write: results to standard output, complaints to standard error.
 
+use std::fmt::Display;
 use std::io::{self, Write};
 
 /// Writes a result, all of it.
@@ -9,7 +10,7 @@ pub fn result(bytes: &[u8]) -> Result<(), String> {
 }
 
 /// What is said of a result that cannot be written.
-pub fn lost(error: io::Error) -> String {
+pub fn lost(error: impl Display) -> String {
     format!("standard output: {error}")
 }
 

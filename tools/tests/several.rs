@@ -82,14 +82,16 @@ starting 2026-03-01T09
     );
 }
 
+/// What a word is exchanged for.
+const OTHERS: [&str; 14] = ["", "and", "in", "(", ")", "x", ";", "=", "then", "<", "5", "letrec", ",", "due"];
+
 /// One word exchanged or left out, anywhere: one fault at the most.
 #[test]
 fn one_mistake_is_told_once() {
-    let others = ["", "and", "in", "(", ")", "x", ";", "=", "then", "<", "5", "letrec", ","];
     let mut wrong = 0;
     for text in texts() {
         for token in tokens(&text).iter().filter(|token| token.token != Token::End) {
-            for other in others {
+            for other in OTHERS {
                 let damaged = format!("{}{other}{}", &text[..token.span.start], &text[token.span.end..]);
                 let faults = parse_all(&damaged).err().unwrap_or_default();
                 assert!(faults.len() <= 1, "{:?} for {:?}: {faults:?}", other, token);
@@ -100,6 +102,44 @@ fn one_mistake_is_told_once() {
     assert!(wrong > 20_000, "{wrong}");
 }
 
+/// The text with a few words, at these places among its tokens, exchanged for others or left out.
+fn exchanged(random: &mut Random, text: &str, at: &[usize]) -> String {
+    let tokens = tokens(text);
+    let mut damaged = text.to_string();
+    for at in at.iter().rev() {
+        let span = tokens[*at].span;
+        damaged.replace_range(span.start..span.end, random.pick(&OTHERS));
+    }
+    damaged
+}
+
+/// So many different places among the tokens of a text, in order.
+fn places(random: &mut Random, text: &str, count: usize) -> Vec<usize> {
+    let last = tokens(text).len() - 1;
+    let mut at: Vec<usize> = (0..count).map(|_| random.below(last)).collect();
+    at.sort_unstable();
+    at.dedup();
+    at
+}
+
+/// Several words exchanged or left out: no more faults than these, and most of them.
+#[test]
+fn no_more_faults_than_mistakes() {
+    let mut random = Random::new(22);
+    let texts = texts();
+    let (mut there, mut told) = (0, 0);
+    for _ in 0..4_000 {
+        let text = &texts[random.below(texts.len())];
+        let count = 2 + random.below(3);
+        let at = places(&mut random, text, count);
+        let damaged = exchanged(&mut random, text, &at);
+        let faults = parse_all(&damaged).err().unwrap_or_default();
+        assert!(faults.len() <= at.len(), "{faults:?}\n{damaged}");
+        (there, told) = (there + at.len(), told + faults.len());
+    }
+    assert!(2 * told > there, "{told} of {there}");
+}
+
 /// A few signs that stand for nothing: what is told is told of them, the first always.
 #[test]
 fn no_trace_is_told_as_a_mistake() {
@@ -108,12 +148,11 @@ fn no_trace_is_told_as_a_mistake() {
     let (mut there, mut told) = (0, 0);
     for _ in 0..4_000 {
         let text = &texts[random.below(texts.len())];
-        let places: Vec<usize> = tokens(text).iter().map(|token| token.span.start).collect();
-        let mut at: Vec<usize> = (0..2 + random.below(4)).map(|_| places[random.below(places.len())]).collect();
-        at.sort_unstable();
-        at.dedup();
+        let starts: Vec<usize> = tokens(text).iter().map(|token| token.span.start).collect();
+        let count = 2 + random.below(4);
+        let at = places(&mut random, text, count);
         let mut damaged = text.to_string();
-        at.iter().rev().for_each(|at| damaged.insert_str(*at, "; "));
+        at.iter().rev().for_each(|at| damaged.insert_str(starts[*at], "; "));
         let faults = parse_all(&damaged).expect_err("a fault");
         let first = tokens(&damaged).iter().find(|token| matches!(token.token, Token::Wrong(_))).map(|t| t.span.at);
         assert_eq!(Some(faults[0].at), first, "{damaged}");
@@ -122,7 +161,6 @@ fn no_trace_is_told_as_a_mistake() {
         assert!(faults.is_sorted_by_key(|fault| fault.at) && faults.len() <= at.len(), "{faults:?}");
         (there, told) = (there + at.len(), told + faults.len());
     }
-    println!("{told} of {there} told");
     assert!(2 * told > there, "{told} of {there}");
 }
 

@@ -61,11 +61,7 @@ fn raw(stream: &str) -> Result<Status, String> {
     let mut lost = None;
     let told = |step| {
         let written = writeln!(output, "{step}").and_then(|()| output.flush());
-        written.map_err(|error| {
-            let kind = error.kind();
-            lost = Some(output::lost(error));
-            kind.into()
-        })
+        written.inspect_err(|error| lost = Some(output::lost(error)))
     };
     let verdict = match stream {
         "-" => records(&mut io::stdin().lock(), told),
