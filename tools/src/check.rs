@@ -13,7 +13,7 @@ mod words;
 
 use crate::assemble::Assembled;
 use crate::fault::{utf8, Fault};
-use crate::parse::parse;
+use crate::parse::parse_all;
 use crate::resolve::{in_order, resolve};
 use crate::syntax::Agreement;
 use givuntha::{Parties, Refusal};
@@ -46,9 +46,9 @@ pub enum Verdict {
 
 /// Checks the text of an agreement.
 pub fn check(text: &[u8]) -> Result<Accepted, Refused> {
-    let no_record = |fault| Refused { faults: vec![fault], verdict: Verdict::NoRecord };
-    let text = utf8(text).map_err(no_record)?;
-    let tree = parse(text).map_err(no_record)?;
+    let no_record = |faults| Refused { faults, verdict: Verdict::NoRecord };
+    let text = utf8(text).map_err(|fault| no_record(vec![fault]))?;
+    let tree = parse_all(text).map_err(no_record)?;
     let resolved = resolve(&tree);
     let mut faults = resolved.faults;
     if resolved.bounded {

@@ -85,11 +85,29 @@ impl fmt::Display for Fault {
     }
 }
 
-/// The text of bytes, or the place where they are no text.
+/// The bytes without the mark that some editors put before a text.
+pub fn unmarked(bytes: &[u8]) -> &[u8] {
+    bytes.strip_prefix("\u{feff}".as_bytes()).unwrap_or(bytes)
+}
+
+/// The text of bytes, or the place where they are no text in lines.
 pub fn utf8(bytes: &[u8]) -> Result<&str, Fault> {
-    std::str::from_utf8(bytes).map_err(|error| {
+    let bytes = unmarked(bytes);
+    let text = std::str::from_utf8(bytes).map_err(|error| {
         let good = String::from_utf8_lossy(&bytes[..error.valid_up_to()]);
         Fault::new(good.chars().fold(Place::START, Place::after), "bytes that are no UTF-8 text")
+    })?;
+    match lone_return(text) {
+        None => Ok(text),
+        Some(at) => Fault::err(at, "a carriage return inside a line: lines end with a newline, or with both"),
+    }
+}
+
+/// The first carriage return with more of its line behind it: a comment before it would hide that.
+fn lone_return(text: &str) -> Option<Place> {
+    (1..).zip(text.split('\n')).find_map(|(line, content)| {
+        let (before, _) = content.trim_end_matches('\r').split_once('\r')?;
+        Some(Place { line, column: 1 + before.chars().count() })
     })
 }
 

@@ -28,6 +28,7 @@ pub mod limits;
 pub mod model;
 mod near;
 mod numbers;
+pub mod output;
 pub mod parse;
 pub mod pending;
 pub mod print;

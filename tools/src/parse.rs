@@ -4,6 +4,8 @@ mod clauses;
 mod cursor;
 mod expressions;
 mod hints;
+mod resume;
+mod sections;
 
 use crate::fault::Fault;
 use crate::model::Type;
@@ -11,22 +13,30 @@ use crate::syntax::{Agreement, Parameter, Reading, Template};
 use crate::text::{tokens, Token};
 use cursor::Cursor;
 use hints::A_TYPE;
+use sections::Sections;
 
-/// Reads the text of an agreement.
+/// Reads the text of an agreement, or tells its first fault of grammar.
 pub fn parse(text: &str) -> Result<Agreement, Fault> {
-    let mut cursor = Cursor::new(tokens(text)?);
-    cursor.expect("parties")?;
-    let parties = cursor.list(|cursor| cursor.name("a party's name"))?;
-    cursor.expect("readings")?;
-    let readings = cursor.while_named(reading)?;
-    let templates = if cursor.take("letrec") { cursor.while_named(template)? } else { Vec::new() };
-    cursor.expect("in")?;
-    let main = cursor.clause()?;
-    cursor.expect("starting")?;
-    let (start, dated) = start(&mut cursor)?;
-    match cursor.token() {
-        Token::End => Ok(Agreement { parties, readings, templates, main, start, dated }),
-        _ => Err(cursor.unexpected("the end of the text")),
+    // There is at least one.
+    parse_all(text).map_err(|mut faults| faults.swap_remove(0))
+}
+
+/// Reads the text of an agreement, or tells its faults of grammar, in the order of the text: the first, and of the
+/// others those that stand clear of it.
+pub fn parse_all(text: &str) -> Result<Agreement, Vec<Fault>> {
+    let mut cursor = Cursor::new(tokens(text));
+    let mut sections = Sections::default();
+    let mut faults = Vec::new();
+    let mut read = sections.rest(&mut cursor);
+    while let Err(fault) = read {
+        // A text that is too long is so everywhere behind.
+        let ends = fault.refusal.is_some();
+        faults.push(fault);
+        read = if ends { Ok(()) } else { sections.resumed(&mut cursor) };
+    }
+    match sections.agreement() {
+        Some(agreement) if faults.is_empty() => Ok(agreement),
+        _ => Err(faults),
     }
 }
 

@@ -8,7 +8,9 @@ mod follow;
 pub mod records;
 mod teller;
 
-pub use arguments::command;
+pub use arguments::{command, told};
+pub use follow::followed;
+pub use teller::Form;
 
 use givuntha::{Breach, Refusal, State, Table};
 use std::fmt;

@@ -1,5 +1,6 @@
 //! How the commands that run an agreement end.
 
+use crate::output::complain;
 use crate::run::Verdict;
 use crate::shown::printable;
 use givuntha::Refusal;
@@ -10,7 +11,7 @@ pub enum Status {
     /// Fulfilled or running.
     Well = 0,
     Breached = 1,
-    /// The agreement is refused, or an input is wrong.
+    /// The agreement is refused, an input is wrong, or the output cannot be written.
     Refused = 2,
     Usage = 3,
 }
@@ -35,7 +36,7 @@ impl From<Status> for ExitCode {
 pub fn exit(ended: Result<Status, String>) -> ExitCode {
     ended
         .unwrap_or_else(|what| {
-            eprintln!("{what}");
+            complain(&what);
             Status::Refused
         })
         .into()
@@ -43,7 +44,7 @@ pub fn exit(ended: Result<Status, String>) -> ExitCode {
 
 /// Wrong arguments.
 pub fn usage(usage: &str) -> ExitCode {
-    eprintln!("usage: {usage}");
+    complain(&format!("usage: {usage}"));
     Status::Usage.into()
 }
 

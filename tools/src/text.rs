@@ -12,6 +12,8 @@ pub enum Token {
     Date(u32),
     /// A reserved word, or a sign in its ASCII form.
     Sign(&'static str),
+    /// Something that is no token, and what is wrong with it.
+    Wrong(Fault),
     End,
 }
 
@@ -23,6 +25,7 @@ impl Token {
             Token::Number(_) => "a number".to_string(),
             Token::Date(_) => "a date".to_string(),
             Token::Sign(sign) => format!("`{sign}`"),
+            Token::Wrong(fault) => fault.what.clone(),
             Token::End => "the end of the text".to_string(),
         }
     }
@@ -32,6 +35,7 @@ impl Token {
         match self {
             Token::Name(name) => name.chars().count(),
             Token::Sign(sign) => sign.len(),
+            Token::Wrong(fault) => fault.length,
             Token::Number(_) | Token::Date(_) | Token::End => 1,
         }
     }
@@ -98,17 +102,17 @@ const SIGNS: [(&str, &str); 25] = [
 ];
 
 /// All tokens of a text; the last is the end.
-pub fn tokens(text: &str) -> Result<Vec<Placed>, Fault> {
+pub fn tokens(text: &str) -> Vec<Placed> {
     let mut lexer = Lexer { rest: text, at: Place::START };
     let mut tokens = Vec::new();
     loop {
         lexer.skip();
         let (at, start) = (lexer.at, text.len() - lexer.rest.len());
-        let token = lexer.token()?;
+        let token = lexer.token().unwrap_or_else(Token::Wrong);
         let ended = token == Token::End;
         tokens.push(Placed { token, span: Span { at, start, end: text.len() - lexer.rest.len() } });
         if ended {
-            return Ok(tokens);
+            return tokens;
         }
     }
 }
@@ -171,6 +175,7 @@ impl<'a> Lexer<'a> {
     fn number(&mut self) -> Result<Token, Fault> {
         let at = self.at;
         if let Some((length, what)) = dates::slip(self.rest) {
+            self.take(length);
             return Err(Fault::new(at, what).of_length(length));
         }
         if let Some(length) = dates::shape(self.rest) {
@@ -185,7 +190,9 @@ impl<'a> Lexer<'a> {
 
     fn sign(&mut self, c: char) -> Result<Token, Fault> {
         let Some((written, sign)) = SIGNS.iter().find(|(written, _)| self.rest.starts_with(written)) else {
-            return Fault::err(self.at, format!("`{c}` stands for nothing here"));
+            let at = self.at;
+            self.take(c.len_utf8());
+            return Fault::err(at, format!("`{c}` stands for nothing here"));
         };
         self.take(written.len());
         Ok(Token::Sign(sign))

@@ -15,9 +15,8 @@ use crate::source::Source;
 use crate::status::{exit, refused, usage, Status};
 use crate::story::words::Words;
 use crate::story::{text, Event, Story};
-use crate::{files, readings};
+use crate::{files, output, readings};
 use chart::Chart;
-use std::io::{self, Write};
 use std::path::Path;
 use std::process::ExitCode;
 
@@ -40,9 +39,7 @@ pub fn command(arguments: &[&str]) -> ExitCode {
 fn timeline(text: &str, readings: &str, form: Form) -> Result<Status, String> {
     let source = files::source(text)?;
     let drawn = picture(&source, readings, &files::readings(readings, &source)?, form)?;
-    let mut output = io::stdout().lock();
-    let written = output.write_all(drawn.as_bytes()).and_then(|()| output.flush());
-    written.map_err(|error| format!("standard output: {error}"))?;
+    output::result(drawn.as_bytes())?;
     Ok(Status::Well)
 }
 

@@ -1,12 +1,12 @@
 //! The command `agreement`.
 
 use std::fmt::Display;
-use std::io::{self, Write};
 use std::process::ExitCode;
 use tools::check::{check, Accepted};
 use tools::decode::decode;
 use tools::explain::Context;
 use tools::files::read;
+use tools::output::{complain, result};
 use tools::readings::readings;
 use tools::shown::printable;
 use tools::{disassemble, examples, explain, run, timeline};
@@ -26,9 +26,9 @@ usage: agreement check FILE                     what is wrong with the text of a
                                                 a run as a picture (SVG), or as a page with its story
        agreement COMMAND --help, agreement --version
 
-FILE may be - for standard input. Results go to standard output; what is wrong with an input goes to
-standard error as FILE:LINE:COLUMN. Exit status: 0 all is well, 1 breached (run) or not as expected
-(test), 2 an input is wrong or refused, 3 wrong arguments.
+One FILE may be - for standard input. Results go to standard output; what is wrong with an input goes
+to standard error as FILE:LINE:COLUMN. Exit status: 0 all is well, 1 breached (run) or not as expected
+(test), 2 an input is wrong or refused or the output cannot be written, 3 wrong arguments.
 
 This tool is not proved. Whether an agreement is accepted is decided by the monitor's proved entry
 `check` alone, which is given the record, and every verdict of a run is the proved monitor's; the tool
@@ -49,6 +49,10 @@ fn main() -> ExitCode {
     let arguments: Vec<&str> = arguments.iter().map(String::as_str).collect();
     let asked = |options: [&str; 2]| arguments.iter().any(|argument| options.contains(argument));
     let output = match arguments[..] {
+        _ if asked_twice(&arguments) => {
+            complain("standard input can be only one of the files");
+            return ExitCode::from(MISUSED);
+        }
         ["help"] => Ok(USAGE.as_bytes().to_vec()),
         _ if asked(["--help", "-h"]) => Ok(USAGE.as_bytes().to_vec()),
         _ if asked(["--version", "-V"]) => Ok(VERSION.as_bytes().to_vec()),
@@ -64,17 +68,23 @@ fn main() -> ExitCode {
         ["explain", "--for", text, table] => explained_for(table, text),
         ["explain", "--agreement", record, table] => explained_by(table, record),
         _ => {
-            eprint!("{USAGE}");
+            complain(USAGE.trim_end());
             return ExitCode::from(MISUSED);
         }
     };
-    match output.and_then(|bytes| write(&bytes)) {
+    match output.and_then(|bytes| result(&bytes)) {
         Ok(()) => ExitCode::SUCCESS,
         Err(what) => {
-            eprintln!("{what}");
+            complain(&what);
             ExitCode::from(REFUSED)
         }
     }
+}
+
+/// Whether two files are to be standard input, so that the second would be empty.
+fn asked_twice(arguments: &[&str]) -> bool {
+    let readings = usize::from(arguments.contains(&"--follow"));
+    arguments.iter().filter(|argument| **argument == "-").count() + readings > 1
 }
 
 fn accepted(file: &str) -> Result<Accepted, String> {
@@ -109,9 +119,4 @@ fn explained_by(table: &str, record: &str) -> Result<Vec<u8>, String> {
 
 fn told(file: &str, what: impl Display) -> String {
     format!("{}: {what}", printable(file))
-}
-
-fn write(bytes: &[u8]) -> Result<(), String> {
-    let mut output = io::stdout().lock();
-    output.write_all(bytes).and_then(|()| output.flush()).map_err(|error| format!("standard output: {error}"))
 }

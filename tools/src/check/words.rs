@@ -1,6 +1,7 @@
 //! The words for a refused and for an accepted text.
 
 use super::{Accepted, Refused, Verdict};
+use crate::fault::unmarked;
 use crate::shown::{excerpt, printable};
 use givuntha::{Parties, Refusal};
 
@@ -24,7 +25,7 @@ impl Accepted {
 impl Refused {
     /// Each fault with its place, its line and what is wrong; then the verdict.
     pub fn told(&self, file: &str, text: &[u8]) -> String {
-        let (file, text) = (printable(file), String::from_utf8_lossy(text));
+        let (file, text) = (printable(file), String::from_utf8_lossy(unmarked(text)));
         let mut lines = Vec::new();
         for fault in self.faults.iter().take(MOST) {
             let refusal = fault.refusal.map(|number| format!(" (refusal {number})")).unwrap_or_default();

@@ -80,7 +80,8 @@ impl Cursor {
 
     fn instance(&mut self, at: Place) -> Result<Clause, Fault> {
         let template = self.name("a template's name")?;
-        if let (false, Some(word)) = (*self.token() == Token::Sign("("), nearest(&template.text, WORDS)) {
+        let alone = !matches!(self.token(), Token::Sign("(") | Token::Wrong(_));
+        if let (true, Some(word)) = (alone, nearest(&template.text, WORDS)) {
             let what = format!("`{}` begins no clause; did you mean `{word}`?", template.text);
             return Err(Fault::new(at, what).of_length(template.length()));
         }

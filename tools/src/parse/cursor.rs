@@ -36,7 +36,17 @@ impl Cursor {
     }
 
     pub fn second(&self) -> &Token {
-        &self.peek(1).token
+        self.ahead(1)
+    }
+
+    /// The token so many after the next.
+    pub fn ahead(&self, count: usize) -> &Token {
+        &self.peek(count).token
+    }
+
+    /// Whether the next token is the first of its line.
+    pub fn begins_line(&self) -> bool {
+        self.next == 0 || self.last_span().at.line < self.at().line
     }
 
     pub fn at(&self) -> Place {
@@ -53,12 +63,20 @@ impl Cursor {
         self.tokens[self.next.saturating_sub(1).min(self.tokens.len() - 1)].span
     }
 
+    /// Whether the next token stands no further to the right than the first of the text.
+    pub fn is_outermost(&self) -> bool {
+        self.at().column <= self.tokens[0].span.at.column
+    }
+
     pub fn skip(&mut self) {
         self.next += 1;
     }
 
     pub fn unexpected(&self, wanted: &str) -> Fault {
         let found = self.token();
+        if let Token::Wrong(fault) = found {
+            return fault.clone();
+        }
         let what = format!("expected {wanted}, found {}{}", found.told(), hint(wanted, found));
         Fault::new(self.at(), what).of_length(found.length())
     }

@@ -12,7 +12,7 @@ pub fn hint(wanted: &str, found: &Token) -> String {
         Token::Sign(sign) => sign_hint(wanted, sign).map(|hint| format!(": {hint}")).unwrap_or_default(),
         Token::Name(name) if wanted == A_TYPE => did_you_mean(type_word(name), ["number", "truth", "party"]),
         Token::Name(name) => did_you_mean(name, WORDS),
-        Token::Number(_) | Token::Date(_) | Token::End => String::new(),
+        Token::Number(_) | Token::Date(_) | Token::Wrong(_) | Token::End => String::new(),
     }
 }
 

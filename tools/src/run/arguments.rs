@@ -3,9 +3,12 @@
 use super::follow::follow;
 use super::records::records;
 use super::teller::{opened, Form, Teller};
-use crate::files;
+use crate::readings::Reading;
+use crate::shown::printable;
+use crate::source::Source;
 use crate::status::{exit, usage, Status};
 use crate::story::Story;
+use crate::{files, output};
 use std::io::{self, Write};
 use std::process::ExitCode;
 
@@ -29,15 +32,25 @@ pub fn command(arguments: &[&str]) -> ExitCode {
 /// A file of readings: all its lines are read before the first is given to the run.
 fn run(text: &str, readings: &str, form: Form) -> Result<Status, String> {
     let source = opened(text, form)?;
-    let readings_read = files::readings(readings, &source)?;
-    let mut teller = Teller::new(&source, readings, form, io::stdout().lock());
-    let (mut story, start) = match Story::start(&source) {
+    told(&source, readings, &files::readings(readings, &source)?, form, io::stdout().lock())
+}
+
+/// Tells a run to its end; `name` is the file of the readings.
+pub fn told(
+    source: &Source,
+    name: &str,
+    readings: &[(usize, Reading)],
+    form: Form,
+    output: impl Write,
+) -> Result<Status, String> {
+    let mut teller = Teller::new(source, name, form, output);
+    let (mut story, start) = match Story::start(source) {
         Ok(started) => started,
         Err(refusal) => return teller.refused(refusal),
     };
     teller.event(&start)?;
-    for (line, reading) in readings_read {
-        teller.event(&story.reading(line, &reading))?;
+    for (line, reading) in readings {
+        teller.event(&story.reading(*line, reading))?;
     }
     teller.ending(&story.ending())
 }
@@ -45,10 +58,15 @@ fn run(text: &str, readings: &str, form: Form) -> Result<Status, String> {
 /// A stream of records, as the program `brinewatch` takes it.
 fn raw(stream: &str) -> Result<Status, String> {
     let mut output = io::stdout().lock();
-    let told = |step| writeln!(output, "{step}").and_then(|()| output.flush());
+    let mut lost = None;
+    let told = |step| {
+        let written = writeln!(output, "{step}").and_then(|()| output.flush());
+        written.inspect_err(|error| lost = Some(output::lost(error)))
+    };
     let verdict = match stream {
         "-" => records(&mut io::stdin().lock(), told),
         _ => records(&mut &files::read(stream)?[..], told),
     };
-    verdict.map(|verdict| Status::of(&verdict)).map_err(|error| format!("{stream}: {error}"))
+    let what = |error| lost.unwrap_or_else(|| format!("{}: {error}", printable(stream)));
+    verdict.map(|verdict| Status::of(&verdict)).map_err(what)
 }

@@ -3,23 +3,35 @@
 use super::teller::{opened, Form, Teller};
 use crate::fault::{utf8, Fault, Place};
 use crate::model::Agreement;
+use crate::output::complain;
 use crate::readings::{reading, Reading};
+use crate::source::Source;
 use crate::status::Status;
 use crate::story::Story;
-use std::io::{self, BufRead};
+use std::io::{self, BufRead, Write};
 
-/// A line that is no reading is told on standard error and passed over, so that a slip does not end
-/// the watch; the status at the end is then 2, or 1 if the agreement is breached.
 pub fn follow(text: &str, form: Form) -> Result<Status, String> {
     let source = opened(text, form)?;
-    let mut teller = Teller::new(&source, "-", form, io::stdout().lock());
-    let (mut story, start) = match Story::start(&source) {
+    let mut input = io::stdin().lock();
+    followed(&source, form, &mut input, io::stdout().lock(), |fault| complain(&format!("-:{fault}")))
+}
+
+/// A line that is no reading is complained of and passed over, so that a slip does not end the watch;
+/// the status at the end is then 2, or 1 if the agreement is breached.
+pub fn followed(
+    source: &Source,
+    form: Form,
+    input: &mut impl BufRead,
+    output: impl Write,
+    mut complain: impl FnMut(Fault),
+) -> Result<Status, String> {
+    let mut teller = Teller::new(source, "-", form, output);
+    let (mut story, start) = match Story::start(source) {
         Ok(started) => started,
         Err(refusal) => return teller.refused(refusal),
     };
     teller.event(&start)?;
     let mut wrong = false;
-    let mut input = io::stdin().lock();
     for number in 1.. {
         let mut line = Vec::new();
         if input.read_until(b'\n', &mut line).map_err(|error| format!("-: {error}"))? == 0 {
@@ -29,7 +41,7 @@ pub fn follow(text: &str, form: Form) -> Result<Status, String> {
             Ok(None) => {}
             Ok(Some(reading)) => teller.event(&story.reading(number, &reading))?,
             Err(fault) => {
-                eprintln!("-:{fault}");
+                complain(fault);
                 wrong = true;
             }
         }

@@ -1,10 +1,10 @@
 //! Writes a story down, event by event.
 
-use crate::files;
 use crate::source::Source;
 use crate::status::{refused, Status};
 use crate::story::words::Words;
 use crate::story::{objects, text, Ending, Event};
+use crate::{files, output};
 use givuntha::Refusal;
 use std::io::Write;
 
@@ -17,10 +17,12 @@ pub enum Form {
 
 /// The agreement of a text. Where it is refused, one JSON object says so too.
 pub fn opened(text: &str, form: Form) -> Result<Source, String> {
-    files::source(text).inspect_err(|because| {
-        if form == Form::Json {
-            println!("{}", objects::refused(None, because));
-        }
+    files::source(text).map_err(|because| {
+        let told = match form {
+            Form::Text => Ok(()),
+            Form::Json => output::result(format!("{}\n", objects::refused(None, &because)).as_bytes()),
+        };
+        told.map_or_else(|lost| format!("{because}\n{lost}"), |()| because.clone())
     })
 }
 
@@ -68,7 +70,6 @@ impl<'s, W: Write> Teller<'s, W> {
     }
 
     fn write(&mut self, told: &str) -> Result<(), String> {
-        let written = self.output.write_all(told.as_bytes()).and_then(|()| self.output.flush());
-        written.map_err(|error| format!("standard output: {error}"))
+        self.output.write_all(told.as_bytes()).and_then(|()| self.output.flush()).map_err(output::lost)
     }
 }

@@ -1,6 +1,8 @@
 //! What a picture shows, without coordinates.
 
 use super::bars::{bars, Bar};
+use super::label::label;
+use crate::pending::Pending;
 use crate::run::Verdict;
 use crate::story::words::Words;
 use crate::story::{Ending, Event};
@@ -8,6 +10,8 @@ use givuntha::Breach;
 
 /// A window is cut where it goes on for more than so many times the rest of the picture.
 const FAR: i64 = 4;
+/// A sentence of more characters does not fit.
+const SENTENCE: usize = 130;
 
 pub struct Chart {
     pub title: String,
@@ -121,7 +125,13 @@ fn verdict(words: &Words, events: &[Event], ending: &Ending) -> String {
     let parties = |breach: &Breach| words.parties(breach.parties).join(" and ");
     match ending {
         Ending::Breached(breach, event) => {
-            format!("breached at {} by {}: {}", words.moment(breach.time), parties(breach), duties(words, event))
+            let told = format!("breached at {} by {}: ", words.moment(breach.time), parties(breach));
+            let whole = told.clone() + &duties(event, |pending| words.clause(pending));
+            // Where the conditions do not fit the duties are named as their bars are.
+            match whole.chars().count() <= SENTENCE {
+                true => whole,
+                false => told + &duties(event, |pending| label(words, pending)),
+            }
         }
         Ending::Fulfilled(event) => format!("fulfilled, shown at {}", words.time(event.time.into())),
         Ending::Running(_) => match last_forecast(events) {
@@ -135,9 +145,9 @@ fn verdict(words: &Words, events: &[Event], ending: &Ending) -> String {
 }
 
 /// The duties behind a breach.
-fn duties(words: &Words, event: &Event) -> String {
+fn duties(event: &Event, named: impl Fn(&Pending) -> String) -> String {
     match &event.broken {
-        Ok(broken) => broken.iter().map(|pending| words.clause(pending)).collect::<Vec<_>>().join("; "),
+        Ok(broken) => broken.iter().map(named).collect::<Vec<_>>().join("; "),
         Err(why) => format!("which duty cannot be told: {why}"),
     }
 }

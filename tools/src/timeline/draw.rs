@@ -17,6 +17,8 @@ const BETWEEN: i64 = 8;
 const READING_ROWS: usize = 16;
 /// Longer names of readings are clipped.
 const READING_WIDTH: i64 = 231;
+/// A name stands so far from its tick, and the first date from the second.
+const BESIDE: i64 = 4;
 /// The readings' ticks stand in a strip of their own.
 const STRIP: i64 = 12;
 /// What stands at the left edge begins here.
@@ -64,7 +66,7 @@ fn axis(chart: &Chart, scale: &Scale, bottom: i64) -> [String; 2] {
     let widest = shown.iter().map(|label| width(&label.text)).max().unwrap_or(0);
     shown = labels(chart.start, chart.end, chart.dated, most(widest));
     let start = label(chart.start, chart.dated);
-    if shown.first().is_none_or(|first| LEFT + width(&start.text) <= scale.x(first.time)) {
+    if shown.first().is_none_or(|first| LEFT + width(&start.text) + BESIDE <= scale.x(first.time)) {
         shown.insert(0, start);
     }
     let lines = shown.iter().map(|label| down("grid", scale.x(label.time), HEAD - BETWEEN, bottom, "")).collect();
@@ -93,7 +95,7 @@ fn mark(chart: &Chart, scale: &Scale, below: i64, bottom: i64) -> String {
 /// A strip of ticks, and under it the readings' names in as many rows as they need.
 fn readings(chart: &Chart, scale: &Scale, top: i64) -> Part {
     let name = |tick: &Tick| clipped(&tick.what, READING_WIDTH);
-    let span = |tick: &Tick| Span::starting(scale.x(tick.time), width(&name(tick)) + 4);
+    let span = |tick: &Tick| Span::beside(scale.x(tick.time), width(&name(tick)) + BESIDE);
     let spans: Vec<Span> = chart.readings.iter().map(span).collect();
     let rows = rows(&spans);
     let shown = rows.iter().max().map_or(0, |row| (row + 1).min(READING_ROWS));
@@ -102,11 +104,10 @@ fn readings(chart: &Chart, scale: &Scale, top: i64) -> Part {
         let (x, [line, letters]) = (scale.x(tick.time), classes(tick));
         elements += &down(line, x, top, top + STRIP, &tick.title);
         let y = top + STRIP + READING_ROW * count(row);
-        if row < READING_ROWS && span.from == x {
-            elements += &down(line, x, y + 4, y + READING_ROW, "");
-        }
         if row < READING_ROWS {
-            elements += &text(letters, span.from + 4, y + READING_ROW - 2, &name(tick));
+            let at = if span.from == x { x + BESIDE } else { span.from };
+            elements += &down(line, x, y + 4, y + READING_ROW, "");
+            elements += &text(letters, at, y + READING_ROW - 2, &name(tick));
         }
     }
     Part { elements, bottom: top + STRIP + READING_ROW * count(shown) }

@@ -65,6 +65,12 @@ impl Span {
         Span { from, to: from + width }
     }
 
+    /// To the right of a column, or to its left where it would leave the picture.
+    pub fn beside(column: i64, width: i64) -> Span {
+        let from = if column + width <= EDGE { column } else { column - width };
+        Span { from, to: from + width }
+    }
+
     pub fn with(self, other: Span) -> Span {
         Span { from: self.from.min(other.from), to: self.to.max(other.to) }
     }

@@ -2,11 +2,11 @@
 //! tell apart too; and no fate is told by its colour alone.
 
 pub const STYLE: &str = "\
-svg { --ground: #ffffff; --ink: #1b1f24; --faint: #6a737d; --grid: #e3e6ea; --edge: #c5cad0;
-  --met: #0072b2; --broken: #b84700; --wait: #1b1f24; --gone: #9aa1a9; }
+svg { color-scheme: light dark; --ground: #ffffff; --ink: #1b1f24; --faint: #6a737d; --grid: #e3e6ea; --edge: #c5cad0;
+  --met: #0072b2; --broken: #b84700; --wait: #1b1f24; --gone: #7f8790; }
 @media (prefers-color-scheme: dark) {
   svg { --ground: #14171c; --ink: #e8eaed; --faint: #a2aab4; --grid: #2b3038; --edge: #464d57;
-    --met: #56b4e9; --broken: #ff8c42; --wait: #e8eaed; --gone: #6b737d; }
+    --met: #56b4e9; --broken: #ff8c42; --wait: #e8eaed; --gone: #8a929c; }
 }
 text { font: 11px ui-monospace, 'DejaVu Sans Mono', Menlo, Consolas, monospace; fill: var(--ink);
   paint-order: stroke; stroke: var(--ground); stroke-width: 5px; stroke-linejoin: round; }

@@ -7,16 +7,25 @@ use tools::Assembled;
 
 pub struct Corpus {
     pub texts: Vec<Vec<u8>>,
-    pub lines: Vec<Vec<u8>>,
+    pub streams: Vec<Stream>,
     pub agreements: Vec<Assembled>,
     /// Each with the number of its agreement.
     pub tables: Vec<(usize, Vec<u8>)>,
 }
 
+/// Readings of an example.
+pub struct Stream {
+    /// The number of their agreement.
+    pub agreement: usize,
+    pub lines: Vec<u8>,
+    /// The verdicts that must come.
+    pub expected: Vec<u8>,
+}
+
 impl Corpus {
     pub fn read() -> Corpus {
         let root = Path::new(env!("CARGO_MANIFEST_DIR"));
-        let mut corpus = Corpus { texts: Vec::new(), lines: Vec::new(), agreements: Vec::new(), tables: Vec::new() };
+        let mut corpus = Corpus { texts: Vec::new(), streams: Vec::new(), agreements: Vec::new(), tables: Vec::new() };
         for folder in std::fs::read_dir(root.join("../examples")).expect("the examples") {
             let folder = folder.expect("an entry").path();
             if let Ok(text) = std::fs::read(folder.join("agreement.csl")) {
@@ -26,7 +35,7 @@ impl Corpus {
         for name in ["sample.csl", "sale.csl", "watch.csl"] {
             corpus.agreement(std::fs::read(root.join("tests").join(name)).expect("a text"));
         }
-        assert!(corpus.texts.len() > 5 && corpus.lines.len() > 10 && corpus.tables.len() > 50);
+        assert!(corpus.texts.len() > 5 && corpus.streams.len() > 10 && corpus.tables.len() > 50);
         corpus
     }
 
@@ -41,9 +50,10 @@ impl Corpus {
         for file in std::fs::read_dir(folder).expect("an example") {
             let file = file.expect("an entry").path();
             if file.extension().is_some_and(|extension| extension == "readings") {
-                let lines = std::fs::read(file).expect("readings");
+                let lines = std::fs::read(&file).expect("readings");
+                let expected = std::fs::read(file.with_extension("out")).expect("verdicts");
                 self.run(&lines);
-                self.lines.push(lines);
+                self.streams.push(Stream { agreement: self.agreements.len() - 1, lines, expected });
             }
         }
     }

@@ -55,6 +55,22 @@ pub fn damaged(random: &mut Random, input: &[u8], other: &[u8]) -> Vec<u8> {
     bytes
 }
 
+/// Words and bytes in no order, after the beginning of a text or not.
+pub fn jumbled(random: &mut Random) -> Vec<u8> {
+    let mut bytes = Vec::new();
+    if random.below(2) == 0 {
+        bytes.extend(b"parties A, B readings N(n: number) E() letrec f(n: number)<p> = fulfilment in ");
+    }
+    for _ in 0..random.below(60) {
+        match random.below(4) {
+            0 => bytes.extend(random.pick(&["A", "N", "E()", "f(1)<A>", "<B> N(n)", "n", "7", " "]).as_bytes()),
+            1 => bytes.push(random.draw() as u8),
+            _ => bytes.extend(random.pick(&WORDS).as_bytes()),
+        }
+    }
+    bytes
+}
+
 fn once(random: &mut Random, bytes: &mut Vec<u8>, other: &[u8]) {
     let at = random.below(bytes.len());
     let end = (at + random.below(40)).min(bytes.len());

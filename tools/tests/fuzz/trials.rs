@@ -1,8 +1,9 @@
 //! What is done with a damaged input. Each trial answers whether the input was still taken.
 
 use super::corpus::Corpus;
-use super::damage::damaged;
+use super::damage::{damaged, jumbled};
 use super::random::Random;
+use super::runs::{follow, picture, records, run, test};
 use tools::check::{check, Verdict};
 use tools::explain::Context;
 use tools::readings::readings;
@@ -10,12 +11,21 @@ use tools::{assemble, disassemble, explain};
 
 type Trial = fn(&mut Random, &Corpus) -> bool;
 
-pub const TRIALS: [(&str, Trial); 4] =
-    [("text", text as Trial), ("record", record), ("lines", lines), ("table", table)];
+pub const TRIALS: [(&str, Trial); 9] = [
+    ("text", text as Trial),
+    ("record", record),
+    ("lines", lines),
+    ("table", table),
+    ("run", run),
+    ("follow", follow),
+    ("picture", picture),
+    ("records", records),
+    ("test", test),
+];
 
 fn text(random: &mut Random, corpus: &Corpus) -> bool {
     let (text, other) = (random.pick(&corpus.texts), random.pick(&corpus.texts));
-    let text = damaged(random, text, other);
+    let text = if random.below(8) == 0 { jumbled(random) } else { damaged(random, text, other) };
     match check(&text) {
         Ok(accepted) => {
             assert!(accepted.told("text").ends_with('\n'));
@@ -25,6 +35,7 @@ fn text(random: &mut Random, corpus: &Corpus) -> bool {
         }
         Err(refused) => {
             assert!(!matches!(refused.verdict, Verdict::Disagreement(_)), "{refused:?}");
+            assert!(refused.faults.is_sorted_by_key(|fault| fault.at), "{refused:?}");
             let told = refused.told("text", &text);
             assert!(told.chars().all(|c| c == '\n' || !c.is_control()), "{told:?}");
             false
@@ -54,8 +65,8 @@ fn record(random: &mut Random, corpus: &Corpus) -> bool {
 }
 
 fn lines(random: &mut Random, corpus: &Corpus) -> bool {
-    let (lines, other) = (random.pick(&corpus.lines), random.pick(&corpus.lines));
-    let lines = damaged(random, lines, other);
+    let (stream, other) = (random.pick(&corpus.streams), random.pick(&corpus.streams));
+    let lines = damaged(random, &stream.lines, &other.lines);
     let agreement = &random.pick(&corpus.agreements).agreement;
     let named = random.below(2) == 0;
     match readings(&lines, Some(agreement).filter(|_| named)) {
