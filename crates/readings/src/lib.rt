@@ -26,7 +26,11 @@ pub enum Raw {
 pub enum Taken {
     Malformed,
     Untyped,
-    Fits(usize, usize, usize),
+    Fits {
+        time: usize,
+        sort: usize,
+        count: usize,
+    },
 }
 
 // The bytes are a record of kind 64 with 0 to 4 values.
@@ -140,7 +144,11 @@ pub fn take(agreement: &[u8], places: &[usize], reading: &[u8], values: &mut [i6
         Raw::Malformed => Taken::Malformed,
         Raw::Read(time, ty, n) => {
             if is_typed(agreement, places, ty, n, values) {
-                Taken::Fits(time, ty, n)
+                Taken::Fits {
+                    time,
+                    sort: ty,
+                    count: n,
+                }
             } else {
                 Taken::Untyped
             }
