@@ -139,6 +139,6 @@ module _ (s : List ℕ) {l : Bool} (le : l ≡ sized s) where
 
 -- ---- the entry `check`
 pub checked-as : (s places : List ℕ) (r : Checked) → Verified s places r → checkAnswer r ≡ checkOf s
-unfolding checkOf csl.checkAnswer
+unfolding checkOf csl.answerFor
 checked-as s places (Accepted p) v = rw (v .isAccepted, v .isParties) refl
 checked-as s places (Refused n) v = rw v refl

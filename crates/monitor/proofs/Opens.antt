@@ -1,7 +1,6 @@
 -- Laws for what is lent: which of refusals 1 to 7 applies, or the run that the table shows.
 use mathlib.Core.Path.{_≡_, sym, ap, subst, _∙_}
 use mathlib.Core.List.{List}
-use mathlib.Core.Option.{none}
 use Prim.Native.Nat.{ℕ, _^_, _<_}
 use lib.IntN.{ℤ}
 use lib.Signed.{mag}
@@ -11,13 +10,12 @@ use Rattle.csl.specs.Parties.{bitsOf}
 use Rattle.csl.specs.Decode.{agreementOf}
 use Rattle.csl.specs.Check as check
 use Rattle.csl.specs.Check.{checked, accepted}
-use Rattle.csl.specs.Outcomes.{done}
 use Rattle.csl.specs.Table.{tableLength}
 use Rattle.records.specs.Index.{Indexed}
 use Rattle.places.specs.Locate.{Accepted as isAccepted, mainsOf, mainsIn}
 use Rattle.bridge.proofs.Refusals.{start-refused, reading-refused, forecast-refused, start-six, reading-six}
 use Rattle.bridge.proofs.Refusals.{forecast-six, reading-seven, forecast-seven}
-use Rattle.state.specs.Shown.{RunningAs, RunShows, BreachedAs, Shows, runIn}
+use Rattle.state.specs.Shown.{BreachedAs, Shows, runIn}
 use Rattle.state.specs.declared.State.{State}
 use Rattle.state.specs.declared.State.the-variants.{Damaged, Running, Fulfilled, Breached}
 use Rattle.monitor.specs.declared.Checked.{Checked}
@@ -29,7 +27,7 @@ use Rattle.monitor.specs.declared.Run.the-variants as run
 use Rattle.monitor.specs.declared.Opening.{Opening}
 use Rattle.monitor.specs.declared.Opening.the-variants.{Refused as refusedOpening, Shows as Shown}
 use Rattle.monitor.specs.Answers.{numberOf}
-use Rattle.monitor.specs.Steps.{Goes, Verified, Refuses, Admitted, Opened, Opens}
+use Rattle.monitor.specs.Steps.{Goes, Verified, Refuses, Admitted, ShowsRun, Opened, Opens}
 
 -- ---- the main clause's parties are those that check found
 mains-same : {s places : List ℕ} {p : ℕ} (g : Goes s places p) → mainsOf s ≡ g .mains
@@ -77,47 +75,50 @@ module _ (s places : List ℕ) (us : List ℤ) {c : Checked} (a : Admitted s pla
   pub admitted-no : {r : Refusal} → c ≡ Refused r → Admitted s places us (Refused r)
   admitted-no e = subst (Admitted s places us) e a
 
-  pub admitted-yes : {p : ℕ} → c ≡ Accepted p → Admitted s places us (Accepted p)
-  admitted-yes e = subst (Admitted s places us) e a
+  pub open-refused : {r : Refusal} → c ≡ Refused r → Refuses s us r
+  open-refused e = admitted-no e .1
 
--- ---- 7, or the run
--- what `state_of` asks
-pub state-asked : {s places : List ℕ} {p : ℕ} → Goes s places p
-    → Indexed places s × isAccepted s × (p ≡ bitsOf (mainsOf s))
-state-asked g = (g .indexed, record { is = accepts g }, main-parties g)
+  module _ {p : ℕ} (e : c ≡ Accepted p) where
+    pub admitted-yes : Admitted s places us (Accepted p)
+    admitted-yes = subst (Admitted s places us) e a
 
-module _ {s places : List ℕ} {us : List ℤ} {p : ℕ} (a : Admitted s places us (Accepted p)) (sights : List ℕ)
-    {st : State} (v : Shows (runIn s us) us sights st) where
-  pub open-no : st ≡ Damaged → Refuses s us TableContent
-  unfolding Shows
-  open-no e =
-      let none-shown : runIn s us ≡ none = subst (Shows (runIn s us) us sights) e v in
-      let ck = accepts (a .0) in
-      record {
-        reading = λ bytes. sym (reading-seven us s (agreementOf s) (mainsOf s) ck (a .1) bytes none-shown);
-        forecast = sym (forecast-seven us s (agreementOf s) (mainsOf s) ck (a .1) none-shown);
-      }
+    -- what `state_of` asks
+    pub state-asked : Indexed places s × isAccepted s × (p ≡ bitsOf (mainsOf s)) × (length us ≡ tableLength)
+    state-asked =
+        let g = admitted-yes .0 in
+        (g .indexed, record { is = accepts g }, main-parties g, admitted-yes .1)
 
-  pub open-running : {n : ℕ} → st ≡ Running n → Opened s places us sights (run.Running n)
-  unfolding Shows
-  open-running {n = n} e =
-      let shown : RunningAs (runIn s us) us sights n = subst (Shows (runIn s us) us sights) e v in
-      record { parties = p; goes = a .0; isTable = a .1; shows = shown }
+    open-as : (sights : List ℕ) (r : Run) → ShowsRun s us sights r → Opened s places us sights r
+    open-as sights r h = record { parties = p; goes = admitted-yes .0; isTable = admitted-yes .1; shows = h }
 
-  pub open-done : st ≡ Fulfilled → Opened s places us sights run.Fulfilled
-  unfolding Shows
-  open-done e =
-      let shown : RunShows (runIn s us) us done = subst (Shows (runIn s us) us sights) e v in
-      record { parties = p; goes = a .0; isTable = a .1; shows = shown }
+    -- ---- 7, or the run
+    module _ (sights : List ℕ) {st : State} (v : Shows (runIn s us) us sights st) where
+      shown : (q : State) → st ≡ q → Shows (runIn s us) us sights q
+      shown q f = subst (Shows (runIn s us) us sights) f v
 
-  pub open-breached : {t : ℤ} {b : ℕ} → mag t < 2 ^ 63 → st ≡ Breached t b
-      → Opened s places us sights (run.Breached (seen t) b)
-  unfolding Shows
-  open-breached {t = t} {b = b} fits e =
-      let shown : BreachedAs (runIn s us) us t b = subst (Shows (runIn s us) us sights) e v in
-      let read : BreachedAs (runIn s us) us (seen t) b = subst (λ z. BreachedAs (runIn s us) us z b) (sym (read! fits))
-      shown in
-      record { parties = p; goes = a .0; isTable = a .1; shows = read }
+      pub open-damaged : st ≡ Damaged → Refuses s us TableContent
+      unfolding Shows
+      open-damaged f =
+          let ck = accepts (admitted-yes .0) in
+          let l = admitted-yes .1 in
+          record {
+            reading = λ bytes. sym (reading-seven us s (agreementOf s) (mainsOf s) ck l bytes (shown Damaged f));
+            forecast = sym (forecast-seven us s (agreementOf s) (mainsOf s) ck l (shown Damaged f));
+          }
+
+      pub open-running : {n : ℕ} → st ≡ Running n → Opened s places us sights (run.Running n)
+      unfolding Shows
+      open-running {n = n} f = open-as sights (run.Running n) (shown (Running n) f)
+
+      pub open-fulfilled : st ≡ Fulfilled → Opened s places us sights run.Fulfilled
+      unfolding Shows
+      open-fulfilled f = open-as sights run.Fulfilled (shown Fulfilled f)
+
+      pub open-breached : {t : ℤ} {b : ℕ} → mag t < 2 ^ 63 → st ≡ Breached t b
+          → Opened s places us sights (run.Breached (seen t) b)
+      unfolding Shows
+      open-breached {t = t} {b = b} fits f = open-as sights (run.Breached (seen t) b)
+          (subst (λ z. BreachedAs (runIn s us) us z b) (sym (read! fits)) (shown (Breached t b) f))
 
 -- ---- what is opened, by its case
 module _ (s places : List ℕ) (us : List ℤ) (sights : List ℕ) {a : Opening} (v : Opens s places us sights a) where

@@ -29,38 +29,47 @@ use waits::Event;
 use waits::Step;
 use walk::across;
 
-// The byte places of an agreement's start time and of its number of templates, and the places of its index.
+// The byte place of an agreement's start time.
 const START: usize = 4;
 
+// The byte place of its number of templates.
 const TEMPLATES: usize = 10;
 
+// The places of its index.
 const PLACES: usize = 49;
 
-// A table has a head, of which one cell is the last reading time, and then the cells of units.
-const HEAD_CELLS: usize = 8;
+// The depths that are left within its main clause.
+const DEPTHS: usize = 23;
 
-const LAST_TIME: usize = 1;
-
-const UNIT_CELLS: usize = 24;
-
-const MOST_UNITS: usize = 128;
-
-const TABLE_CELLS: usize = HEAD_CELLS + MOST_UNITS * UNIT_CELLS;
-
-// What is in sight at a unit is said by two numbers.
-const SIGHTS: usize = 2 * MOST_UNITS;
-
-// Room for all units, and for so few that to clear it costs little: to clear more costs more than most readings do.
-const FEW_UNITS: usize = 16;
-
-const ROOM: usize = MOST_UNITS * UNIT_CELLS;
-
-const FEW_ROOM: usize = FEW_UNITS * UNIT_CELLS;
-
-// The most values of a reading, and the depths within a main clause.
+// The most values of a reading.
 const VALUES: usize = 4;
 
-const DEPTHS: usize = 23;
+// The cells of a table's head.
+const HEAD_CELLS: usize = 8;
+
+// The head's cell of the last reading time.
+const LAST_TIME: usize = 1;
+
+// The cells of a unit.
+const UNIT_CELLS: usize = 24;
+
+// The most units of a table.
+const MOST_UNITS: usize = 128;
+
+// A table's cells.
+const TABLE_CELLS: usize = HEAD_CELLS + MOST_UNITS * UNIT_CELLS;
+
+// Two numbers for each unit say what is in sight there.
+const SIGHTS: usize = 2 * MOST_UNITS;
+
+// Room for as many units as a table has.
+const ROOM: usize = MOST_UNITS * UNIT_CELLS;
+
+// A residue is first tried in room for so few units: to clear more room costs more than most readings do.
+const FEW_UNITS: usize = 16;
+
+// That room.
+const FEW_ROOM: usize = FEW_UNITS * UNIT_CELLS;
 
 // Why an entry refuses. The paper's numbers are given by `numberOf`.
 pub enum Refusal {
@@ -246,7 +255,7 @@ fn reduce_within(
     units
 }
 
-// With room for as many units as a table has.
+// The same as `advance`, with room for as many units as a table has.
 fn advance_widely(
     agreement: &[u8],
     places: &[usize],
@@ -299,6 +308,7 @@ fn begin(agreement: &[u8], places: &[usize], table: &mut [i64]) -> Started
     requires { ⌜ ((parties : ℕ) × Goes (now agreement) (now places) parties) × (length (now table) ≡ tableLength) ⌝ }
     ensures { λ r. ⌜ startAnswer r (now (table .exit)) ≡ startOf (now (agreement .entry)) (now (table .entry)) ⌝ }
 {
+    // nothing is in sight, and nothing was read
     let sights = [0usize; 1];
     let none = [0i64; 1];
     let event = Event {
@@ -371,21 +381,17 @@ fn read_on(
     match readings::take(agreement, places, reading, &mut values) {
         Fitting::Malformed => Taken::Refused(Refusal::ReadingForm),
         Fitting::Untyped => Taken::Refused(Refusal::ReadingTyping),
-        Fitting::Fits {
-            time,
-            tag,
-            count: n,
-        } => {
+        Fitting::Fits { time, tag, count } => {
             let last = table[LAST_TIME];
             if less(time as i64, last) {
                 return Taken::Refused(Refusal::ReadingTime);
             }
             let event = Event {
                 step: Step::Follow,
-                time: time,
+                time,
                 tag,
             };
-            let rs = &values[..n];
+            let rs = &values[..count];
             step(agreement, places, sights, run, table, event, rs)
         }
     }
