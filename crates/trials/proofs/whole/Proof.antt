@@ -10,8 +10,8 @@ use lib.Signed.{ltZ, nonNeg, mag}
 use mir.Syntax.{w64}
 use mir.Val.{Fits}
 use Rattle.arith.proofs.Ints.{read}
-use Rattle.trials.proofs.isWhole.Statement.{statement}
-use Rattle.trials.proofs.isWhole.Tie as tie
+use Rattle.trials.proofs.whole.Statement.{statement}
+use Rattle.trials.proofs.whole.Tie as tie
 
 -- what the cast asks of z
 abbrev Asked : ℤ → Type 0
