@@ -11,9 +11,9 @@ use Rattle.csl.specs.Lists.{all}
 use Rattle.csl.specs.Bytes.{byte, part, recordEnd}
 use Rattle.csl.specs.Decode.{Piece, pieces, piecesEnd, templatesPlace, templatePieces, bodyPlace, bodyOf, mainPlace}
 use Rattle.csl.specs.Decode.{mainOf, clause, whole, headsOf, listed, wellFormed}
+use Rattle.laws.proofs.Bools.{true-first, false-first}
 use Rattle.records.specs.Index.{Indexed, templatePlace, pieceAt}
 use Rattle.records.proofs.Index.{piece, part-piece, pieces-more, pieces-none, template-facts}
-use Rattle.formed.proofs.Exprs.{both-on, both-off}
 use Rattle.formed.proofs.Clauses.{whole-place}
 
 -- ---- the body of template k; a, e and n are what calls gave
@@ -83,7 +83,7 @@ pub main-is : (s : List ℕ) {r : Bool} {m : ℕ} → m ≡ mainPlace s
 unfolding mainOf
 main-is s p h = h ∙ rw p (whole-place (headsOf s) 23 0 (mainPlace s) (part s (mainPlace s) (length s)))
 
-pub ruleset mains = (main-is, both-on, both-off, needs)
+pub ruleset mains = (main-is, true-first, false-first, needs)
 
 -- ---- an agreement; x is what `fill_index` answered
 module _ (s : List ℕ) {x r : Bool} (p : x ≡ listed s) where

@@ -14,9 +14,10 @@ use lib.ListN.{length}
 use Rattle.csl.specs.Bytes.{byte, le32, part}
 use Rattle.csl.specs.Decode.{agreementOf, mainOf, mainPlace, sized, between}
 use Rattle.csl.specs.Entries.{startOf}
+use Rattle.laws.proofs.Bools.{both-true}
 use Rattle.soundness.proofs.Checked.{passed}
 use Rattle.records.specs.Index.{Indexed}
-use Rattle.records.proofs.Index.{T-both, templates-length}
+use Rattle.records.proofs.Index.{templates-length}
 use Rattle.cells.specs.Reduce as cells
 use Rattle.cells.specs.Across.{natOf}
 use Rattle.arith.proofs.Lists.{length-part}
@@ -44,8 +45,8 @@ use Rattle.monitor.specs.Answers.{numberOf, startAnswer, Goes, Verified,
 -- ---- an accepted agreement is short
 pub short : {s places : List ℕ} {p : ℕ} → Goes s places p → length s ≤ 16_384
 unfolding sized between
-short {s = s} g = T-both (between 4 16_384 (length s)) _
-    ((passed s (agreementOf s) (g .mains) (g .isAccepted)) .sized) λ a b. T-both (leb 4 (length s))
+short {s = s} g = both-true (between 4 16_384 (length s)) _
+    ((passed s (agreementOf s) (g .mains) (g .isAccepted)) .sized) λ a b. both-true (leb 4 (length s))
     (leb (length s) 16_384) a λ c d. leb→le (length s) 16_384 d
 
 -- ---- the main clause's activation

@@ -14,6 +14,8 @@ use Rattle.csl.specs.Guards.{guardedFrom}
 use Rattle.csl.specs.Widths.{narrowAll}
 use Rattle.csl.specs.Check as csl
 use Rattle.csl.specs.Check.{checked, checkTyped, checkDecoded, checkOf, refused, accepted}
+use Rattle.laws.proofs.Bools.{elim-false, elim-true}
+use Rattle.laws.proofs.Clash.{impossible}
 use Rattle.soundness.proofs.Members.{In, member→in}
 use Rattle.soundness.proofs.Checked.{passed, fair}
 use Rattle.soundness.proofs.Runs.{main-in}
@@ -30,11 +32,11 @@ use Rattle.monitor.specs.Answers.{checkAnswer, Goes, Verified}
 pub untyped : (o : Option (List ℕ)) → Untyped ≡ typedAs o → o ≡ none
 unfolding typedAs
 untyped none e = refl
-untyped (some ps) e = let z : _≡_ {A = ℕ} 0 1 = cc in absurd (omega arith)
+untyped (some ps) e = impossible cc
 
 pub typed-mask : (o : Option (List ℕ)) (p : ℕ) → Parties p ≡ typedAs o → (ps : List ℕ) × (o ≡ some ps) × (p ≡ maskOf ps)
 unfolding typedAs
-typed-mask none p e = let z : _≡_ {A = ℕ} 0 1 = cc in absurd (omega arith)
+typed-mask none p e = impossible cc
 typed-mask (some ps) p e = (ps, refl, cc)
 
 -- ---- the main clause has no party parameters: its mask is its parties' bits
@@ -57,13 +59,6 @@ main-bits s mains e =
     mask-bits mains (λ q m. omega (arith, main-in (agreementOf s) mains f q m, f .few))
 
 -- ---- a definition by a test, or by whether something is there
-module _ {A : Type 0} (x y : A) where
-  test-no : (b : Bool) → b ≡ false → (elim b [ false ↦ x | true ↦ y ]) ≡ x
-  test-no b e = rw e refl
-
-  test-yes : (b : Bool) → b ≡ true → (elim b [ false ↦ x | true ↦ y ]) ≡ y
-  test-yes b e = rw e refl
-
 module _ {A B : Type 0} (x : A) (f : B → A) where
   have-none : (o : Option B) → o ≡ none → (elim o [ none ↦ x | some b ↦ f b ]) ≡ x
   have-none o e = rw e refl
@@ -73,22 +68,22 @@ module _ {A B : Type 0} (x : A) (f : B → A) where
 
 decode-no : (s : List ℕ) → wellFormed s ≡ false → decode s ≡ none
 unfolding decode
-decode-no s e = test-no _ _ (wellFormed s) e
+decode-no s e = elim-false (wellFormed s) _ _ e
 
 decode-yes : (s : List ℕ) → wellFormed s ≡ true → decode s ≡ some (agreementOf s)
 unfolding decode
-decode-yes s e = test-yes _ _ (wellFormed s) e
+decode-yes s e = elim-true (wellFormed s) _ _ e
 
 -- ---- the tests in order, as the code makes them: `if !test { return .. }`
 module _ (s : List ℕ) {l : Bool} (le : l ≡ sized s) where
   pub length-refused : not l ≡ true → checked s ≡ refused 1
   unfolding checked
-  length-refused e = test-no _ _ (sized s) (sym le ∙ not-true l e)
+  length-refused e = elim-false (sized s) _ _ (sym le ∙ not-true l e)
 
   module _ (lt : not l ≡ false) {w : Bool} (we : w ≡ wellFormed s) where
     on : checked s ≡ elim (decode s) [ none ↦ refused 2 | some a ↦ checkDecoded a ]
     unfolding checked
-    on = test-yes _ _ (sized s) (sym le ∙ not-false l lt)
+    on = elim-true (sized s) _ _ (sym le ∙ not-false l lt)
 
     pub form-refused : not w ≡ true → checked s ≡ refused 2
     form-refused e = on ∙ have-none _ checkDecoded (decode s) (decode-no s (sym we ∙ not-true w e))
@@ -114,21 +109,21 @@ module _ (s : List ℕ) {l : Bool} (le : l ≡ sized s) where
         module _ {g : Bool} (ge : g ≡ guardedFrom 0 (agreementOf s .templates)) where
           pub guards-refused : not g ≡ true → checked s ≡ refused 4
           unfolding checkTyped
-          guards-refused e = types ∙ test-no _ _ (guardedFrom 0 (agreementOf s .templates)) (sym ge ∙ not-true g e)
+          guards-refused e = types ∙ elim-false (guardedFrom 0 (agreementOf s .templates)) _ _ (sym ge ∙ not-true g e)
 
           module _ (gt : not g ≡ false) {n : Bool} (ne : n ≡ narrowAll (agreementOf s)) where
             guards : checked s ≡ elim (narrowAll (agreementOf s))
                 [ false ↦ refused 5 | true ↦ accepted (agreementOf s) mains ]
             unfolding checkTyped
-            guards = types ∙ test-yes _ _ (guardedFrom 0 (agreementOf s .templates)) (sym ge ∙ not-false g gt)
+            guards = types ∙ elim-true (guardedFrom 0 (agreementOf s .templates)) _ _ (sym ge ∙ not-false g gt)
 
             pub width-refused : not n ≡ true → checked s ≡ refused 5
-            width-refused e = guards ∙ test-no _ _ (narrowAll (agreementOf s)) (sym ne ∙ not-true n e)
+            width-refused e = guards ∙ elim-false (narrowAll (agreementOf s)) _ _ (sym ne ∙ not-true n e)
 
             pub goes : (places : List ℕ) → (w ≡ true → Indexed places s) → not n ≡ false → Goes s places p
             unfolding mains
             goes places x e =
-                let ok = guards ∙ test-yes _ _ (narrowAll (agreementOf s)) (sym ne ∙ not-false n e) in
+                let ok = guards ∙ elim-true (narrowAll (agreementOf s)) _ _ (sym ne ∙ not-false n e) in
                 record {
                   mains = mains;
                   isAccepted = ok;

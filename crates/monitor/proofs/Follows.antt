@@ -12,8 +12,7 @@ use mir.ValLaws.{toZ-pos}
 use lib.Dec.{ltb}
 use lib.IntN.{ℤ, pos}
 use lib.Signed.{ltZ}
-use lib.ListN.{length, getD, take, drop, set, length-drop, length-take}
-use lib.Seq.{take-all}
+use lib.ListN.{length, getD, take, drop, set, length-take}
 use Rattle.arith.proofs.Ints.{small}
 use Rattle.csl.specs.Lists.{_>>=_}
 use Rattle.csl.specs.Parties.{bitsOf}
@@ -25,6 +24,8 @@ use Rattle.csl.specs.Run.{Run, rawReading}
 use Rattle.csl.specs.Table.{tableOf, padded, headCells, natCells, cellsOf}
 use Rattle.csl.specs.Entries.{readingOf}
 use Rattle.csl.specs.Demand3.{fitting}
+use Rattle.laws.proofs.Integers.{pos-inj}
+use Rattle.laws.proofs.Lists.{part-from}
 use Rattle.soundness.proofs.Readings.{reading-ok}
 use Rattle.soundness.proofs.Runs.{isFair, runAt}
 use Rattle.soundness.proofs.ReadBack.{table-back}
@@ -74,10 +75,7 @@ accepts {s = s} g = g .isAccepted ∙ ap (accepted (agreementOf s)) (sym (mains-
 pub main-parties : {s places : List ℕ} {p : ℕ} → Goes s places p → p ≡ bitsOf (mainsOf s)
 main-parties g = g .isParties ∙ ap bitsOf (sym (mains-same g))
 
--- ---- the cells behind the head
-pub behind-head : (us : List ℤ) → take (length us - 8) (drop 8 us) ≡ drop 8 us
-behind-head us = take-all (length us - 8) (drop 8 us) (rw (length-drop 8 us) (omega arith))
-
+-- ---- a reading that fits
 fits-as : {s bytes : List ℕ} {us : List ℤ} {e : Event} {rs : List ℤ} (f : Fitted s bytes us e rs)
     → fitting (agreementOf s) bytes ≡ some (f .reading)
 unfolding fitting _>>=_
@@ -86,9 +84,6 @@ fits-as f = rw (f .is) (f .typed)
 mode-as : {s bytes : List ℕ} {us : List ℤ} {e : Event} {rs : List ℤ} (f : Fitted s bytes us e rs)
     → modeAt e rs ≡ cells.following (f .reading .time) (f .reading .type) (cellsOf (f .reading .values))
 mode-as f = rw (f .follows, f .time, f .type, f .cells) refl
-
-same-number : {m n : ℕ} → pos m ≡ pos n → m ≡ n
-same-number e = cc
 
 pub time-fits : {t : ℕ} → t < 4_294_967_296 → SFits w64 (pos t)
 time-fits h = small (omega arith)
@@ -121,7 +116,7 @@ module _ {s places : List ℕ} {us : List ℤ} {sights : List ℕ} (o : Opened s
     residue-sights = rw (run .count) at (run .sighted)
 
     pub units-ready : Tree (length s) sights (take (length us - 8) (drop 8 us)) n
-    units-ready = rw (behind-head us, run .count)
+    units-ready = rw (part-from 8 us, run .count)
         (has-tree s (mainsOf s) ck (run .shows .now) res us (o .isTable) (run .shows .is) sights residue-sights)
 
     -- what the rules on cells give for a reading
@@ -141,7 +136,7 @@ module _ {s places : List ℕ} {us : List ℤ} {sights : List ℕ} (o : Opened s
         residue-sights in
         record {
           given = w .given;
-          is = ap₂ (λ m cs. table.across m s n sights cs) (mode-as f) (behind-head us)
+          is = ap₂ (λ m cs. table.across m s n sights cs) (mode-as f) (part-from 8 us)
               ∙ ap₂ (λ k q. table.across (cells.following (d .time) (d .type) (cellsOf (d .values))) s k q
               (drop 8 us)) (run .count) seen ∙ w .only;
           reads = reading-running s (mainsOf s) ck us (o .isTable) (run .shows .now) bytes d (fits-as f) le
@@ -297,7 +292,7 @@ module _ {s places : List ℕ} {us : List ℤ} {sights : List ℕ} (o : Opened s
               inOrder = λ now e. omega (
                 arith,
                 ltb-false time (shown .run .lastTime) (sym (earlier ez eb) ∙ t),
-                same-number (sym e ∙ shown .cell),
+                pos-inj (sym e ∙ shown .cell),
               );
             }
 

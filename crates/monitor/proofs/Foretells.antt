@@ -14,6 +14,8 @@ use Rattle.csl.specs.Check.{checked, accepted}
 use Rattle.csl.specs.Outcomes.{units}
 use Rattle.csl.specs.Entries as entries
 use Rattle.csl.specs.Entries.{forecastOf}
+use Rattle.laws.proofs.Lists.{part-from}
+use Rattle.laws.proofs.Integers.{pos-inj}
 use Rattle.soundness.proofs.Bits.{bits-members}
 use Rattle.soundness.proofs.Runs.{isFair}
 use Rattle.cells.specs.Reduce as cells
@@ -40,7 +42,7 @@ use Rattle.monitor.specs.declared.Foretold.the-variants.{Refused as refu
 use Rattle.monitor.specs.Answers.{numberOf, forecastAnswer, Verified, Opened}
 use Rattle.monitor.proofs.Begins.{goes-on}
 use Rattle.monitor.proofs.Tabled.{founds, sighted}
-use Rattle.monitor.proofs.Follows.{accepts, behind-head, residue-sights, shown-done, shown-breached}
+use Rattle.monitor.proofs.Follows.{accepts, residue-sights, shown-done, shown-breached}
 use Rattle.monitor.proofs.Follows.{shown-damaged}
 
 -- ---- a time u in a cell t, read as m
@@ -49,10 +51,7 @@ module _ {t : ℤ} {u : ℕ} (fits : mag t < 2 ^ 63) (is : t ≡ pos u) where
   not-below = subst (λ z. pos 0 ≤ℤ z) (sym (read! fits ∙ is)) (record { le = le→leb 0 u (omega arith) })
 
   time-read : {m : ℕ} → pos m ≡ seen t → m ≡ u
-  time-read {m = m} e = same (e ∙ read! fits ∙ is)
-    where
-      same : pos m ≡ pos u → m ≡ u
-      same h = cc
+  time-read e = pos-inj (e ∙ read! fits ∙ is)
 
 module _ {s places : List ℕ} {us : List ℤ} {sights : List ℕ} (o : Opened s places us sights) where
   abbrev ck : checked s ≡ accepted (agreementOf s) (mainsOf s)
@@ -79,7 +78,7 @@ module _ {s places : List ℕ} {us : List ℤ} {sights : List ℕ} (o : Opened s
         let same = sighted s (mainsOf s) ck now res us (o .isTable) (run .shows .is) sights (residue-sights o run) in
         record {
           given = w .given;
-          isFor = rw (tree-only {x = w .given} (ap (table.across cells.forecasting s n sights) (behind-head us)
+          isFor = rw (tree-only {x = w .given} (ap (table.across cells.forecasting s n sights) (part-from 8 us)
               ∙ ap₂ (λ k q. table.across cells.forecasting s k q (drop 8 us)) (run .count) same ∙ w .only)) at h;
           answers = f .0;
           ends = f .1;

@@ -21,10 +21,11 @@ use Rattle.csl.specs.Syntax.{Ty, number, truth, party}
 use Rattle.csl.specs.Decode.{tyOf, tysOf}
 use Rattle.csl.specs.Values.{Val, num, who, asNat, asTruth, valueOf, valuesOf}
 use Rattle.csl.specs.Table.{cellOf, cellsOf}
+use Rattle.laws.proofs.Options.{some-inj, none-some, from-bind}
 use Rattle.arith.proofs.Ints.{seen, read, index-asked, index-given}
 use Rattle.arith.proofs.Linear.{ints}
 use Rattle.readings.specs.Taking.{given}
-use Rattle.readings.proofs.Options.{some-inj, none-some, given-need, given-both, from-bind}
+use Rattle.readings.proofs.Options.{given-need, given-both}
 
 -- ---- the cell of a value is the number
 truth-cell : (n : ℕ) (v : Val) → asTruth n ≡ some v → cellOf v ≡ pos n

@@ -1,5 +1,5 @@
 -- Laws for a walk over a record's tree: what the code knows at a place, and what the tree is there.
-use mathlib.Core.Path.{_≡_, refl, sym, ap, _∙_}
+use mathlib.Core.Path.{_≡_, refl, sym, ap, subst, _∙_}
 use mathlib.Core.Bool.{Bool, true, false, cond}
 use mathlib.Core.List.{List}
 use Prim.Native.Nat.{ℕ, zero, suc, _+_, _-_, _<_, _≤_}
@@ -7,14 +7,15 @@ use native.Mathlib.Numerals.{sub-one}
 use native.Mathlib.Decide.{decLe}
 use native.Mathlib.Omega.{arith}
 use borrow.Author.Tests.{lt-ltb, le-ltb, ne-eqb}
-use lib.Dec.{eqb}
+use lib.Dec.{T, eqb}
 use lib.ListN.{length}
 use Rattle.csl.specs.Bytes.{byte, part, isRecord, kindNumber, recordEnd}
 use Rattle.csl.specs.Syntax.{Expr, badExpr, Clause, obligation, choice, if, join, badClause, Head}
 use Rattle.csl.specs.Decode.{ExprKind, numberKind, notKind, binaryKind, noExpr, leafKind, opOf, exprKind, exprBody}
 use Rattle.csl.specs.Decode.{exprHead, expr, ClauseKind, fulfilledKind, obligationKind, choiceKind, ifKind, joinKind}
 use Rattle.csl.specs.Decode.{instanceKind, noClause, joinOf, waitKind, clauseKind, waitAt, clauseBody, clauseHead}
-use Rattle.csl.specs.Decode.{clause}
+use Rattle.csl.specs.Decode.{clause, whole}
+use Rattle.laws.proofs.Bools.{by-test}
 use Rattle.records.specs.Index.{firstClause}
 
 -- ---- one step of the tree
@@ -59,6 +60,27 @@ module _ {A : Type 0} (f : Clause → A) (hs : List Head) (d p : ℕ) (s : List 
       → r ≡ f (clauseBody hs (expr (d - 1)) (clause hs (d - 1)) p s (clauseKind m)) → r ≡ f (clause hs d p s)
   unfolding clauseHead
   clause-at {m = m} n e h k q = q ∙ ap f (sym (clause-step hs d p s (clauseKind m) n (rw (sym e ∙ h, k))))
+
+-- a clause of which something holds that does not hold of a bad one has a depth left, and is a record
+module _ (P : Clause → Type 0) (bad : P badClause → ⊥) (hs : List Head) (d p : ℕ) (s : List ℕ) (h : P (clause hs d p s))
+  where
+    pub clause-deep : d ≡ 0 → ⊥
+    clause-deep e = bad (subst P (sym (clause-zero (λ c. c) hs d p s e refl)) h)
+
+    pub clause-record : isRecord s ≡ true
+    clause-record = by-test (isRecord s) (λ e. e) λ e.
+        absurd (bad (subst P (sym (clause-none (λ c. c) hs d p s clause-deep (sym e) refl refl)) h))
+
+bad-not-whole : T (whole badClause) → ⊥
+unfolding whole
+bad-not-whole t = t
+
+module _ (hs : List Head) (d p : ℕ) (s : List ℕ) (t : T (whole (clause hs d p s))) where
+  pub whole-deep : d ≡ 0 → ⊥
+  whole-deep = clause-deep (λ c. T (whole c)) bad-not-whole hs d p s t
+
+  pub whole-record : isRecord s ≡ true
+  whole-record = clause-record (λ c. T (whole c)) bad-not-whole hs d p s t
 
 -- ---- kinds by their numbers, as a `match` finds them
 pub kind-number : {k : ℕ} → k ≡ 32 → exprKind k ≡ numberKind

@@ -20,7 +20,8 @@ use Rattle.csl.specs.Syntax.{partyLit, variable, negation, binary, badExpr}
 use Rattle.csl.specs.Decode.{numberKind, truthKind, partyKind, variableKind, leafKind, arithmeticOf, opOf, exprBody}
 use Rattle.csl.specs.Decode.{exprKind, exprHead, noExpr, ofLength, expr, tyOf, tysOf}
 use Rattle.csl.specs.Typing.{typeExpr, sameTy, operand, result}
-use Rattle.arith.proofs.Ints.{by, some-bits, seen, read! }
+use Rattle.laws.proofs.Bools.{by}
+use Rattle.arith.proofs.Ints.{some-bits, seen, read! }
 use Rattle.arith.proofs.Linear.{ints, parts, up-pos, dn-pos, up-neg, dn-neg}
 use Rattle.arith.proofs.Bytes.{whole-from}
 use Rattle.records.proofs.Trees.{kind-leaf, kind-not, kind-binary, kind-no-expr-low, kind-no-expr-high}

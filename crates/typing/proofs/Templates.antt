@@ -16,29 +16,25 @@ use Rattle.csl.specs.Decode.{tysOf, templatesPlace, clause, pieces, piecesEnd, 
 use Rattle.csl.specs.Decode.{templateHead, mainPlace, mainOf, templatePieces, agreementOf}
 use Rattle.csl.specs.Typing.{Names, namesOf, isConstant, typeClause, typeTemplate, typeTemplates, headsIn}
 use Rattle.csl.specs.Typing as typing
+use Rattle.laws.proofs.Clash.{impossible}
 use Rattle.arith.proofs.Lists.{length-part, part-part}
 use Rattle.arith.proofs.Bytes.{record-end-within}
 use Rattle.records.specs.Index.{Indexed, headAt, pieceAt, templatePlace}
-use Rattle.records.proofs.Index.{heads-in, template-facts, few-params, pieces-more}
+use Rattle.records.proofs.Index.{heads-in, few-params, pieces-more}
 use Rattle.parties.specs.Masks.{maskOf}
 use Rattle.parties.proofs.Masks as masks
 use Rattle.typing.specs.Clauses.{typedAs, holds, pieceOf, bodyTyped, templateTyped, templatesTyped}
 use Rattle.typing.specs.declared.Typed.{Typed}
 use Rattle.typing.specs.declared.Typed.the-variants.{Parties, Untyped}
 use Rattle.typing.proofs.Sights.{namesIn, parties-is}
-use Rattle.typing.proofs.Instances.{values-part, untyped}
+use Rattle.typing.proofs.Instances.{template-long, values-part, untyped}
 use Rattle.typing.proofs.Typings.{typed-place, valid}
 
 -- ---- the body of template k, as code cuts its bytes out of the agreement
 module _ {places g : List ℕ} (x : Indexed places g) {k a n e : ℕ} (l : k < byte g 10) (p : a ≡ templatePlace g k)
     (q : n ≡ byte (pieceAt g (templatePlace g k)) 4) (r : e ≡ recordEnd g a) where
-  body-long : templatePlace g k + 8 + byte (pieceAt g (templatePlace g k)) 4 ≤ recordEnd g (templatePlace g k)
-  body-long =
-      let t = templatePlace g k in
-      omega (arith, template-facts x k l .long, length-part g t (recordEnd g t) (record-end-within g t))
-
   pub body-start : a + 8 + n ≤ e
-  body-start = rw (r, q, p) body-long
+  body-start = rw (r, q, p) (template-long x l p q)
 
   body-part : part (pieceAt g (templatePlace g k)) (8 + byte (pieceAt g (templatePlace g k)) 4)
       (length (pieceAt g (templatePlace g k))) ≡ part g (a + 8 + n) e
@@ -46,7 +42,7 @@ module _ {places g : List ℕ} (x : Indexed places g) {k a n e : ℕ} (l : k < b
       let t = templatePlace g k in
       let z = recordEnd g t in
       let b = byte (pieceAt g t) 4 in
-      let u : t + (z - t) ≡ z = omega (arith, body-long) in
+      let u : t + (z - t) ≡ z = omega (arith, template-long x l p q) in
       let v : t + (8 + b) ≡ t + 8 + b = omega arith in
       rw (r, q, p) (ap (λ (m : ℕ). part (pieceAt g t) (8 + b) m) (length-part g t z (record-end-within g t))
       ∙ part-part g t z (8 + b) (z - t) (omega arith) ∙ rw (u, v))
@@ -90,13 +86,13 @@ holds-is false = refl
 from-typed : {C : Type 0} (o : Option (List ℕ)) {t : Typed} {m : ℕ} → t ≡ typedAs o → t ≡ Parties m
     → ((ps : List ℕ) → o ≡ some ps → m ≡ maskOf ps → C) → C
 unfolding typedAs
-from-typed none e f c = let z : _≡_ {A = ℕ} 0 1 = cc in absurd (omega arith)
+from-typed none e f c = impossible cc
 from-typed (some ps) e f c = c ps refl (cc)
 
 from-untyped : (o : Option (List ℕ)) {t : Typed} → t ≡ typedAs o → t ≡ Untyped → o ≡ none
 unfolding typedAs
 from-untyped none e f = refl
-from-untyped (some ps) e f = let z : _≡_ {A = ℕ} 0 1 = cc in absurd (omega arith)
+from-untyped (some ps) e f = impossible cc
 
 module _ {places g : List ℕ} (x : Indexed places g) (k : ℕ) {d : ℕ} (l : k < byte g 10) (p : d ≡ declaredAt g k) where
   module _ {ps : ℕ} {b : Bool} (h : ps ≡ byte g 8) (q : b ≡ all (λ p. ltb p ps) (members d)) where

@@ -1,13 +1,13 @@
 -- Cells read as numbers, parties and values.
 use mathlib.Core.Path.{_≡_, refl, sym, ap, _∙_}
-use mathlib.Core.Bool.{Bool, true, false, not, _&&_, and-true}
+use mathlib.Core.Bool.{Bool, true, false, not, _&&_, and-true, and-assoc}
 use mathlib.Core.List.{List, [], _∷_, _++_, append-nil, append-assoc}
 use mathlib.Core.Option.{Option, none, some}
 use Prim.Native.Nat.{ℕ, zero, suc, _+_, _-_, _^_, _≤_, _<_}
 use native.Mathlib.Decide.{decLe}
 use native.Mathlib.Numerals.{add-one}
 use native.Mathlib.Omega.{arith}
-use borrow.Author.Tests.{lt-ltb, le-ltb, le-leb, lt-leb, ne-eqb, ltb-true}
+use borrow.Author.Tests.{lt-ltb, le-ltb, le-leb, lt-leb, ne-eqb, ltb-true, not-false, not-true}
 use lib.Dec.{T, leb, ltb, eqb}
 use lib.IntN.{ℤ, pos, negsuc, natAbs}
 use lib.ListN.{length, getD, take, drop, set}
@@ -25,15 +25,6 @@ use Rattle.csl.specs.Decode.{tyOf, tysOf}
 use Rattle.csl.specs.Values.{asNat}
 use Rattle.csl.specs.Table.{isZero}
 use Rattle.units.specs.Cells.{numberBelow, partiesIn, valueOk, valuesOk}
-
--- ---- a test turned round
-pub yes-true : (b : Bool) → not b ≡ false → b ≡ true
-yes-true true e = refl
-yes-true false e = sym e
-
-pub no-false : (b : Bool) → not b ≡ true → b ≡ false
-no-false true e = sym e
-no-false false e = refl
 
 -- ---- a number below end
 pub below-negative : (end : ℕ) (z : ℤ) → ltZ z (pos 0) ≡ true → (end ≡ numberBelow end z) × (end ≤ end)
@@ -80,10 +71,6 @@ or-none : (a b : ℕ) → eqb (bitOr a b) 0 ≡ (eqb a 0 && eqb b 0)
 or-none zero b = ap (λ (n : ℕ). eqb n 0) (or-zero-l b)
 or-none (suc a) b = rw (ne-eqb (suc a) 0 (λ e. omega arith))
     (ne-eqb (bitOr (suc a) b) 0 (λ e. omega (arith, or-add-and (suc a) b, and-le-r (suc a) b)))
-
-and-assoc : (a b c : Bool) → ((a && b) && c) ≡ (a && (b && c))
-and-assoc true b c = refl
-and-assoc false b c = refl
 
 module _ (zs : List ℤ) where
   abbrev From : ℕ → ℕ → Type 0
@@ -226,10 +213,10 @@ module _ (ps : ℕ) (ts : List ℕ) (zs : List ℤ) (room : length ts ≤ length
     one-more = h .1 ∙ rw (drop-cons ts i 0 l, drop-cons zs i (pos 0) (omega arith), add-one i, e)
 
     pub values-more : not b ≡ false → ValuesFrom (i + 1)
-    values-more g = (omega arith, one-more ∙ rw (yes-true b g))
+    values-more g = (omega arith, one-more ∙ rw (not-false b g))
 
     pub values-not : not b ≡ true → false ≡ valuesOk ps (tysOf ts) zs
-    values-not g = sym (one-more ∙ rw (no-false b g))
+    values-not g = sym (one-more ∙ rw (not-true b g))
 
   pub values-last : {i : ℕ} → length ts ≤ i → ValuesFrom i → true ≡ valuesOk ps (tysOf ts) zs
   unfolding valuesOk tysOf

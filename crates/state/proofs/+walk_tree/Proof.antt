@@ -11,11 +11,12 @@ use Rattle.arith.proofs.Ints.{read! }
 use Rattle.arith.proofs.Lists.{length-part}
 use Rattle.csl.specs.Decode.{joinOf}
 use Rattle.csl.specs.Table.{joinNumber}
+use Rattle.laws.proofs.Lists.{part-from}
 use Rattle.units.specs.Cells.{numberBelow}
 use Rattle.state.specs.declared.Walk.the-variants.{Damaged}
 use Rattle.state.specs.Tree.{JoinsFirst, TreeAs, WalkIs}
 use Rattle.state.proofs.Trees.{no-units, no-kind, no-sort, sort-number, join-number, first-is, joins-cells}
-use Rattle.state.proofs.Trees.{joins-first, left-damaged, right-damaged, tree-of, tree-bits, part-from, lent}
+use Rattle.state.proofs.Trees.{joins-first, left-damaged, right-damaged, tree-of, tree-bits, lent}
 use Rattle.state.proofs.Trees.{lent-length, lent-room, sides-read}
 use borrow.Fn.Kinds.{In}
 use borrow.Fn.PlainCycle.{Measures, is, falls, and}

@@ -4,8 +4,8 @@ use mathlib.Core.List.{_++_}
 use Prim.Native.Nat.{_+_, _-_, _≤_}
 use native.Mathlib.Omega.{arith}
 use lib.ListN.{length, take, length-set}
-use Rattle.typing.proofs.Sights.{append-more, append-none, append-done}
 use borrow.Author.Needs.{needs}
+use Rattle.laws.proofs.Lists.{append-more, append-none, append-done}
 use Rattle.typing.proofs.append.Statement.{statement}
 use Rattle.typing.proofs.append.Tie as tie
 
