@@ -150,3 +150,7 @@ pub ruleset ints = (
   to-eq,
   seen-parts,
 )
+
+-- ---- a number that the code found not below 0
+pub not-negative : {z : ℤ} → SFits w64 z → ltZ (seen z) (pos 0) ≡ false → pos 0 ≤ℤ z
+not-negative f h = omega (ints, rw (read f) at h)

@@ -42,7 +42,8 @@ use Rattle.bridge.proofs.Shows.{Shows}
 use Rattle.bridge.proofs.Reduce.{activate-shows}
 use Rattle.bridge.proofs.Across.{FoundIs, follow-across, forecast-across, sightsOf}
 use Rattle.bridge.proofs.Refusals.{answer, forecast-on}
-use Rattle.bridge.proofs.Tables.{reducedTable, table-shows, tooMany-shows, unitsIn}
+use Rattle.cells.specs.Tables.{reducedTable}
+use Rattle.bridge.proofs.Tables.{table-shows, tooMany-shows, unitsIn}
 
 -- "over 128 units it is 11 and nothing changes, otherwise 0"
 unfoldable pub keptCells : ℕ → List ℤ → Reduced → Answer

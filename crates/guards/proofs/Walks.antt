@@ -72,8 +72,8 @@ module _ (hs : List Head) (d p : ℕ) (s : List ℕ) (w : whole (clause hs d p s
         × (whole (clause hs (d - 1) (p + z) (part s z (length s))) ≡ true)
     two-whole {c} {z} l u i j =
         sided-whole (expr (d - 1)) p s m _ _
-        (clause-two whole hs d p s (whole-deep hs d p s (true→T w)) (sym (whole-record hs d p s (true→T w))) refl k l u i j
-        refl ∙ w)
+        (clause-two whole hs d p s (whole-deep hs d p s (true→T w)) (sym (whole-record hs d p s (true→T w))) refl k l u
+        i j refl ∙ w)
 
 module _ {d : ℕ} {s : List ℕ} (x : Formed d s) {m c : ℕ} (k : m ≡ kindNumber s) (i : c ≡ firstClause m s) where
   pub formed-then : m ≡ 17 → Formed (d - 1) (part s c (length s))

@@ -8,3 +8,4 @@ pub mod RecordEnds
 pub mod Cells
 pub mod Residues
 pub mod Types
+pub mod Templates

@@ -21,12 +21,10 @@ use Rattle.records.proofs.Index.{templates-length}
 use Rattle.cells.specs.Reduce as cells
 use Rattle.cells.specs.Across.{natOf}
 use Rattle.arith.proofs.Lists.{length-part}
-use Rattle.bridge.proofs.Tables as bridge
 use Rattle.bridge.proofs.Tables.{unitsIn}
 use Rattle.bridge.proofs.Refusals.{answer, start-refused, start-six}
 use Rattle.bridge.proofs.Entries.{keptCells, start-reduce}
 use Rattle.rules.specs.Reduces.{Is}
-use Rattle.rules.specs.Units as rules
 use Rattle.rules.specs.Units.{Settles, unitsOf, bitsIn}
 use Rattle.rules.specs.Leads.{Ready, Fits, reduceAt, reduceBelow}
 use Rattle.rules.specs.declared.Event.{Event}
@@ -113,12 +111,6 @@ module _ (out : List ℤ) where
   few-units (cells.running cs) (Breach t b) i h = absurd i
   few-units (cells.running cs) (Running n) i h = le-ltb 128 (length cs / 24) (within (i .units) (i .count) (i .size) h)
 
-same-table : (now : ℕ) (x : cells.Reduced) → rules.reducedTable now x ≡ bridge.reducedTable now x
-unfolding rules.reducedTable bridge.reducedTable
-same-table now cells.done = refl
-same-table now (cells.breach t b) = refl
-same-table now (cells.running cs) = refl
-
 module _ {now : ℕ} {r : Reduced} {out before after : List ℤ} {q : Bool} (settles : Settles now r out before after q)
     (x : cells.Reduced) (i : Is x r out) where
   pub kept-no : not q ≡ true → answer 11 after ≡ keptCells now before x
@@ -134,7 +126,6 @@ module _ {now : ℕ} {r : Reduced} {out before after : List ℤ} {q : Bool} (set
       rw (
         few-units out x r i (leb-true (unitsOf r) 128 (sym (settles .fits) ∙ f)),
         settles .wrote f x i,
-        same-table now x,
       ) refl
 
   -- so few units as a table has are written

@@ -1,25 +1,25 @@
 -- Laws for `verify`: what each test says of csl's check.
-use mathlib.Core.Path.{_≡_, refl, sym, _∙_, subst}
+use mathlib.Core.Path.{_≡_, refl, sym, _∙_}
 use mathlib.Core.Bool.{Bool, true, false, not}
 use mathlib.Core.List.{List}
 use mathlib.Core.Option.{Option, none, some}
-use Prim.Native.Nat.{ℕ, zero, suc, _+_, _*_, _<_}
+use Prim.Native.Nat.{ℕ}
 use native.Mathlib.Omega.{arith}
 use borrow.Author.Tests.{not-true, not-false}
-use lib.Dec.{T}
-use Rattle.csl.specs.Parties.{member, bit, bitsFrom, bitsOf}
+use Rattle.csl.specs.Parties.{bitsOf}
 use Rattle.csl.specs.Decode.{sized, wellFormed, agreementOf, decode}
 use Rattle.csl.specs.Typing.{typed}
 use Rattle.csl.specs.Guards.{guardedFrom}
 use Rattle.csl.specs.Widths.{narrowAll}
 use Rattle.csl.specs.Check as csl
 use Rattle.csl.specs.Check.{checked, checkTyped, checkDecoded, checkOf, refused, accepted}
-use Rattle.laws.proofs.Bools.{elim-false, elim-true}
+use Rattle.laws.proofs.Bools.{elim-false, elim-true, true→T}
 use Rattle.laws.proofs.Clash.{impossible}
-use Rattle.soundness.proofs.Members.{In, member→in}
 use Rattle.soundness.proofs.Checked.{passed, fair}
+use Rattle.soundness.proofs.Members.{member→in}
 use Rattle.soundness.proofs.Runs.{main-in}
 use Rattle.parties.specs.Masks.{maskOf}
+use Rattle.parties.proofs.Masks.{mask-bits}
 use Rattle.records.specs.Index.{Indexed}
 use Rattle.typing.specs.declared.Typed.{Typed}
 use Rattle.typing.specs.declared.Typed.the-variants.{Parties, Untyped}
@@ -40,23 +40,11 @@ typed-mask none p e = impossible cc
 typed-mask (some ps) p e = (ps, refl, cc)
 
 -- ---- the main clause has no party parameters: its mask is its parties' bits
-no-bits : (k i : ℕ) (ps : List ℕ) → ((q : ℕ) → In q ps → q < i) → bitsFrom k i ps ≡ 0
-unfolding bitsFrom bit
-no-bits zero i ps h = refl
-no-bits (suc k) i ps h = go (member i ps) refl (no-bits k (suc i) ps (λ q m. omega (arith, h q m)))
-  where
-    go : (b : Bool) → member i ps ≡ b → bitsFrom k (suc i) ps ≡ 0 → bit b + 2 * bitsFrom k (suc i) ps ≡ 0
-    go true e r = absurd (omega (arith, h i (member→in i ps (subst T (sym e) tt))))
-    go false e r = omega arith
-
-pub mask-bits : (ps : List ℕ) → ((q : ℕ) → In q ps → q < 16) → maskOf ps ≡ bitsOf ps
-unfolding maskOf
-mask-bits ps h = omega (arith, no-bits 4 128 ps (λ q m. omega (arith, h q m)))
-
 pub main-bits : (s mains : List ℕ) → checked s ≡ accepted (agreementOf s) mains → maskOf mains ≡ bitsOf mains
 main-bits s mains e =
     let f = fair s (agreementOf s) mains (passed s (agreementOf s) mains e) in
-    mask-bits mains (λ q m. omega (arith, main-in (agreementOf s) mains f q m, f .few))
+    mask-bits mains (λ q m. omega
+    (arith, main-in (agreementOf s) mains f q (member→in q mains (true→T m)), f .few))
 
 -- ---- a definition by a test, or by whether something is there
 module _ {A B : Type 0} (x : A) (f : B → A) where

@@ -34,7 +34,7 @@ use Rattle.cells.specs.Reduce as cells
 use Rattle.cells.specs.Across as table
 use Rattle.places.specs.Locate.{Accepted, mainsOf, mainsIn}
 use Rattle.bridge.proofs.Across.{follow-across}
-use Rattle.bridge.proofs.Tables as bridge
+use Rattle.cells.specs.Tables.{reducedTable}
 use Rattle.bridge.proofs.Refusals.{answer, reading-refused, reading-six, reading-seven}
 use Rattle.bridge.proofs.Entries.{keptCells, reading-eight, reading-nine, reading-ten, reading-done, reading-breach}
 use Rattle.bridge.proofs.Entries.{reading-running}
@@ -92,8 +92,8 @@ pub prefix-length : {n : ℕ} (values : List ℤ) → n ≤ 4 → length values 
 prefix-length {n = n} values h e = omega (arith, length-take n values)
 
 -- a fulfilled run's last reading time moves
-moved : (us : List ℤ) (now t : ℕ) → us ≡ tableOf (runAt now done) → set us 1 (pos t) ≡ bridge.reducedTable t cells.done
-unfolding tableOf padded headCells natCells bridge.reducedTable
+moved : (us : List ℤ) (now t : ℕ) → us ≡ tableOf (runAt now done) → set us 1 (pos t) ≡ reducedTable t cells.done
+unfolding tableOf padded headCells natCells reducedTable
 moved us now t e = rw e refl
 
 module _ {s places : List ℕ} {us : List ℤ} {sights : List ℕ} (o : Opened s places us sights) where

@@ -258,3 +258,15 @@ module _ (n : Names) (b : ℕ) {r : ℕ} (m : BlameMask (n .parties) (n .params)
   pub blame-allowed : (r ≡ 0 → ⊥) → blameOk n b ≡ true
   unfolding blameOk
   blame-allowed e = not-false (mayBlame (n .parties) (n .params) b) (sym (m .refused) ∙ ne-eqb r 0 e)
+
+-- parties alone have no bits of party parameters
+pub mask-bits : (ps : List ℕ) → ((q : ℕ) → member q ps ≡ true → q < 16) → maskOf ps ≡ bitsOf ps
+unfolding maskOf
+mask-bits ps f =
+    let e : bitsFrom 4 128 ps ≡ 0 = bits-same 4 128 ps [] (λ j l u. no-member j l (member j ps) refl)
+    ∙ bits-nil 4 128 in
+    omega (arith, e)
+  where
+    no-member : (j : ℕ) → 128 ≤ j → (b : Bool) → member j ps ≡ b → b ≡ member j []
+    no-member j l true e = absurd (omega (arith, f j e))
+    no-member j l false e = unfold member in refl

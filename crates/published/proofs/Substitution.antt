@@ -133,15 +133,15 @@ no-blames [] = refl
 no-blames (b ∷ bs) = ap₂ (λ x xs. x ∷ xs) (no-blame b) (no-blames bs)
 
 -- ---- clauses
+abbrev waits : Wait → Expr → Expr → Expr → Wait
+waits w c a i = record { place = w .place; wanted = w .wanted; condition = c; after = a; within = i }
+
 wait-twice : (θ₁ θ₂ : List Val) (w : Wait) → putWait θ₂ (putWait θ₁ w) ≡ putWait (θ₁ ++ θ₂) w
 wait-twice θ₁ θ₂ w =
-    ap (λ e. waits e (putExpr θ₂ (putExpr θ₁ (w .after))) (putExpr θ₂ (putExpr θ₁ (w .within))))
+    ap (λ e. waits w e (putExpr θ₂ (putExpr θ₁ (w .after))) (putExpr θ₂ (putExpr θ₁ (w .within))))
     (put-twice-expr θ₁ θ₂ (w .condition))
-    ∙ ap₂ (waits (putExpr (θ₁ ++ θ₂) (w .condition))) (put-twice-expr θ₁ θ₂ (w .after))
+    ∙ ap₂ (waits w (putExpr (θ₁ ++ θ₂) (w .condition))) (put-twice-expr θ₁ θ₂ (w .after))
     (put-twice-expr θ₁ θ₂ (w .within))
-  where
-    waits : Expr → Expr → Expr → Wait
-    waits c a i = record { place = w .place; wanted = w .wanted; condition = c; after = a; within = i }
 
 -- c[θ₁]⟨ps⟩[θ₂] is c[θ₁ ++ θ₂]⟨ps⟩
 put-twice : (θ₁ θ₂ : List Val) (ps : List ℕ) (c : Clause) → put θ₂ [] (put θ₁ ps c) ≡ put (θ₁ ++ θ₂) ps c
@@ -175,11 +175,8 @@ nothing-exprs [] = refl
 nothing-exprs (e ∷ es) = ap₂ (λ x xs. x ∷ xs) (nothing-expr e) (nothing-exprs es)
 
 nothing-wait : (w : Wait) → putWait [] w ≡ w
-nothing-wait w = ap (λ e. waits e (putExpr [] (w .after)) (putExpr [] (w .within))) (nothing-expr (w .condition))
-    ∙ ap₂ (waits (w .condition)) (nothing-expr (w .after)) (nothing-expr (w .within))
-  where
-    waits : Expr → Expr → Expr → Wait
-    waits c a i = record { place = w .place; wanted = w .wanted; condition = c; after = a; within = i }
+nothing-wait w = ap (λ e. waits w e (putExpr [] (w .after)) (putExpr [] (w .within))) (nothing-expr (w .condition))
+    ∙ ap₂ (waits w (w .condition)) (nothing-expr (w .after)) (nothing-expr (w .within))
 
 pub put-nothing : (c : Clause) → put [] [] c ≡ c
 unfolding put

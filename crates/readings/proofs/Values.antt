@@ -11,41 +11,22 @@ use lib.Dec.{T, ltb, eqb}
 use lib.IntN.{ℤ, pos, negsuc, natAbs}
 use lib.ListN.{length, getD, drop, drop-of-length-le}
 use lib.Seq.{drop-cons}
-use lib.Signed.{ltZ, leZ, nonNeg, _≤ℤ_}
+use lib.Signed.{ltZ, leZ, nonNeg}
 use mir.Syntax.{w64}
 use mir.Val.{Fits, SFits}
-use Rattle.csl.specs.Lists.{_>>=_, need}
+use Rattle.csl.specs.Lists.{_>>=_}
 use Rattle.csl.specs.Numbers.{inRange}
 use Rattle.csl.specs.Bytes.{byte}
 use Rattle.csl.specs.Syntax.{Ty, number, truth, party}
 use Rattle.csl.specs.Decode.{tyOf, tysOf}
 use Rattle.csl.specs.Values.{Val, num, who, asNat, asTruth, valueOf, valuesOf}
-use Rattle.csl.specs.Table.{cellOf, cellsOf}
+use Rattle.csl.specs.Table.{cellsOf}
 use Rattle.laws.proofs.Options.{some-inj, none-some, from-bind}
+use Rattle.laws.proofs.Cells.{value-is}
 use Rattle.arith.proofs.Ints.{seen, read, index-asked, index-given}
-use Rattle.arith.proofs.Linear.{ints}
+use Rattle.arith.proofs.Linear.{not-negative}
 use Rattle.readings.specs.Taking.{given}
 use Rattle.readings.proofs.Options.{given-need, given-both}
-
--- ---- the cell of a value is the number
-truth-cell : (n : ℕ) (v : Val) → asTruth n ≡ some v → cellOf v ≡ pos n
-unfolding asTruth cellOf
-truth-cell zero v e = ap cellOf (sym (some-inj e))
-truth-cell (suc zero) v e = ap cellOf (sym (some-inj e))
-truth-cell (suc (suc n)) v e = none-some e
-
-ranged-cell : (b : Bool) (u v : Val) → need b >>= (λ _. some u) ≡ some v → cellOf v ≡ cellOf u
-unfolding need _>>=_
-ranged-cell true u v e = ap cellOf (sym (some-inj e))
-ranged-cell false u v e = none-some e
-
-pub value-cell : (ps : ℕ) (t : Ty) (z : ℤ) (v : Val) → valueOf ps t z ≡ some v → cellOf v ≡ z
-unfolding valueOf asNat _>>=_ cellOf
-value-cell ps number z v e = ranged-cell (inRange z) (num z) v e
-value-cell ps truth (pos n) v e = truth-cell n v e
-value-cell ps truth (negsuc n) v e = none-some e
-value-cell ps party (pos n) v e = ranged-cell (ltb n ps) (who n) v e
-value-cell ps party (negsuc n) v e = none-some e
 
 -- ---- which numbers fit
 module _ (ps : ℕ) where
@@ -103,20 +84,17 @@ module _ (ps ty : ℕ) (z : ℤ) (f : SFits w64 z) where
         below false (negsuc n) h = refl
 
     module _ (h : ltZ (seen z) (pos 0) ≡ false) where
-      from-nought : pos 0 ≤ℤ z
-      from-nought = omega (ints, rw (read f) at h)
-
       pub cast-asked : T (nonNeg (seen z)) × Fits w64 (natAbs (seen z))
-      cast-asked = index-asked f from-nought
+      cast-asked = index-asked f (not-negative f h)
 
       pub truth-fits : ty ≡ 2 → ltb (natAbs (seen z)) 2 ≡ given (valueOf ps (tyOf ty) z)
       unfolding tyOf
       truth-fits e = rw e (truth-given ps (natAbs (seen z))
-          ∙ ap (λ x. given (valueOf ps truth x)) (index-given f from-nought))
+          ∙ ap (λ x. given (valueOf ps truth x)) (index-given f (not-negative f h)))
 
       pub party-fits : (ty ≡ 2 → ⊥) → ltb (natAbs (seen z)) ps ≡ given (valueOf ps (tyOf ty) z)
       party-fits e = rw (not-number ty n, ne-eqb ty 2 e)
-          (party-given ps (natAbs (seen z)) ∙ ap (λ x. given (valueOf ps party x)) (index-given f from-nought))
+          (party-given ps (natAbs (seen z)) ∙ ap (λ x. given (valueOf ps party x)) (index-given f (not-negative f h)))
 
 -- ---- values of the types, one for each
 abbrev pub AllFit : ℕ → List ℕ → List ℤ → Bool
@@ -155,4 +133,4 @@ values-cells ps (t ∷ ts) (z ∷ zs) r l e =
     from-bind (valueOf ps t z) _ r e λ v a₁ b₁.
     from-bind (valuesOf ps ts zs) _ r b₁ λ q a₂ b₂.
     let k = values-cells ps ts zs q (omega arith) a₂ in
-    rw (← some-inj b₂) (rw (value-cell ps t z v a₁, ← k .0) refl, ap suc (k .1))
+    rw (← some-inj b₂) (rw (← value-is ps t z v a₁, ← k .0) refl, ap suc (k .1))

@@ -21,6 +21,7 @@ use Rattle.csl.specs.Decode.{readingType, templateOk, templateHead}
 use Rattle.csl.specs.Typing.{headsIn}
 use Rattle.laws.proofs.Bools.{both-true, T→true}
 use Rattle.laws.proofs.RecordEnds.{record-end-from, wait-within, wait-from, pieces-within}
+use Rattle.laws.proofs.Templates.{params-few}
 use Rattle.records.specs.Index.{Indexed, readingPlace, templatePlace, pieceAt, headAt, firstClause}
 
 -- ---- where records end
@@ -180,10 +181,6 @@ unfolding templateHead tysOf
 values-length q t =
     let h = template-holds q t in
     length-map (part q 5 (5 + byte q 4)) tyOf ∙ omega (arith, length-part q 5 (5 + byte q 4) (omega (arith, h .long)))
-
-pub params-few : (q : List ℕ) → T (templateOk q) → templateHead q .params ≤ 4
-unfolding templateHead
-params-few q t = template-holds q t .fewParams
 
 pub params-is : (q : List ℕ) → templateHead q .params ≡ byte q (5 + byte q 4)
 unfolding templateHead

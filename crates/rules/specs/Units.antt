@@ -1,15 +1,14 @@
 -- What is asked of the units of a table, and what a run's table becomes.
 use mathlib.Core.Path.{_≡_}
 use mathlib.Core.Bool.{Bool, true, false}
-use mathlib.Core.List.{List, _++_}
-use Prim.Native.Nat.{ℕ, _*_, _/_, _≤_}
+use mathlib.Core.List.{List}
+use Prim.Native.Nat.{ℕ, _*_, _≤_}
 use lib.Dec.{leb}
 use lib.IntN.{ℤ, pos}
 use lib.ListN.{length, getD}
-use Rattle.csl.specs.Table.{padded, headCells, tableLength}
-use Rattle.cells.specs.Reduce.{done, breach, running}
 use Rattle.cells.specs.Reduce as cells
 use Rattle.cells.specs.Across.{natOf}
+unfoldable pub use Rattle.cells.specs.Tables.{reducedTable}
 use Rattle.rules.specs.Reduces.{Is}
 use Rattle.rules.specs.declared.Reduced.{Reduced}
 use Rattle.rules.specs.declared.Reduced.the-variants.{Done, Breach, Running}
@@ -40,11 +39,6 @@ pub record Waiting (size params values : ℕ) (unit : List ℤ) : Type 0 where
   pub early : natOf (getD unit 2 (pos 0)) ≤ 4_294_967_296
 
 -- ---- a run's table after a reading
-unfoldable pub reducedTable : ℕ → cells.Reduced → List ℤ
-reducedTable now done = padded tableLength (headCells 2 now 0 0 0)
-reducedTable now (breach t b) = padded tableLength (headCells 3 now t b 0)
-reducedTable now (running cs) = padded tableLength (headCells 1 now 0 0 (length cs / 24) ++ cs)
-
 -- `after` is the table of what r answers for, where its units fit; where they do not nothing is written
 pub record Settles (now : ℕ) (r : Reduced) (out before after : List ℤ) (settled : Bool) : Type 0 where
   pub fits : settled ≡ leb (unitsOf r) 128

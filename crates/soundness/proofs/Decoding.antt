@@ -15,8 +15,8 @@ use Rattle.csl.specs.Bytes.{byte, isRecord, kindNumber, le16, le32, part, recor
 use Rattle.csl.specs.Syntax.{Agreement, Clause, Expr, Head, Template, badClause, fulfilled}
 use Rattle.csl.specs.Decode.{ClauseKind, Piece, agreementOf, argumentsEnd, between, bodyOf, bodyPlace, choiceKind}
 use Rattle.csl.specs.Decode.{clause, clauseBody, clauseHead, clauseKind, countsOk, decode, expr, fulfilledKind}
-use Rattle.csl.specs.Decode.{headsOf, ifKind, instanceKind, instanceOf, isType, joinKind, listed, mainOf, mainPlace}
-use Rattle.csl.specs.Decode.{noClause, obligationKind, pieces, piecesEnd, readingPieces, readingTypeOk, templateHead}
+use Rattle.csl.specs.Decode.{headsOf, ifKind, instanceKind, instanceOf, joinKind, listed, mainOf, mainPlace}
+use Rattle.csl.specs.Decode.{noClause, obligationKind, pieces, piecesEnd, readingPieces, readingTypeOk}
 use Rattle.csl.specs.Decode.{templateOf, templateOk, templatePieces, templatesPlace, waitAt, waitEnd, wellFormed}
 use Rattle.csl.specs.Decode.{whole}
 use Rattle.laws.proofs.RecordEnds.{record-end-within, record-end-from, wait-within, wait-from, record-end-after}
@@ -25,6 +25,7 @@ use Rattle.laws.proofs.Lists.{length-part}
 use Rattle.laws.proofs.Clash.{impossible}
 use Rattle.laws.proofs.Bools.{T-left, T-right, both-true}
 use Rattle.laws.proofs.Options.{some-inj}
+use Rattle.laws.proofs.Templates.{params-few}
 use Rattle.soundness.proofs.Places.{Ranged, ranged-le, ranged-wider}
 
 -- ---- where a record ends
@@ -144,12 +145,6 @@ unfolding TRanged
 tranged-le lo hi [] h = h
 tranged-le lo hi (t ∷ ts) h = omega (arith, ranged-le lo (h .0) (t .body) (h .1), tranged-le (h .0) hi ts (h .2))
 
-head-params : (s : List ℕ) → T (templateOk s) → (templateHead s) .params ≤ 4
-unfolding templateOk templateHead
-head-params s t = leb→le (byte s (5 + byte s 4)) 4
-    (T-right (isRecord s && eqb (kindNumber s) 3 && leb (byte s 4) 8 && leb (bodyPlace s) (length s)
-    && all isType (part s 5 (5 + byte s 4))) _ t)
-
 templates-ranged : (hs : List Head) (s : List ℕ) (n i : ℕ) → T (all (λ q. templateOk (q .bytes)) (pieces n s i))
     → i ≤ length s → TRanged i (piecesEnd n s i) (map (templateOf hs) (pieces n s i))
 unfolding pieces piecesEnd all templateOf TRanged
@@ -161,7 +156,7 @@ templates-ranged hs s (suc n) i t l =
           (arith, record-end-from s i, length-part s i (recordEnd s i) (record-end-within s i))) (body-within hs q),
       templates-ranged hs s n (recordEnd s i) (T-right (templateOk (part s i (recordEnd s i))) _ t)
           (record-end-within s i),
-      head-params (part s i (recordEnd s i)) (T-left (templateOk (part s i (recordEnd s i))) _ t),
+      params-few (part s i (recordEnd s i)) (T-left (templateOk (part s i (recordEnd s i))) _ t),
     )
 
 -- ---- what decoding gives

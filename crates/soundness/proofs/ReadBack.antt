@@ -10,23 +10,22 @@ use lib.Dec.{T, eqb, eqb→eq, leb, leb→le, ltb, ltb→lt}
 use lib.IntN.{negsuc, pos, ℤ}
 use lib.ListN.{length, length-append, replicate}
 use Rattle.csl.specs.Lists.{_>>=_, all, at, need, split}
-use Rattle.csl.specs.Numbers.{inRange}
 use Rattle.csl.specs.Parties.{bit, bitsFrom, bitsOf, member, members, subset}
 use Rattle.csl.specs.Syntax.{Agreement, Clause, Join, Ty, and, badClause, choice, fulfilled, if, instance, join}
-use Rattle.csl.specs.Syntax.{Template, number, obligation, or, party, truth}
+use Rattle.csl.specs.Syntax.{Template, obligation, or}
 use Rattle.csl.specs.Typing.{joinOk, namesOf, typeClause, typed}
 use Rattle.csl.specs.Values.{Val, asNat, valueOf, valuesOf}
 use Rattle.csl.specs.Outcomes.{Outcome, Residue, Sort, aChoice, anObligation, both, unit, units}
 use Rattle.csl.specs.Places.{Found, clauseAt, find, findIn}
 use Rattle.csl.specs.Run.{Run}
-use Rattle.csl.specs.Table.{HeadNumbers, UnitSort, addUnit, asNats, cellOf, cellsOf, headCells, headNumbers, isSort}
+use Rattle.csl.specs.Table.{HeadNumbers, UnitSort, addUnit, asNats, cellsOf, headCells, headNumbers, isSort}
 use Rattle.csl.specs.Table.{isZero, joinCells, joinNumber, joining, natCells, padded, push, readState, residueCells}
 use Rattle.csl.specs.Table.{residueParties, runOf, single, sortNumber, standFor, tableOf, trees, unitCells, unitSort}
 use Rattle.csl.specs.Table.{waiting, waitingUnit}
 use Rattle.csl.specs.Demand3.{needed}
 use Rattle.laws.proofs.Options.{from-orElse, from-bind, from-need, some-bind, some-inj}
 use Rattle.laws.proofs.Bools.{from-test, T-left, T-right}
-use Rattle.laws.proofs.Cells.{nat-is, truth-is}
+use Rattle.laws.proofs.Cells.{nat-is, value-is}
 use Rattle.laws.proofs.Residues.{single-is}
 use Rattle.laws.proofs.Clash.{impossible}
 use Rattle.soundness.proofs.Members.{In, Sub, sub-join, subset→sub}
@@ -105,13 +104,6 @@ unfolding asNats natCells
 nats-are [] ns e = ap natCells (some-inj e)
 nats-are (z ∷ zs) ns e = from-bind (asNat z) _ ns e λ m a₁ b₁. from-bind (asNats zs) _ ns b₁ λ ms a₂ b₂. ap₂ _∷_
     (nat-is z m a₁) (nats-are zs ms a₂) ∙ ap natCells (some-inj b₂)
-
-value-is : (ps : ℕ) (t : Ty) (z : ℤ) (v : Val) → valueOf ps t z ≡ some v → z ≡ cellOf v
-unfolding valueOf cellOf
-value-is ps number z v e = from-need (inRange z) _ v e λ t b. ap cellOf (some-inj b)
-value-is ps truth z v e = from-bind (asNat z) _ v e λ n a b. nat-is z n a ∙ truth-is n v b
-value-is ps party z v e = from-bind (asNat z) _ v e λ n a b. from-need (ltb n ps) _ v b λ t c. nat-is z n a
-    ∙ ap cellOf (some-inj c)
 
 pub values-are : (ps : ℕ) (ts : List Ty) (zs : List ℤ) (r : List Val × List ℤ) → valuesOf ps ts zs ≡ some r
     → zs ≡ cellsOf (r .0) ++ r .1

@@ -18,7 +18,7 @@ use Rattle.arith.proofs.Lists.{tail-put, take-drop}
 use lib.Seq.{take-add, drop-append-le, take-at, drop-drop, drop-at, length-take-le}
 use Rattle.csl.specs.Lists.{_>>=_, need, all, at, split}
 use Rattle.csl.specs.Syntax.{Join, and, or, Agreement}
-use Rattle.csl.specs.Parties.{member, memberCount, bitsFrom, bitsOf}
+use Rattle.csl.specs.Parties.{member, memberCount, bitsOf}
 use Rattle.csl.specs.Decode.{joinOf, agreementOf}
 use Rattle.csl.specs.Typing.{joinOk}
 use Rattle.csl.specs.Places.{clauseAt}
@@ -27,11 +27,11 @@ use Rattle.csl.specs.Outcomes.{Sort, anObligation, aChoice, Sight, Residue, uni
 use Rattle.csl.specs.Table.{isZero, asNats, isSort, waitingUnit, push, UnitSort, waiting, joining, unitSort, addUnit}
 use Rattle.csl.specs.Table.{trees, residueParties, sortNumber, joinNumber}
 use Rattle.laws.proofs.Options.{from-bind, from-need, some-bind, passes, some-inj, none-some}
-use Rattle.laws.proofs.PartyBits.{bits-same, member-append}
+use Rattle.laws.proofs.PartyBits.{member-append}
 use Rattle.laws.proofs.Residues.{some-units}
 use Rattle.laws.proofs.Bools.{T→true}
 use Rattle.parties.specs.Masks.{maskOf, ValidMembers}
-use Rattle.parties.proofs.Members.{bits-nil}
+use Rattle.parties.proofs.Masks.{mask-bits}
 use Rattle.places.specs.Locate.{mainsOf}
 use Rattle.units.specs.declared.Waiting.{Waiting}
 use Rattle.units.specs.declared.Waiting.the-variants.{Damaged as NoUnit, Of}
@@ -46,17 +46,6 @@ use Rattle.state.specs.Tree.{WaitsFirst, JoinsFirst, ReadsAs, TreeAs, Wa
 
 bits-below : {n : ℕ} (ps : List ℕ) → n ≡ bitsOf ps → n < 1_048_576
 bits-below ps e = omega (arith, bits-small ps)
-
-mask-bits : (ps : List ℕ) → ((q : ℕ) → member q ps ≡ true → q < 16) → maskOf ps ≡ bitsOf ps
-unfolding maskOf
-mask-bits ps f =
-    let e : bitsFrom 4 128 ps ≡ 0 = bits-same 4 128 ps [] (λ j l u. no-member j l (member j ps) refl)
-    ∙ bits-nil 4 128 in
-    omega (arith, e)
-  where
-    no-member : (j : ℕ) → 128 ≤ j → (b : Bool) → member j ps ≡ b → b ≡ member j []
-    no-member j l true e = absurd (omega (arith, f j e))
-    no-member j l false e = unfold member in refl
 
 -- ---- the rule for joins
 pub join-and : {sort bits : ℕ} → sort ≡ 20 → (ps : List ℕ) → ((q : ℕ) → member q ps ≡ true → q < 16)

@@ -13,11 +13,11 @@ use lib.IntN.{ℤ, pos, negsuc, natAbs}
 use lib.ListN.{length, getD, take, drop, set}
 use lib.Seq.{drop-cons, take-suc-set, drop-length}
 use lib.Bits.{bitOr, or-zero-l, or-add-and, and-le-r}
-use lib.Signed.{mag, ltZ, nonNeg, _≤ℤ_}
+use lib.Signed.{mag, ltZ, nonNeg}
 use mir.Syntax.{w64}
 use mir.Val.{Fits, SFits, ofZ}
-use Rattle.arith.proofs.Ints.{seen, read, index-asked, index-given}
-use Rattle.arith.proofs.Linear.{ints, parts, up, dn}
+use Rattle.arith.proofs.Ints.{seen, index-asked, index-given}
+use Rattle.arith.proofs.Linear.{ints, parts, up, dn, not-negative}
 use Rattle.csl.specs.Lists.{_>>=_, need, all}
 use Rattle.csl.specs.Numbers.{inRange, limit}
 use Rattle.csl.specs.Syntax.{truth, party}
@@ -32,23 +32,17 @@ unfolding numberBelow
 below-negative end (pos n) h = absurd (omega (arith, ltb-true n 0 h))
 below-negative end (negsuc n) h = (refl, omega arith)
 
-not-negative : {z : ℤ} → ltZ z (pos 0) ≡ false → pos 0 ≤ℤ z
-not-negative {z} h = omega ints
-
 module _ {z : ℤ} (f : SFits w64 z) (h : ltZ (seen z) (pos 0) ≡ false) where
-  at-least : pos 0 ≤ℤ z
-  at-least = not-negative (rw (read f) at h)
-
   pub below-asked : T (nonNeg (seen z)) × Fits w64 (natAbs (seen z))
-  below-asked = index-asked f at-least
+  below-asked = index-asked f (not-negative f h)
 
   pub below-small : (end : ℕ) → natAbs (seen z) < end → (natAbs (seen z) ≡ numberBelow end z) × (natAbs (seen z) ≤ end)
   unfolding numberBelow
-  below-small end l = (omega arith ∙ ap (numberBelow end) (index-given f at-least), omega arith)
+  below-small end l = (omega arith ∙ ap (numberBelow end) (index-given f (not-negative f h)), omega arith)
 
   pub below-large : (end : ℕ) → end ≤ natAbs (seen z) → (end ≡ numberBelow end z) × (end ≤ end)
   unfolding numberBelow
-  below-large end l = (omega arith ∙ ap (numberBelow end) (index-given f at-least), omega arith)
+  below-large end l = (omega arith ∙ ap (numberBelow end) (index-given f (not-negative f h)), omega arith)
 
 -- what it says of the cell
 pub below-is : (end : ℕ) (z : ℤ) → numberBelow end z < end → z ≡ pos (numberBelow end z)
