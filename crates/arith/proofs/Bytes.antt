@@ -1,17 +1,19 @@
 -- Integers in bytes, and in a part of the bytes.
-use mathlib.Core.Path.{_≡_, refl, sym, ap, _∙_, subst}
-use mathlib.Core.Bool.{Bool, true, false, cond, _&&_}
+use mathlib.Core.Path.{_≡_, sym, ap, _∙_}
+use mathlib.Core.Bool.{true, cond}
 use mathlib.Core.List.{List}
 use Prim.Native.Nat.{ℕ, _+_, _≤_, _<_}
 use native.Mathlib.Omega.{arith}
 use lib.IntN.{ℤ, pos, negsuc, _-ℤ_}
-use lib.Dec.{T, leb, ltb, eqb}
+use lib.Dec.{leb, ltb, eqb}
 use lib.ListN.{length, List·getD-eq-default}
 use borrow.Author.Tests.{lt-ltb, le-ltb, leb-true, eqb-true, le-leb, lt-leb}
 use mir.Syntax.{w64}
 use mir.Val.{SFits, toZ}
 use mir.ValLaws.{toZ-pos}
-use Rattle.csl.specs.Bytes.{byte, le16, le32, part, isRecord, recordEnd}
+use Rattle.csl.specs.Bytes.{byte, le16, le32, part, isRecord}
+use Rattle.laws.proofs.Bools.{and-left, and-right}
+pub use Rattle.laws.proofs.RecordEnds.{record-end-after, record-end-within}
 use Rattle.arith.proofs.Ints.{abs-add, small, seen, read}
 use Rattle.arith.proofs.Lists.{getD-part}
 
@@ -37,30 +39,17 @@ le16-part s a e i h =
     let k : a + (i + 1) ≡ a + i + 1 = omega arith in
     rw (byte-part s a e i (omega arith), byte-part s a e (i + 1) (omega arith), k)
 
--- ---- where a record ends
-pub record-end-within : (s : List ℕ) (a : ℕ) → recordEnd s a ≤ length s
-unfolding recordEnd
-record-end-within s a = omega arith
-
-pub record-end-after : (s : List ℕ) (a : ℕ) → a ≤ length s → a ≤ recordEnd s a
-unfolding recordEnd
-record-end-after s a h = omega arith
-
 -- ---- a whole record
 pub record Whole (s : List ℕ) : Type 0 where
   pub room : 4 ≤ length s
   pub says : le16 s 0 ≡ length s
 
-and-true : (x y : Bool) → x && y ≡ true → (x ≡ true) × (y ≡ true)
-and-true true true e = (refl, refl)
-and-true true false e = (refl, e)
-and-true false y e = absurd (subst T (sym e) tt)
-
 pub whole-from : (s : List ℕ) → isRecord s ≡ true → Whole s
 unfolding isRecord
 whole-from s e =
-    let p = and-true (leb 4 (length s)) (eqb (le16 s 0) (length s)) e in
-    record { room = leb-true 4 (length s) (p .0); says = eqb-true (le16 s 0) (length s) (p .1) }
+    let p = and-left (leb 4 (length s)) (eqb (le16 s 0) (length s)) e in
+    let q = and-right (leb 4 (length s)) (eqb (le16 s 0) (length s)) e in
+    record { room = leb-true 4 (length s) p; says = eqb-true (le16 s 0) (length s) q }
 
 pub record-yes : (s : List ℕ) {n : ℕ} → 4 ≤ length s → n ≡ le16 s 0 → eqb n (length s) ≡ isRecord s
 unfolding isRecord

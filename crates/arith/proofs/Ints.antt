@@ -1,6 +1,6 @@
 -- Sizes of integers, in ℕ, where omega reads them; and what the machine reads back from an integer's bits.
 use mathlib.Core.Path.{_≡_, refl, sym, ap, _∙_}
-use mathlib.Core.Bool.{Bool, true, false, cond}
+use mathlib.Core.Bool.{cond}
 use Prim.Native.Nat.{ℕ, zero, suc, _+_, _-_, _*_, _/_, _^_, _≤_, _<_}
 use native.Mathlib.Nat.{le-refl}
 use native.Mathlib.Omega.{arith}
@@ -12,11 +12,7 @@ use mir.Syntax.{w64}
 use mir.Val.{Fits, SFits, sel, toZ, ofZ}
 use mir.ValLaws.{toZ-ofZ}
 use Rattle.csl.specs.Numbers.{eqZ}
-
--- a Bool's two cases, with the equation
-pub by {ℓ} : (P : Bool → Type ℓ) (t : Bool) → (t ≡ true → P true) → (t ≡ false → P false) → P t
-by P true f g = f refl
-by P false f g = g refl
+use Rattle.laws.proofs.Bools.{by}
 
 -- ---- sizes
 pub abs-neg : (z : ℤ) → natAbs (negℤ z) ≡ natAbs z

@@ -1,16 +1,17 @@
 -- Linear arithmetic on integers, by omega. An integer z is up z - dn z, of which one is 0; what is said of integers
 -- is said of those.
 use mathlib.Core.Path.{_≡_, refl, sym, ap, subst}
-use mathlib.Core.Bool.{Bool, true, false, cond}
+use mathlib.Core.Bool.{true, false, cond}
 use Prim.Native.Nat.{ℕ, zero, suc, _+_, _-_, _≤_, _<_, min}
-use native.Mathlib.Omega.{arith}
+use native.Mathlib.Omega.{arith, by-contra}
 use lib.IntN.{ℤ, pos, negsuc, negℤ, natAbs, subℕ, _+ℤ_, _-ℤ_}
 use lib.Dec.{T, ltb, ltb→lt, lt→ltb, leb→le, le→leb}
 use lib.Signed.{mag, ltZ, leZ, _<ℤ_, _≤ℤ_}
 use borrow.Author.Tests.{ltb-true, ltb-false}
 use mir.Syntax.{w64}
 use mir.Val.{SFits}
-use Rattle.arith.proofs.Ints.{by, seen, read}
+use Rattle.laws.proofs.Bools.{T→true, not-T→false, by}
+use Rattle.arith.proofs.Ints.{seen, read}
 
 -- z where it is above 0, and -z where it is below
 unfoldable pub up : ℤ → ℕ
@@ -97,14 +98,6 @@ yes-le (pos a) (negsuc b) h = absurd (omega arith)
 yes-le (negsuc a) (pos b) h = tt
 yes-le (negsuc a) (negsuc b) h = le→leb b a (omega arith)
 
-is-true : (t : Bool) → T t → t ≡ true
-is-true true h = refl
-is-true false h = absurd h
-
-is-false : (t : Bool) → (T t → ⊥) → t ≡ false
-is-false true h = absurd (h tt)
-is-false false h = refl
-
 pub lt-fact : (a b : ℤ) → a <ℤ b → up a + dn b < up b + dn a
 lt-fact a b h = lt-yes a b (h .lt)
 
@@ -120,17 +113,14 @@ le-goal a b h = record { le = yes-le a b h }
 pub lt-true : (a b : ℤ) → ltZ a b ≡ true → up a + dn b < up b + dn a
 lt-true a b e = lt-yes a b (subst T (sym e) tt)
 
-not-lt : {m n : ℕ} → (m < n → ⊥) → n ≤ m
-not-lt {m} {n} f = by (λ t. n ≤ m) (ltb m n) (λ e. absurd (f (ltb-true m n e))) (λ e. ltb-false m n e)
-
 pub lt-false : (a b : ℤ) → ltZ a b ≡ false → up b + dn a ≤ up a + dn b
-lt-false a b e = not-lt (λ h. subst T e (yes-lt a b h))
+lt-false a b e = by-contra (up b + dn a) (up a + dn b) (λ h. subst T e (yes-lt a b h))
 
 pub true-lt : (a b : ℤ) → up a + dn b < up b + dn a → ltZ a b ≡ true
-true-lt a b h = is-true (ltZ a b) (yes-lt a b h)
+true-lt a b h = T→true (ltZ a b) (yes-lt a b h)
 
 pub false-lt : (a b : ℤ) → up b + dn a ≤ up a + dn b → ltZ a b ≡ false
-false-lt a b h = is-false (ltZ a b) (λ t. let k = lt-yes a b t in omega arith)
+false-lt a b h = not-T→false (ltZ a b) (λ t. let k = lt-yes a b t in omega arith)
 
 pub eq-parts : (a b : ℤ) → a ≡ b → up a + dn b ≡ up b + dn a
 eq-parts a b e = rw e
@@ -160,3 +150,7 @@ pub ruleset ints = (
   to-eq,
   seen-parts,
 )
+
+-- ---- a number that the code found not below 0
+pub not-negative : {z : ℤ} → SFits w64 z → ltZ (seen z) (pos 0) ≡ false → pos 0 ≤ℤ z
+not-negative f h = omega (ints, rw (read f) at h)

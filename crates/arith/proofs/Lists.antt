@@ -1,17 +1,15 @@
--- Parts of a list, a list filled from the front, three cells set in a row.
+-- Parts of a list, a part put back, three cells set in a row.
 use mathlib.Core.Path.{_≡_, sym, _∙_}
 use mathlib.Core.List.{List, [], _∷_, _++_, append-nil, append-assoc}
 use Prim.Native.Nat.{ℕ, zero, suc, _+_, _-_, _<_, _≤_}
 use native.Mathlib.Omega.{arith}
-use lib.ListN.{length, getD, set, take, drop, length-take, length-drop}
-use lib.Seq.{sets-eq, drop-length, getD-take, getD-drop, take-take, take-nil, take-all, drop-drop}
+use lib.ListN.{length, getD, set, take, drop}
+use lib.Seq.{sets-eq, drop-length, getD-take, getD-drop, take-take, take-nil, drop-drop}
 use borrow.Rule.Slice.PartMut.{putMid, post-is}
+pub use Rattle.laws.proofs.Lists.{length-part}
 
 module _ {A : Type 0} where
   -- ---- `take (e - a) (drop a l)` is what `&l[a..e]` denotes
-  pub length-part : (l : List A) (a e : ℕ) → e ≤ length l → length (take (e - a) (drop a l)) ≡ e - a
-  length-part l a e h = simp (length-take, length-drop) (omega arith)
-
   pub getD-part : (l : List A) (a e i : ℕ) (d : A) → a + i < e → getD (take (e - a) (drop a l)) i d ≡ getD l (a + i) d
   getD-part l a e i d h = let k : i < e - a = omega arith in rw (getD-take, getD-drop)
 
@@ -28,9 +26,6 @@ module _ {A : Type 0} where
       let k : f - b ≤ e - a - b = omega arith in
       let q : a + f - (a + b) ≡ f - b = omega arith in
       rw (take-drop b (e - a) (drop a l), take-take (f - b) (e - a - b) (drop b (drop a l)) k, drop-drop b a l, q)
-
-  pub part-all : (l : List A) → take (length l - 0) (drop 0 l) ≡ l
-  part-all l = take-all (length l - 0) l (omega arith)
 
   pub three : (n : ℕ) (a b c : A) (l : List A) → n + 3 ≤ length l
       → set (set (set l n a) (n + 1) b) (n + 2) c ≡ take n l ++ a ∷ b ∷ c ∷ drop (n + 3) l

@@ -5,15 +5,16 @@ use Prim.Native.Nat.{ℕ, _+_, _≤_, _<_, max}
 use native.Mathlib.Nat.{le-refl, mul-le-mul, div-le-self, div-zero}
 use native.Mathlib.Omega.{arith}
 use lib.IntN.{ℤ, pos, negsuc, natAbs, _+ℤ_, _-ℤ_, _*ℤ_}
-use lib.Dec.{T, leb, lit≤, leb→le, le→leb}
+use lib.Dec.{T, lit≤, leb→le, le→leb}
 use lib.Signed.{ltZ, quotZ}
 use borrow.Author.Tests.{le-leb, ltb-true, ltb-false}
 use mir.Syntax.{w64}
 use mir.Val.{SFits, ofZ}
 use Rattle.csl.specs.Numbers.{Held, Arithmetic, plus, minus, times, quot, top, bottom, limit, held, inRange, quotient}
 use Rattle.csl.specs.Numbers.{calculate, laterOf}
+use Rattle.laws.proofs.Bools.{by}
 use Rattle.arith.specs.Within.{Within, far}
-use Rattle.arith.proofs.Ints.{by, abs-add, abs-minus, abs-mul, abs-quot, small, seen, abs-seen, read, nought}
+use Rattle.arith.proofs.Ints.{abs-add, abs-minus, abs-mul, abs-quot, small, seen, abs-seen, read, nought}
 use Rattle.arith.proofs.Ints.{some-bits}
 use Rattle.arith.proofs.Linear.{ints, parts, up, dn, lt-false}
 
@@ -32,10 +33,7 @@ within-goal n z h = record { near = le→leb (natAbs z) n h }
 pub seen-goal : (n : ℕ) (z : ℤ) → natAbs z ≤ n → Within n (seen z)
 seen-goal n z h = within-goal n (seen z) (omega (arith, abs-seen z))
 
--- omega applies one rule to a hypothesis: this one is for the field of `Within`, the next for the whole
-pub test-fact : (a n : ℕ) → T (leb a n) → a ≤ n
-test-fact a n t = leb→le a n t
-
+-- omega applies one rule to a hypothesis: `leb→le` is for the field of `Within`, this one for the whole
 pub within-seen : {n : ℕ} {z : ℤ} → Within n z → natAbs (seen z) ≤ n
 within-seen {n} {z} h = omega (arith, leb→le (natAbs z) n (h .near), abs-seen z)
 
@@ -45,7 +43,7 @@ held-seen {z} h = omega (arith, abs-seen z)
 pub fits-seen : {z : ℤ} → SFits w64 z → natAbs (seen z) ≡ natAbs z
 fits-seen h = ap natAbs (read h)
 
-pub ruleset sizes = (arith, test-fact, within-seen, held-seen, fits-seen, seen-goal)
+pub ruleset sizes = (arith, leb→le, within-seen, held-seen, fits-seen, seen-goal)
 
 -- ---- what `held` gives is held, and what is held stays
 pub held-held : (z : ℤ) → Held (held z)
@@ -168,11 +166,6 @@ module _ (n : ℕ) where
   unfolding laterOf
   later-time (pos m) e = ap pos (omega (arith, ltb-false n m e))
   later-time (negsuc m) e = refl
-
-  pub later-from : (z : ℤ) → n ≤ laterOf n z
-  unfolding laterOf
-  later-from (pos m) = omega arith
-  later-from (negsuc m) = le-refl n
 
   pub later-size : (z : ℤ) → laterOf n z ≤ max n (natAbs z)
   unfolding laterOf

@@ -1,7 +1,7 @@
 -- At every unit of a table the rules on cells show what csl's rules give for the residue.
 -- Main theorems: `across-shows` for any step and mode, `follow-across` and `forecast-across` for whole tables.
 use mathlib.Core.Bool.{cond}
-use mathlib.Core.List.{List, [], _∷_, _++_}
+use mathlib.Core.List.{List, [], _∷_, _++_, append-assoc}
 use mathlib.Core.Option.{Option, none, some}
 use mathlib.Core.Path.{ap, ap₂, refl, sym, _∙_, _≡_}
 use Prim.Native.Nat.{_+_, _-_, suc, ℕ, _≤_}
@@ -14,24 +14,26 @@ use Rattle.csl.specs.Bytes.{part, recordEnd}
 use Rattle.csl.specs.Syntax.{Agreement, Clause, Join, Ty, and, or}
 use Rattle.csl.specs.Decode.{agreementOf, clause, headsOf, joinOf}
 use Rattle.csl.specs.Typing.{namesOf, typeClause}
-use Rattle.csl.specs.Outcomes.{Residue, Sight, Sort, aChoice, anObligation, both, joined, orStuck, running, unit, units}
+use Rattle.csl.specs.Outcomes.{Residue, Sight, Sort, aChoice, anObligation, both, joined, orStuck, running, unit}
+use Rattle.csl.specs.Outcomes.{units}
 use Rattle.csl.specs.Rules.{Reading, Step, during, following, forecasting}
 use Rattle.csl.specs.Places.{Found, across, clauseAt}
 use Rattle.csl.specs.Table.{cellsOf, headCells, joinCells, joinNumber, natCells, padded, residueCells, runOf}
 use Rattle.csl.specs.Table.{sortNumber, tableOf, unitCells}
-use Rattle.soundness.proofs.Good.{Good, Ok, OkUnit, Placed, SightOk}
+use Rattle.laws.proofs.Cells.{length-join, length-padded}
+use Rattle.soundness.proofs.Good.{Good, Ok, OkUnit, Placed, SightOk, good-moves}
 use Rattle.soundness.proofs.Walks.{Fair, StepGood}
 use Rattle.soundness.proofs.Activation.{heads-declared}
 use Rattle.soundness.proofs.Following.{ReadingOk, across-good, following-good}
 use Rattle.soundness.proofs.Forecasts.{forecasting-good}
-use Rattle.soundness.proofs.RoundTrip.{++-assoc, join-length, len-cells, len-nats, len-padded, len-typed, units-length}
+use Rattle.soundness.proofs.RoundTrip.{len-cells, len-nats, len-typed, units-length}
 use Rattle.soundness.proofs.Runs.{Inv, Since, runAt}
 use Rattle.soundness.proofs.ReadBack.{runOf-good, table-back}
 use Rattle.cells.specs.Reduce.{Mode, Reduced}
 use Rattle.cells.specs.Reduce as cells
 use Rattle.cells.specs.Across as table
 use Rattle.cells.specs.Across.{natOf, unitReduced}
-use Rattle.bridge.proofs.Shows.{Shows, good-moves, joined-shows, shows-bind}
+use Rattle.bridge.proofs.Shows.{Shows, joined-shows, shows-bind}
 use Rattle.bridge.proofs.Reduce.{follow-shows, forecast-shows}
 
 -- ---- the numbers of party parameters and of values in sight, unit by unit; a join has the number of its left side's
@@ -126,14 +128,14 @@ module _ (s mains : List ℕ) (fair : Fair (agreementOf s) mains) (found : Found
       params : take (ok .found .params) (padded 5 (natCells (e .params))
           ++ padded 16 (cellsOf (e .values))) ≡ natCells (e .params)
       params = ap (take (ok .found .params))
-          (++-assoc (natCells (e .params)) (replicate (5 - length (natCells (e .params))) (pos 0))
+          (append-assoc (natCells (e .params)) (replicate (5 - length (natCells (e .params))) (pos 0))
           (padded 16 (cellsOf (e .values)))) ∙ take-at (natCells (e .params)) _ (ok .found .params) few
 
       values : take (length (ok .found .sight))
           (drop 5 (padded 5 (natCells (e .params)) ++ padded 16 (cellsOf (e .values)))) ≡ cellsOf (e .values)
       values = ap (take (length (ok .found .sight)))
           (drop-at (padded 5 (natCells (e .params))) (padded 16 (cellsOf (e .values))) 5
-          (len-padded 5 (natCells (e .params)) (omega (arith, few, ok .sight .fewParams))))
+          (length-padded 5 (natCells (e .params)) (omega (arith, few, ok .sight .fewParams))))
           ∙ take-at (cellsOf (e .values)) _ (length (ok .found .sight))
           (len-cells (e .values) ∙ len-typed (ag .parties) (ok .found .sight) (e .values) (ok .sight .values))
 
@@ -165,13 +167,13 @@ module _ (s mains : List ℕ) (fair : Fair (agreementOf s) mains) (found : Found
   unfolding natOf joinCells padded table.joinFirst
   join-across W m j l r x y n sights rest p q =
       ap₂ (λ i o. table.across m s i (units l ∷ 0 ∷ o) ((joinCells j ++ (residueCells l ++ residueCells r)) ++ rest))
-      (both-count l r n) (++-assoc (sightsOf ag l) (sightsOf ag r) sights)
+      (both-count l r n) (append-assoc (sightsOf ag l) (sightsOf ag r) sights)
       ∙ ap (table.across m s (suc (units l + (units r + n)))
       (units l ∷ 0 ∷ (sightsOf ag l ++ (sightsOf ag r ++ sights))))
-      (++-assoc (joinCells j) (residueCells l ++ residueCells r) rest
-      ∙ ap (λ x. joinCells j ++ x) (++-assoc (residueCells l) (residueCells r) rest))
+      (append-assoc (joinCells j) (residueCells l ++ residueCells r) rest
+      ∙ ap (λ x. joinCells j ++ x) (append-assoc (residueCells l) (residueCells r) rest))
       ∙ join-first m s (units l + (units r + n)) (units l) 0 (sightsOf ag l ++ (sightsOf ag r ++ sights))
-      (joinCells j) (residueCells l ++ (residueCells r ++ rest)) (join-length ag W j) j refl
+      (joinCells j) (residueCells l ++ (residueCells r ++ rest)) (length-join j) j refl
       ∙ ap (table.joinFirst j) (p ∙ ap (λ o. x ∷ o) q)
 
   -- ---- any step and mode: W says at what times the step may be taken, Q since when a unit waits

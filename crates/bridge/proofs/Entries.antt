@@ -24,7 +24,8 @@ use Rattle.csl.specs.Table.{cellsOf, natCells, runOf, standFor, tableOf}
 use Rattle.csl.specs.Entries.{Answer, Forecast, breachAt, forecastOf, forecastRun, noBreach, noForecast, readingOf}
 use Rattle.csl.specs.Entries.{refusal, shown, startOf, written}
 use Rattle.csl.specs.Demand3.{fitting}
-use Rattle.soundness.proofs.Inversion.{some-inj}
+use Rattle.laws.proofs.Clash.{impossible}
+use Rattle.laws.proofs.Options.{some-inj, none-some}
 use Rattle.soundness.proofs.Evaluation.{HaveTy}
 use Rattle.soundness.proofs.Good.{Good, SightOk}
 use Rattle.soundness.proofs.Walks.{Fair}
@@ -37,12 +38,12 @@ use Rattle.soundness.proofs.ReadBack.{runOf-good, table-back}
 use Rattle.cells.specs.Reduce.{Reduced}
 use Rattle.cells.specs.Reduce as cells
 use Rattle.cells.specs.Across as table
-use Rattle.bridge.proofs.Evaluate.{nothing}
 use Rattle.bridge.proofs.Shows.{Shows}
 use Rattle.bridge.proofs.Reduce.{activate-shows}
 use Rattle.bridge.proofs.Across.{FoundIs, follow-across, forecast-across, sightsOf}
 use Rattle.bridge.proofs.Refusals.{answer, forecast-on}
-use Rattle.bridge.proofs.Tables.{reducedTable, table-shows, tooMany-shows, unitsIn}
+use Rattle.cells.specs.Tables.{reducedTable}
+use Rattle.bridge.proofs.Tables.{table-shows, tooMany-shows, unitsIn}
 
 -- "over 128 units it is 11 and nothing changes, otherwise 0"
 unfoldable pub keptCells : ℕ → List ℤ → Reduced → Answer
@@ -69,8 +70,8 @@ foretold (cells.running us) = noForecast
 foretold-shows : (ag : Agreement) (mains : List ℕ) (o : Outcome) (x : Reduced) → ForecastOk ag mains o → Shows o x
     → (shown o ≡ foretold x) × ((us : List ℤ) → x ≡ cells.running us → ⊥)
 unfolding ForecastOk Shows shown foretold
-foretold-shows ag mains done x f h = rw h (refl, λ us e. let z : _≡_ {A = ℕ} 0 1 = cc in omega arith)
-foretold-shows ag mains (breach t ps) x f h = rw h (refl, λ us e. let z : _≡_ {A = ℕ} 0 1 = cc in omega arith)
+foretold-shows ag mains done x f h = rw h (refl, λ us e. impossible cc)
+foretold-shows ag mains (breach t ps) x f h = rw h (refl, λ us e. impossible cc)
 foretold-shows ag mains (running r) x f h = absurd f
 foretold-shows ag mains stuck x f h = absurd f
 
@@ -104,7 +105,7 @@ module _ (a : Agreement) (q : Run) (r : List ℕ) where
 
   step-ten : (d : Reading) → fitting a r ≡ some d → d .time < q .lastTime → step a q r ≡ stepped 10 q
   step-ten d f lt = fit-cases a (q .lastTime) r
-      (λ n w f′ e. nothing (sym f′ ∙ f))
+      (λ n w f′ e. none-some (sym f′ ∙ f))
       (λ d′ f′ lt′ e. step-by (unfit 10) e)
       (λ w d′ e₁ e₂ f′ le e. let t : d′ .time ≡ d .time = ap (λ x. x .time) (some-inj (sym f′ ∙ f)) in
       absurd (omega arith))
@@ -113,7 +114,7 @@ module _ (a : Agreement) (q : Run) (r : List ℕ) where
   step-fits : (d : Reading) → fitting a r ≡ some d → q .lastTime ≤ d .time → ReadingOk a d
       × (step a q r ≡ followed a q d)
   step-fits d f le = fit-cases a (q .lastTime) r
-      (λ n w f′ e. nothing (sym f′ ∙ f))
+      (λ n w f′ e. none-some (sym f′ ∙ f))
       (λ d′ f′ lt e. let t : d′ .time ≡ d .time = ap (λ x. x .time) (some-inj (sym f′ ∙ f)) in absurd (omega arith))
       (λ w d′ e₁ e₂ f′ le′ e. let t : d′ ≡ d = some-inj (sym f′ ∙ f) in
       (subst (ReadingOk a) t ((reading-ok a w d′ e₂) .0), step-by (fit d) (e ∙ ap fit t)))

@@ -1,7 +1,7 @@
 -- On typed expressions, evaluation on cells gives the cell of the value that csl's evaluation gives.
 use mathlib.Core.Bool.{Bool, cond, false, not, true, _&&_}
 use mathlib.Core.List.{List, [], _∷_}
-use mathlib.Core.Option.{none, some}
+use mathlib.Core.Option.{some}
 use mathlib.Core.Path.{ap, ap₂, refl, subst, sym, _∙_, _≡_}
 use Prim.Native.Nat.{_-_, suc, zero, ℕ, _≤_}
 use native.Mathlib.Omega.{arith}
@@ -14,15 +14,13 @@ use Rattle.csl.specs.Numbers.{bottom, calculate, eqZ, held, inRange, limit, top
 use Rattle.csl.specs.Syntax.{Expr, Op, Ty, arithmetic, badExpr, binary, conj, equal, less, negation, number}
 use Rattle.csl.specs.Syntax.{numberLit, party, partyLit, truth, truthLit, variable}
 use Rattle.csl.specs.Typing.{hasType, haveTypes, typeExpr}
-use Rattle.csl.specs.Values.{Val, apply, asBool, asNum, asTruth, bool, eval, evalBool, evalNum, evals, num, onBools}
-use Rattle.csl.specs.Values.{onNums, sameBool, sameVal, who}
+use Rattle.csl.specs.Values.{Val, apply, asBool, asNum, bool, eval, evalBool, evalNum, evals, num, onBools, onNums}
+use Rattle.csl.specs.Values.{sameBool, sameVal, who}
 use Rattle.csl.specs.Table.{cellOf, cellsOf}
-use Rattle.soundness.proofs.Inversion.{from-bind, from-need, some-inj}
+use Rattle.laws.proofs.Options.{from-bind, from-need, some-inj, none-some}
+use Rattle.laws.proofs.Cells.{truth-is}
 use Rattle.soundness.proofs.Evaluation.{HasTy, HaveTy, at-typed}
 use Rattle.cells.specs.Evaluate.{applyCells, evalCells, evalsCells, isTrue, truthCell}
-
-pub nothing : {A C : Type 0} {x : A} → none ≡ some x → C
-nothing e = let z : _≡_ {A = ℕ} 0 1 = cc in absurd (omega arith)
 
 -- ---- a cell in range is left as it is
 held-same : (z : ℤ) → T (inRange z) → held z ≡ z
@@ -53,7 +51,7 @@ held-cell ps party (who p) few h = held-same (pos p) (le→leb p limit (omega (a
 
 at-cell : (vs : List Val) (i : ℕ) (v : Val) → at vs i ≡ some v → getD (cellsOf vs) i (pos 0) ≡ cellOf v
 unfolding at cellsOf
-at-cell [] i v e = nothing e
+at-cell [] i v e = none-some e
 at-cell (u ∷ vs) zero v e = ap cellOf (some-inj e)
 at-cell (u ∷ vs) (suc i) v e = at-cell vs i v e
 
@@ -61,15 +59,15 @@ at-cell (u ∷ vs) (suc i) v e = at-cell vs i v e
 as-num : (v : Val) (z : ℤ) → asNum v ≡ some z → cellOf v ≡ z
 unfolding asNum cellOf
 as-num (num x) z e = some-inj e
-as-num (bool b) z e = nothing e
-as-num (who p) z e = nothing e
+as-num (bool b) z e = none-some e
+as-num (who p) z e = none-some e
 
 as-bool : (v : Val) (b : Bool) → asBool v ≡ some b → cellOf v ≡ truthCell b
 unfolding asBool cellOf truthCell
-as-bool (num x) b e = nothing e
+as-bool (num x) b e = none-some e
 as-bool (bool true) b e = ap truthCell (some-inj e)
 as-bool (bool false) b e = ap truthCell (some-inj e)
-as-bool (who p) b e = nothing e
+as-bool (who p) b e = none-some e
 
 is-true : (b : Bool) → isTrue (truthCell b) ≡ b
 unfolding truthCell isTrue eqZ
@@ -80,12 +78,6 @@ truth-cell : (b : Bool) → truthCell b ≡ cellOf (bool b)
 unfolding cellOf truthCell
 truth-cell true = refl
 truth-cell false = refl
-
-truth-lit : (n : ℕ) (v : Val) → asTruth n ≡ some v → pos n ≡ cellOf v
-unfolding asTruth cellOf
-truth-lit zero v e = ap cellOf (some-inj e)
-truth-lit (suc zero) v e = ap cellOf (some-inj e)
-truth-lit (suc (suc n)) v e = nothing e
 
 not-cell : (b : Bool) → cond (isTrue (truthCell b)) (pos 0) (pos 1) ≡ cellOf (bool (not b))
 unfolding truthCell isTrue eqZ cellOf
@@ -102,16 +94,16 @@ and-cell false y = refl
 same-cell : (u v w : Val) → sameVal u v ≡ some w → truthCell (eqZ (cellOf u) (cellOf v)) ≡ cellOf w
 unfolding sameVal sameBool eqZ cellOf
 same-cell (num x) (num y) w e = truth-cell (eqZ x y) ∙ ap cellOf (some-inj e)
-same-cell (num x) (bool y) w e = nothing e
-same-cell (num x) (who y) w e = nothing e
-same-cell (bool x) (num y) w e = nothing e
+same-cell (num x) (bool y) w e = none-some e
+same-cell (num x) (who y) w e = none-some e
+same-cell (bool x) (num y) w e = none-some e
 same-cell (bool true) (bool true) w e = truth-cell true ∙ ap cellOf (some-inj e)
 same-cell (bool true) (bool false) w e = truth-cell false ∙ ap cellOf (some-inj e)
 same-cell (bool false) (bool true) w e = truth-cell false ∙ ap cellOf (some-inj e)
 same-cell (bool false) (bool false) w e = truth-cell true ∙ ap cellOf (some-inj e)
-same-cell (bool x) (who y) w e = nothing e
-same-cell (who x) (num y) w e = nothing e
-same-cell (who x) (bool y) w e = nothing e
+same-cell (bool x) (who y) w e = none-some e
+same-cell (who x) (num y) w e = none-some e
+same-cell (who x) (bool y) w e = none-some e
 same-cell (who x) (who y) w e = truth-cell (eqb x y) ∙ ap cellOf (some-inj e)
 
 apply-cell : (o : Op) (u v w : Val) → apply o u v ≡ some w → applyCells o (cellOf u) (cellOf v) ≡ cellOf w
@@ -137,7 +129,7 @@ module _ (ps : ℕ) (few : ps ≤ 16) (env : List Ty) (vs : List Val) (h : HaveT
       → evalCells (cellsOf vs) x ≡ cellOf v
   unfolding typeExpr eval evalCells cellOf
   eval-cells (numberLit z) t v ty e = from-need (inRange z) _ t ty λ b p. held-same z b ∙ ap cellOf (some-inj e)
-  eval-cells (truthLit n) t v ty e = truth-lit n v e
+  eval-cells (truthLit n) t v ty e = truth-is n v e
   eval-cells (partyLit q) t v ty e = ap cellOf (some-inj e)
   eval-cells (variable i) t v ty e =
       let a = at-typed ps env vs i t h ty in
@@ -154,7 +146,7 @@ module _ (ps : ℕ) (few : ps ≤ 16) (env : List Ty) (vs : List Val) (h : HaveT
       from-bind (eval vs x) _ v e λ u pu r.
       from-bind (eval vs y) _ v r λ u′ pu′ r′.
       ap₂ (applyCells o) (eval-cells x s u p pu) (eval-cells y s′ u′ p′ pu′) ∙ apply-cell o u u′ v r′
-  eval-cells badExpr t v ty e = nothing e
+  eval-cells badExpr t v ty e = none-some e
 
   -- a number's cell is the number
   pub num-cells : (x : Expr) (u : Unit {0}) (z : ℤ) → hasType ps env x number ≡ some u → evalNum vs x ≡ some z
@@ -179,8 +171,8 @@ module _ (ps : ℕ) (few : ps ≤ 16) (env : List Ty) (vs : List Val) (h : HaveT
       → evals vs xs ≡ some ws → evalsCells (cellsOf vs) xs ≡ cellsOf ws
   unfolding haveTypes hasType evals evalsCells cellsOf
   evals-cells [] [] u ws ty e = ap cellsOf (some-inj e)
-  evals-cells [] (t ∷ ts) u ws ty e = nothing ty
-  evals-cells (x ∷ xs) [] u ws ty e = nothing ty
+  evals-cells [] (t ∷ ts) u ws ty e = none-some ty
+  evals-cells (x ∷ xs) [] u ws ty e = none-some ty
   evals-cells (x ∷ xs) (t ∷ ts) u ws ty e =
       from-bind (hasType ps env x t) _ u ty λ u′ p q.
       from-bind (typeExpr ps env x) _ u′ p λ s p₂ q₂.

@@ -23,10 +23,12 @@ use Rattle.csl.specs.Outcomes.{Outcome, Sight, aChoice, anObligation, joined, o
 use Rattle.csl.specs.Rules.{Reading, Step, Window, activate, activating, blamed, blamedAll, during, following}
 use Rattle.csl.specs.Rules.{forecasting, late, taken, walk, walkIn, wants, window, withValues}
 use Rattle.csl.specs.Table.{cellOf, cellsOf, natCells, residueCells, sortNumber, standFor}
-use Rattle.soundness.proofs.Inversion.{T-left, T-right, both-true, from-bind, from-need, some-inj}
+use Rattle.laws.proofs.Bools.{T-left, T-right, both-true}
+use Rattle.laws.proofs.Options.{from-bind, from-need, some-inj, none-some}
+use Rattle.laws.proofs.Integers.{later-from}
 use Rattle.soundness.proofs.Evaluation.{HasTy, HaveTy, HaveTy-++}
-use Rattle.soundness.proofs.Times.{later-from, later-to, remaining-range}
-use Rattle.soundness.proofs.Good.{Placed, SightOk}
+use Rattle.soundness.proofs.Times.{later-to, remaining-range}
+use Rattle.soundness.proofs.Good.{Placed, SightOk, good-moves}
 use Rattle.soundness.proofs.Walks.{Fair, StepGood, UnfoldGood, at-heads, blamed-ok, blamedAll-ok, bool-typed}
 use Rattle.soundness.proofs.Walks.{evals-typed, num-typed, walk-good}
 use Rattle.soundness.proofs.Activation.{activating-good, heads-declared, typed-guarded, unfold-good, walkIn-good}
@@ -36,9 +38,9 @@ use Rattle.soundness.proofs.Forecasts.{forecasting-good}
 use Rattle.cells.specs.Evaluate.{evalCells, isTrue}
 use Rattle.cells.specs.Reduce as cells
 use Rattle.cells.specs.Reduce.{Mode, Reduced}
-use Rattle.bridge.proofs.Evaluate.{bool-cells, evals-cells, nothing, num-cells}
-use Rattle.bridge.proofs.Shows.{Shows, blame-bits, blamed-cells, cells-++, good-moves, joined-shows}
-use Rattle.bridge.proofs.Shows.{shows-bind, unit-cells}
+use Rattle.bridge.proofs.Evaluate.{bool-cells, evals-cells, num-cells}
+use Rattle.bridge.proofs.Shows.{Shows, blame-bits, blamed-cells, cells-++, joined-shows, shows-bind}
+use Rattle.bridge.proofs.Shows.{unit-cells}
 
 -- ---- a template's instance, on cells
 module _ (md : Mode) (th : Clause → List ℤ → List ℤ → ℕ → Reduced) (ts : List Template) where
@@ -150,7 +152,7 @@ module _ (ag : Agreement) (mains : List ℕ) (fair : Fair ag mains) (W : ℕ →
           )
           (us k h (ev .0) (standFor (e .params) cs) a (ltb→lt k m gd) p (ev .2)
           (bl .2 ∙ eqb→eq (length cs) (h .params) (T-left (eqb (length cs) (h .params)) _ t)) (bl .1) wa)))
-      walk-shows badClause n env e a bs gd ok wa ty pl = nothing ty
+      walk-shows badClause n env e a bs gd ok wa ty pl = none-some ty
 
     -- csl bounds how many instances stand in one another, the cells which template may be named: the walk is the same
     -- for any bound m from the template's number j on

@@ -1,27 +1,25 @@
 -- A csl outcome and the same on cells; joins, blames and units keep the two the same.
-use mathlib.Core.Bool.{Bool, cond, false, true, _||_}
+use mathlib.Core.Bool.{Bool, cond, false, true}
 use mathlib.Core.List.{List, [], _∷_, _++_}
 use mathlib.Core.Option.{Option, some}
 use mathlib.Core.Path.{ap, ap₂, refl, subst, sym, _∙_, _≡_}
-use Prim.Native.Nat.{_%_, _*_, _+_, _-_, _/_, max, suc, zero, ℕ}
-use native.Mathlib.Omega.{arith}
-use lib.Bits.{bitOr, or-step}
-use lib.Dec.{eqb, ltb}
+use Prim.Native.Nat.{_-_, suc, zero, ℕ}
+use lib.Bits.{bitOr}
+use lib.Dec.{ltb}
 use lib.IntN.{pos}
 use lib.ListN.{getD}
 use Rattle.csl.specs.Lists.{_>>=_, at}
-use Rattle.csl.specs.Parties.{bit, bitsFrom, bitsOf, member, sameSet}
-use Rattle.csl.specs.Syntax.{Agreement, Join, and, or}
+use Rattle.csl.specs.Parties.{bitsOf, sameSet}
+use Rattle.csl.specs.Syntax.{Join, and, or}
 use Rattle.csl.specs.Values.{Val}
 use Rattle.csl.specs.Outcomes.{Outcome, Sight, Sort, breach, done, earlier, joinBoth, joinEither, joined, later}
 use Rattle.csl.specs.Outcomes.{orStuck, running, stuck}
 use Rattle.csl.specs.Rules.{blamed, blamedAll}
 use Rattle.csl.specs.Table.{cellOf, cellsOf, natCells, residueCells, sortNumber, unitCells}
 use Rattle.csl.specs.Demand3.{NotStuck}
-use Rattle.soundness.proofs.Inversion.{from-bind, some-bind, some-inj}
-use Rattle.soundness.proofs.Good.{Good}
+use Rattle.laws.proofs.Options.{from-bind, some-bind, some-inj, none-some}
+use Rattle.laws.proofs.PartyBits.{bits-append}
 use Rattle.cells.specs.Reduce as cells
-use Rattle.bridge.proofs.Evaluate.{nothing}
 
 -- fulfilled as fulfilled, a breach with its parties by bit, a residue as the table holds it; nothing shows a stuck
 -- outcome
@@ -35,59 +33,10 @@ pub shows-bind : {A : Type 0} (m : Option A) (f : A → Option Outcome) (x : A) 
     → Shows (orStuck (f x)) r → Shows (orStuck (m >>= f)) r
 shows-bind m f x r e s = subst (λ o. Shows (orStuck o) r) (sym (some-bind m f x e)) s
 
-pub good-moves : (ag : Agreement) (W : ℕ → Type 0) (P : List ℕ) (o : Outcome) → Good ag W P o → NotStuck o
-unfolding Good NotStuck
-good-moves ag W P done g = tt
-good-moves ag W P (breach t ps) g = tt
-good-moves ag W P (running r) g = tt
-good-moves ag W P stuck g = g
-
--- ---- the bits of two sets together
-half-digit : (b : Bool) (m : ℕ) → (bit b + 2 * m) / 2 ≡ m
-unfolding bit
-half-digit true m = omega arith
-half-digit false m = omega arith
-
-low-digit : (b : Bool) (m : ℕ) → (bit b + 2 * m) % 2 ≡ bit b
-unfolding bit
-low-digit true m = omega arith
-low-digit false m = omega arith
-
-digit : (x y : Bool) (r : ℕ) → r * 2 + max (bit x) (bit y) ≡ bit (x || y) + 2 * r
-unfolding bit
-digit true true r = omega arith
-digit true false r = omega arith
-digit false true r = omega arith
-digit false false r = omega arith
-
-or-digits : (x y : Bool) (m n : ℕ) → bitOr (bit x + 2 * m) (bit y + 2 * n) ≡ bit (x || y) + 2 * bitOr m n
-or-digits x y m n =
-    or-step (bit x + 2 * m) (bit y + 2 * n)
-    ∙ ap₂ (λ (r c : ℕ). r * 2 + c) (ap₂ bitOr (half-digit x m) (half-digit y n))
-    (ap₂ max (low-digit x m) (low-digit y n))
-    ∙ digit x y (bitOr m n)
-
-member-++ : (i : ℕ) (ps qs : List ℕ) → member i (ps ++ qs) ≡ (member i ps || member i qs)
-unfolding member
-member-++ i [] qs = refl
-member-++ i (p ∷ ps) qs = go (eqb i p) (member-++ i ps qs)
-  where
-    go : (b : Bool) → member i (ps ++ qs) ≡ (member i ps || member i qs)
-        → (b || member i (ps ++ qs)) ≡ ((b || member i ps) || member i qs)
-    go true e = refl
-    go false e = e
-
-bits-++ : (k i : ℕ) (ps qs : List ℕ) → bitsFrom k i (ps ++ qs) ≡ bitOr (bitsFrom k i ps) (bitsFrom k i qs)
-unfolding bitsFrom
-bits-++ zero i ps qs = refl
-bits-++ (suc k) i ps qs =
-    ap₂ (λ b r. bit b + 2 * r) (member-++ i ps qs) (bits-++ k (suc i) ps qs)
-    ∙ sym (or-digits (member i ps) (member i qs) (bitsFrom k (suc i) ps) (bitsFrom k (suc i) qs))
-
 -- the bits of two sets together are the bits of each, joined
 pub bits-or : (ps qs : List ℕ) → bitsOf (ps ++ qs) ≡ bitOr (bitsOf ps) (bitsOf qs)
 unfolding bitsOf
-bits-or ps qs = bits-++ 16 0 ps qs
+bits-or ps qs = bits-append 16 0 ps qs
 
 -- ---- joins
 earlier-shows : (t u : ℕ) (ps qs : List ℕ) → Shows (earlier t ps u qs) (cells.earlier t (bitsOf ps) u (bitsOf qs))
@@ -155,7 +104,7 @@ joined-shows or stuck r l′ r′ n p q = p
 -- ---- blames
 at-natCell : (ps : List ℕ) (i p : ℕ) → at ps i ≡ some p → getD (natCells ps) i (pos 0) ≡ pos p
 unfolding at natCells
-at-natCell [] i p e = nothing e
+at-natCell [] i p e = none-some e
 at-natCell (q ∷ ps) zero p e = ap pos (some-inj e)
 at-natCell (q ∷ ps) (suc i) p e = at-natCell ps i p e
 

@@ -4,7 +4,6 @@ use mathlib.Core.Path.{ap, refl, _∙_, _≡_}
 use Prim.Native.Nat.{_*_, _/_, ℕ}
 use native.Mathlib.Omega.{arith}
 use lib.Dec.{ltb}
-use lib.IntN.{ℤ}
 use lib.ListN.{length}
 use Rattle.csl.specs.Syntax.{Agreement}
 use Rattle.csl.specs.Outcomes.{Outcome, Residue, breach, done, running, stuck, units}
@@ -15,6 +14,7 @@ use Rattle.soundness.proofs.Good.{Good, Ok}
 use Rattle.soundness.proofs.Runs.{cells-len, runAt, tooMany-is}
 use Rattle.cells.specs.Reduce.{Reduced}
 use Rattle.cells.specs.Reduce as cells
+use Rattle.cells.specs.Tables.{reducedTable}
 use Rattle.bridge.proofs.Shows.{Shows}
 
 -- the units that an outcome needs
@@ -22,12 +22,6 @@ unfoldable pub unitsIn : Reduced → ℕ
 unitsIn cells.done = 0
 unitsIn (cells.breach t b) = 0
 unitsIn (cells.running us) = length us / 24
-
--- the table of a run with this outcome and this last reading time
-unfoldable pub reducedTable : ℕ → Reduced → List ℤ
-reducedTable now cells.done = padded 3080 (headCells 2 now 0 0 0)
-reducedTable now (cells.breach t b) = padded 3080 (headCells 3 now t b 0)
-reducedTable now (cells.running us) = padded 3080 (headCells 1 now 0 0 (length us / 24) ++ us)
 
 module _ (ag : Agreement) (W : ℕ → Type 0) where
   units-are : (res : Residue) (ps : List ℕ) → Ok ag W res ps → units res ≡ length (residueCells res) / 24

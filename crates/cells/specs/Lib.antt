@@ -1,3 +1,4 @@
 pub mod Evaluate
 pub mod Reduce
 pub mod Across
+pub mod Tables

@@ -8,13 +8,13 @@ use borrow.Author.Tests.{not-true, not-false}
 use borrow.Author.Needs.{needs}
 use lib.ListN.{length}
 use Rattle.csl.specs.Lists.{all}
-use Rattle.csl.specs.Bytes.{byte, part, recordEnd}
-use Rattle.csl.specs.Decode.{Piece, pieces, recordsEnd, templatesPlace, templatePieces, bodyPlace, bodyOf, mainPlace}
-use Rattle.csl.specs.Decode.{mainOf, clause, whole, headsOf, listed, wellFormed}
+use Rattle.csl.specs.Bytes.{byte, part}
+use Rattle.csl.specs.Decode.{Piece, pieces, recordsEnd, templatesPlace, templatePieces, bodyOf, mainPlace, mainOf}
+use Rattle.csl.specs.Decode.{clause, whole, headsOf, listed, wellFormed}
 use Rattle.records.specs.Index.{templatePlace, templatePiece, Spans}
 use Rattle.records.proofs.Index.{piece, pieces-more, pieces-none, body-is}
 use Rattle.formed.specs.Tests.{bodiesWhole}
-use Rattle.formed.proofs.Exprs.{both-on, both-off}
+use Rattle.laws.proofs.Bools.{true-first, false-first}
 use Rattle.formed.proofs.Clauses.{whole-place}
 
 -- ---- the body of template k; from and to are what a call gave
@@ -73,7 +73,7 @@ pub main-is : (s : List ℕ) {r : Bool} {m : ℕ} → m ≡ mainPlace s
 unfolding mainOf
 main-is s p h = h ∙ rw p (whole-place (headsOf s) 23 0 (mainPlace s) (part s (mainPlace s) (length s)))
 
-pub ruleset mains = (main-is, both-on, both-off, needs)
+pub ruleset mains = (main-is, true-first, false-first, needs)
 
 -- ---- an agreement; x is what `fill_index` answered
 module _ (s : List ℕ) {x r : Bool} (p : x ≡ listed s) where

@@ -1,6 +1,6 @@
 -- Whether the tree of a clause is whole, by what the code found of its record.
 use mathlib.Core.Path.{_≡_, refl, sym, _∙_}
-use mathlib.Core.Bool.{Bool, true, false, cond, _&&_}
+use mathlib.Core.Bool.{Bool, true, false, cond, _&&_, and-true, and-false, and-assoc}
 use mathlib.Core.List.{List}
 use mathlib.Core.Option.{Option, none, some}
 use Prim.Native.Nat.{ℕ, zero, suc, _+_, _-_, _≤_, _<_}
@@ -22,7 +22,7 @@ use Rattle.records.proofs.Trees.{clause-zero, clause-none, clause-at, clause-wa
 use Rattle.records.proofs.Trees.{kind-instance, kind-no-clause-low, kind-no-clause-from}
 use Rattle.records.proofs.Index.{heads-at, heads-past}
 use Rattle.formed.specs.Tests.{testsWhole, argumentsWhole}
-use Rattle.formed.proofs.Exprs.{walking, both-within, nothing}
+use Rattle.formed.proofs.Exprs.{walking, nothing}
 
 -- ---- where a clause stands does not matter
 module _ (hs : List Head) where
@@ -71,8 +71,8 @@ sides : (a b : Bool) (w : Wait) (e : Expr) (j : Join) (t f : Clause)
     → whole (cond a (choice w t f) (cond b (if e t f) (join j t f))) ≡
     (cond a (wholeWait w) (cond b (wholeExpr e) true) && (whole t && whole f))
 unfolding whole
-sides true b w e j t f = both-within (wholeWait w) (whole t) (whole f)
-sides false true w e j t f = both-within (wholeExpr e) (whole t) (whole f)
+sides true b w e j t f = and-assoc (wholeWait w) (whole t) (whole f)
+sides false true w e j t f = and-assoc (wholeExpr e) (whole t) (whole f)
 sides false false w e j t f = refl
 
 tests-sides : (e : List ℕ → Expr) (s : List ℕ) (k : ℕ) (t f : Clause) → 18 ≤ k
@@ -121,14 +121,6 @@ module _ (hs : List Head) (d : ℕ) (s : List ℕ) {b : Bool} {k : ℕ} (n : d �
   no-clause-high x l = clause-at whole hs d 0 s n g h m (rw (kind-no-clause-from k x l))
 
 -- ---- an instance
-and-true : (x : Bool) → (x && true) ≡ x
-and-true true = refl
-and-true false = refl
-
-and-false : (x : Bool) → (x && false) ≡ false
-and-false true = refl
-and-false false = refl
-
 counted : (t : Bool) (k : ℕ) (es : List Expr) (bs : List ℕ)
     → (all wholeExpr es && t) ≡ whole (cond t (instance k es bs) badClause)
 unfolding whole

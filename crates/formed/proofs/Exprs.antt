@@ -1,6 +1,6 @@
 -- Whether the tree of an expression is whole, by what the code found of its record.
 use mathlib.Core.Path.{_≡_, refl, sym, _∙_}
-use mathlib.Core.Bool.{Bool, true, false, cond, _&&_}
+use mathlib.Core.Bool.{Bool, true, false, cond, _&&_, and-assoc}
 use mathlib.Core.List.{List}
 use Prim.Native.Nat.{ℕ, zero, suc, _+_, _-_, _≤_, _<_, min}
 use native.Mathlib.Numerals.{sub-one}
@@ -12,25 +12,15 @@ use lib.ListN.{length}
 use Rattle.csl.specs.Lists.{all}
 use Rattle.csl.specs.Bytes.{byte, signed32, part, isRecord, kindNumber, recordEnd}
 use Rattle.csl.specs.Syntax.{Expr, numberLit, truthLit, partyLit, variable, badExpr}
-use Rattle.csl.specs.Decode.{truthKind, partyKind, variableKind, exprKind, ofLength, exprBody, expr}
-use Rattle.csl.specs.Decode.{wholeExpr, waitAt, wholeWait, recordsEnd, arguments}
+use Rattle.csl.specs.Decode.{truthKind, partyKind, variableKind, exprKind, ofLength, exprBody, expr, wholeExpr}
+use Rattle.csl.specs.Decode.{waitAt, wholeWait, recordsEnd, arguments}
 use Rattle.formed.specs.Tests.{argumentsWhole}
+use Rattle.laws.proofs.Bools.{true-first, false-first}
 use Rattle.arith.proofs.Bytes.{whole-from, record-no, record-end-within}
 use Rattle.arith.proofs.Lists.{length-part}
 use Rattle.records.proofs.Trees.{expr-zero, expr-none, expr-at, kind-number, kind-leaf, kind-not, kind-binary}
 use Rattle.records.proofs.Trees.{kind-no-expr-low, kind-no-expr-high}
 use Rattle.records.specs.Kinds.{leafKind}
-
--- ---- `x && y`
-pub both-on : (a b : Bool) {x y : Bool} → x ≡ a → x ≡ true → y ≡ b → y ≡ (a && b)
-both-on a b p q r = r ∙ rw (sym p ∙ q)
-
-pub both-off : (a b : Bool) {x r : Bool} → x ≡ a → x ≡ false → r ≡ false → r ≡ (a && b)
-both-off a b p q h = h ∙ rw (sym p ∙ q)
-
-pub both-within : (a b c : Bool) → ((a && b) && c) ≡ (a && (b && c))
-both-within true b c = refl
-both-within false b c = refl
 
 -- ---- the parts within a record lie within its bytes
 pub record-room : (s : List ℕ) {b : Bool} → b ≡ isRecord s → b ≡ true → 4 ≤ length s
@@ -94,7 +84,7 @@ module _ (i : List ℕ → Expr) (s : List ℕ) where
     unfolding exprBody wholeExpr
     no-expr-high l = rw (kind-no-expr-high k l)
 
-pub ruleset walking = (both-on, both-off, record-room, end-room, not-true, not-false, needs)
+pub ruleset walking = (true-first, false-first, record-room, end-room, not-true, not-false, needs)
 
 pub ruleset exprs = (
   no-depth,
@@ -133,7 +123,7 @@ module _ (d : ℕ) (s : List ℕ) (i : ℕ) where
       && (wholeExpr (expr d (part s a b)) && wholeExpr (expr d (part s b e)))) → r ≡ wholeWait (waitAt (expr d) 0 s i)
   unfolding wholeWait waitAt
   wait-whole p q t h = h ∙ rw (t, q, p) (sym
-      (both-within (wholeExpr (expr d (part s (i + 1) (recordEnd s (i + 1))))) _ _))
+      (and-assoc (wholeExpr (expr d (part s (i + 1) (recordEnd s (i + 1))))) _ _))
 
 -- ---- an instance's arguments, and where they end
 pub arguments-none : (d : ℕ) (s : List ℕ) (i n m : ℕ) → n ≡ 0 → eqb (i + m) (length s) ≡ argumentsWhole d s i n m
@@ -145,7 +135,7 @@ pub arguments-more : (d : ℕ) (s : List ℕ) (i n m : ℕ) {r : Bool} {e : ℕ}
 unfolding all arguments recordsEnd
 arguments-more d s i zero m f p h = absurd (f refl)
 arguments-more d s i (suc n) m f p h = h
-    ∙ rw (p, sub-one) (sym (both-within (wholeExpr (expr d (part s i (recordEnd s i)))) _ _))
+    ∙ rw (p, sub-one) (sym (and-assoc (wholeExpr (expr d (part s i (recordEnd s i)))) _ _))
 
 pub ruleset waits = (wait-short, wait-whole, walking)
 

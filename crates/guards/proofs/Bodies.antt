@@ -1,21 +1,23 @@
 -- Laws for the clauses of a well-formed agreement: its main clause, and its templates' bodies one after another.
-use mathlib.Core.Path.{_≡_, refl, sym, ap, _∙_}
+use mathlib.Core.Path.{_≡_, sym, ap, _∙_}
 use mathlib.Core.Bool.{Bool, true, false, not, _&&_}
 use mathlib.Core.List.{List, [], _∷_, _++_, map}
 use Prim.Native.Nat.{ℕ, suc, _+_, _-_, _<_, _≤_}
 use native.Mathlib.Numerals.{add-one}
 use native.Mathlib.Omega.{arith}
+use borrow.Author.Tests.{not-true, not-false}
 use lib.ListN.{length}
 use Rattle.csl.specs.Lists.{all}
 use Rattle.csl.specs.Bytes.{byte, part}
 use Rattle.csl.specs.Syntax.{Clause, Template}
-use Rattle.csl.specs.Decode.{whole, clause, pieces, recordsEnd, templatesPlace, mainPlace, templatePieces, headsOf, mainOf}
-use Rattle.csl.specs.Decode.{bodyOf, templateOf, agreementOf, listed, wellFormed}
+use Rattle.csl.specs.Decode.{whole, clause, pieces, recordsEnd, templatesPlace, mainPlace, templatePieces, headsOf}
+use Rattle.csl.specs.Decode.{mainOf, bodyOf, templateOf, agreementOf, listed, wellFormed}
 use Rattle.csl.specs.Guards.{guardedIn, guardedFrom}
 use Rattle.csl.specs.Widths.{width, widthsFrom}
 use Rattle.records.specs.Index.{templatePlace, Spans}
-use Rattle.records.proofs.Index.{T-both, T-true, true-T, piece, all-pieces, pieces-more, body-is}
-use Rattle.guards.specs.Walk.{Formed, Answers, bodyAt}
+use Rattle.records.proofs.Index.{piece, all-pieces, pieces-more, body-is}
+use Rattle.guards.specs.Walk.{Formed, Answers, bodyAt, Spans}
+use Rattle.laws.proofs.Bools.{both-true, T→true, true→T}
 
 -- ---- the main clause and each body are whole
 module _ (s : List ℕ) (x : wellFormed s ≡ true) where
@@ -24,11 +26,11 @@ module _ (s : List ℕ) (x : wellFormed s ≡ true) where
   main-whole =
       let a = listed s in
       let b = whole (mainOf s) in
-      T-both (a && b) _ (true-T x) λ t u. T-both a b t λ v w. T-true b w
+      both-true (a && b) _ (true→T x) λ t u. both-true a b t λ v w. T→true b w
 
   body-whole : (k : ℕ) → k < byte s 10 → whole (bodyAt s k) ≡ true
   unfolding wellFormed templatePieces bodyAt
-  body-whole k l = T-both (listed s && whole (mainOf s)) _ (true-T x) λ t u. T-true _
+  body-whole k l = both-true (listed s && whole (mainOf s)) _ (true→T x) λ t u. T→true _
       (all-pieces (λ q. whole (bodyOf (headsOf s) q)) (byte s 10) s (templatesPlace s) k u l)
 
   pub main-formed : {a : ℕ} → a ≡ mainPlace s → Formed 23 (part s a (length s))
@@ -97,14 +99,6 @@ module _ (s : List ℕ) (k : ℕ) (l : byte s 10 ≤ k) where
   all-last p = rw (from-last s k l)
 
 -- ---- a loop over the templates: t is what all of them say, a what one says, and x what the code found of it
-not-true : (x : Bool) → not x ≡ true → x ≡ false
-not-true true e = sym e
-not-true false e = refl
-
-not-false : (x : Bool) → not x ≡ false → x ≡ true
-not-false true e = refl
-not-false false e = sym e
-
 module _ (a b : Bool) {t x : Bool} (e : t ≡ (a && b)) (f : x ≡ a) where
   pub loop-stops : not x ≡ true → false ≡ t
   loop-stops q = sym (e ∙ rw (sym f ∙ not-true x q))

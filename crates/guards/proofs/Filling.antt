@@ -13,8 +13,8 @@ use Rattle.csl.specs.Bytes.{byte}
 use Rattle.csl.specs.Syntax.{Clause, fulfilled, obligation, choice, if, join, instance, badClause, Template}
 use Rattle.csl.specs.Decode.{agreementOf, mainOf}
 use Rattle.csl.specs.Widths.{orZero, width, widthsFrom, narrow, thensNarrow, allNarrow, narrowAll}
+use Rattle.laws.proofs.Bools.{false-first, true-first}
 use Rattle.guards.specs.Walk.{counted, AsWide, bodyAt}
-use Rattle.guards.proofs.Walks.{false-first, true-first}
 use Rattle.guards.proofs.Wide.{at-getD, sat, leb-min}
 use Rattle.guards.proofs.Bodies.{templatesFrom, from-first, from-last, widths-next}
 
@@ -131,7 +131,7 @@ module _ (s ys : List ℕ) (h : AsWide (widthsFrom [] (agreementOf s .templates)
   narrow-by = rw (all-same _ ys h (mainOf s), bodies-same _ ys h (agreementOf s .templates))
 
   pub narrow-off : x ≡ false → x ≡ narrowAll (agreementOf s)
-  narrow-off q = false-first _ _ e q ∙ sym narrow-by
+  narrow-off q = false-first _ _ e q q ∙ sym narrow-by
 
   pub narrow-on : {y : Bool} → x ≡ true → y ≡ all (λ t. allNarrow ys (t .body)) (agreementOf s .templates)
       → y ≡ narrowAll (agreementOf s)

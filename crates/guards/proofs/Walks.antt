@@ -11,42 +11,22 @@ use borrow.Author.Tests.{ne-eqb}
 use lib.Dec.{eqb}
 use lib.ListN.{length}
 use Rattle.csl.specs.Lists.{at}
-use Rattle.csl.specs.Bytes.{byte, part, isRecord, kindNumber, recordEnd}
+use Rattle.csl.specs.Bytes.{byte, part, kindNumber, recordEnd}
 use Rattle.csl.specs.Syntax.{Expr, Wait, Head, Clause, Join, fulfilled, obligation, choice, if, join, instance}
 use Rattle.csl.specs.Syntax.{badClause}
 use Rattle.csl.specs.Decode.{expr, waitAt, joinOf, clauseKind, clauseBody, clause, whole, wholeWait, wholeExpr}
 use Rattle.csl.specs.Decode.{instanceOf, recordsEnd, arguments}
+use Rattle.laws.proofs.Bools.{true→T, and-left, and-right, false-first, true-first}
 use Rattle.arith.proofs.Bytes.{whole-from}
 use Rattle.records.specs.Index.{firstClause}
-use Rattle.records.proofs.Trees.{sided, clause-zero, clause-none, clause-at, clause-wait, clause-two, kind-fulfilled}
+use Rattle.records.proofs.Trees.{sided, clause-at, clause-wait, clause-two, kind-fulfilled, whole-deep, whole-record}
 use Rattle.records.proofs.Trees.{kind-instance, kind-no-clause-low, kind-no-clause-high}
 use Rattle.guards.specs.Walk.{Formed, Answers}
 
-and-left : (a b : Bool) → (a && b) ≡ true → a ≡ true
-and-left true b e = refl
-and-left false b e = e
-
-and-right : (a b : Bool) → (a && b) ≡ true → b ≡ true
-and-right true b e = e
-and-right false b e = absurd (false≢true e)
-
 -- ---- a whole clause has a depth left, and is a record
-module _ (hs : List Head) (d p : ℕ) (s : List ℕ) (w : whole (clause hs d p s) ≡ true) where
-  whole-deep : d ≡ 0 → ⊥
-  unfolding whole
-  whole-deep e = false≢true (clause-zero whole hs d p s e refl ∙ w)
-
-  whole-record : isRecord s ≡ true
-  unfolding whole
-  whole-record = test (isRecord s) refl
-    where
-      test : (b : Bool) → b ≡ isRecord s → isRecord s ≡ true
-      test true e = sym e
-      test false e = absurd (false≢true (clause-none whole hs d p s whole-deep e refl refl ∙ w))
-
 module _ {d : ℕ} {s : List ℕ} (x : Formed d s) where
   pub deep : d ≡ 0 → ⊥
-  deep = whole-deep (x .heads) d (x .place) s (x .formed)
+  deep = whole-deep (x .heads) d (x .place) s (true→T (x .formed))
 
   pub some-depth : 1 ≤ d
   some-depth = let p : d ≡ 0 → ⊥ = deep in omega arith
@@ -55,7 +35,7 @@ module _ {d : ℕ} {s : List ℕ} (x : Formed d s) where
   less-deep e = let p : d ≡ 0 → ⊥ = deep in omega arith
 
   pub room : 4 ≤ length s
-  room = whole-from s (whole-record (x .heads) d (x .place) s (x .formed)) .room
+  room = whole-from s (whole-record (x .heads) d (x .place) s (true→T (x .formed))) .room
 
 pub ruleset formed = (deep, some-depth, less-deep, room)
 
@@ -84,14 +64,16 @@ module _ (hs : List Head) (d p : ℕ) (s : List ℕ) (w : whole (clause hs d p s
     unfolding whole
     then-whole {c} e i =
         and-right (wholeWait (waitAt (expr (d - 1)) p s 5)) _
-        (clause-wait whole hs d p s (whole-deep hs d p s w) (sym (whole-record hs d p s w)) refl k e i refl ∙ w)
+        (clause-wait whole hs d p s (whole-deep hs d p s (true→T w)) (sym (whole-record hs d p s (true→T w))) refl k e i
+        refl ∙ w)
 
     two-whole : {c z : ℕ} → 18 ≤ m → m < 22 → c ≡ firstClause m s → z ≡ recordEnd s c
         → (whole (clause hs (d - 1) (p + c) (part s c z)) ≡ true)
         × (whole (clause hs (d - 1) (p + z) (part s z (length s))) ≡ true)
     two-whole {c} {z} l u i j =
         sided-whole (expr (d - 1)) p s m _ _
-        (clause-two whole hs d p s (whole-deep hs d p s w) (sym (whole-record hs d p s w)) refl k l u i j refl ∙ w)
+        (clause-two whole hs d p s (whole-deep hs d p s (true→T w)) (sym (whole-record hs d p s (true→T w))) refl k l u
+        i j refl ∙ w)
 
 module _ {d : ℕ} {s : List ℕ} (x : Formed d s) {m c : ℕ} (k : m ≡ kindNumber s) (i : c ≡ firstClause m s) where
   pub formed-then : m ≡ 17 → Formed (d - 1) (part s c (length s))
@@ -135,7 +117,7 @@ module _ {A : Type 0} (f : Clause → A) (d : ℕ) (s : List ℕ) {m : ℕ} {r :
       → Answers f d s r
   answers-then {c} P e i a h = record {
     is = λ hs p w.
-        clause-wait f hs d p s (whole-deep hs d p s w) (sym (whole-record hs d p s w)) refl k e i
+        clause-wait f hs d p s (whole-deep hs d p s (true→T w)) (sym (whole-record hs d p s (true→T w))) refl k e i
         (h (byte s 4) (waitAt (expr (d - 1)) p s 5) (clause hs (d - 1) (p + c) (part s c (length s)))
         (a hs (p + c) (then-whole hs d p s w k e i)));
   }
@@ -146,7 +128,7 @@ module _ {A : Type 0} (f : Clause → A) (d : ℕ) (s : List ℕ) {m : ℕ} {r :
   answers-two {c} {z} P Q l u i j a b h = record {
     is = λ hs p w.
         let v = two-whole hs d p s w k l u i j in
-        clause-two f hs d p s (whole-deep hs d p s w) (sym (whole-record hs d p s w)) refl k l u i j
+        clause-two f hs d p s (whole-deep hs d p s (true→T w)) (sym (whole-record hs d p s (true→T w))) refl k l u i j
         (h (expr (d - 1)) p (clause hs (d - 1) (p + c) (part s c z)) (clause hs (d - 1) (p + z) (part s z (length s)))
         (a hs (p + c) (v .0)) (b hs (p + z) (v .1)));
   }
@@ -157,8 +139,8 @@ module _ {A : Type 0} (f : Clause → A) (d : ℕ) (s : List ℕ) {m : ℕ} {r :
       → r ≡ f (clauseBody hs (expr (d - 1)) (clause hs (d - 1)) p s (clauseKind m))) → Answers f d s r
   answers-at h = record {
     is = λ hs p w.
-        let g = sym (whole-record hs d p s w) in
-        let n = whole-deep hs d p s w in
+        let g = sym (whole-record hs d p s (true→T w)) in
+        let n = whole-deep hs d p s (true→T w) in
         clause-at f hs d p s n g refl k (h hs p (clause-at whole hs d p s n g refl k refl ∙ w));
   }
 
@@ -214,13 +196,6 @@ sided-same f e p s m t u {r} l g h = rw (ne-eqb m 18 l) (go (eqb m 19))
     go true = g (e (part s 4 (recordEnd s 4)))
     go false = h (joinOf m)
 
--- ---- `x && y`: x is tried first
-pub false-first : (a b : Bool) {x : Bool} → x ≡ a → x ≡ false → x ≡ (a && b)
-false-first a b p q = q ∙ rw (sym p ∙ q)
-
-pub true-first : (a b : Bool) {x y : Bool} → x ≡ a → x ≡ true → y ≡ b → y ≡ (a && b)
-true-first a b p q r = r ∙ rw (sym p ∙ q)
-
 -- f asks the same of both sides of kinds 19 to 21
 pub record Both (f : Clause → Bool) : Type 0 where
   pub of-if : (e : Expr) (t u : Clause) → (f t && f u) ≡ f (if e t u)
@@ -237,7 +212,7 @@ module _ (f : Clause → Bool) (d : ℕ) (s : List ℕ) {m c z : ℕ} {x : Bool}
       sided-same f e p s m t u l (λ y. q ∙ v .of-if y t u) (λ y. q ∙ v .of-join y t u))
 
   pub both-off : x ≡ false → Answers f d s x
-  both-off q = both-by (λ u. Unit {0}) (λ hs p w. tt) (λ t u e n. false-first (f t) (f u) e q)
+  both-off q = both-by (λ u. Unit {0}) (λ hs p w. tt) (λ t u e n. false-first (f t) (f u) e q q)
 
   pub both-on : {y : Bool} → x ≡ true → Answers f (d - 1) (part s z (length s)) y → Answers f d s y
   both-on {y} q b = both-by (λ u. y ≡ f u) (b .is) (λ t u e n. true-first (f t) (f u) e q n)

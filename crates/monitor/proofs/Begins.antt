@@ -12,9 +12,10 @@ use Rattle.csl.specs.Bytes.{byte, le32, part}
 use Rattle.csl.specs.Decode.{agreementOf, mainOf, mainPlace, sized, between}
 use Rattle.csl.specs.Table.{tableLength}
 use Rattle.csl.specs.Entries.{startOf}
+use Rattle.laws.proofs.Bools.{both-true}
 use Rattle.soundness.proofs.Checked.{passed}
 use Rattle.records.specs.Index.{Indexed}
-use Rattle.records.proofs.Index.{T-both, templates-length}
+use Rattle.records.proofs.Index.{templates-length}
 use Rattle.cells.specs.Reduce as cells
 use Rattle.arith.proofs.Lists.{length-part}
 use Rattle.bridge.proofs.Entries.{keptCells, start-reduce}
@@ -25,6 +26,12 @@ use Rattle.activation.specs.declared.Site.{Site}
 use Rattle.waits.specs.declared.Step.the-variants.{Activate}
 use Rattle.residues.specs.declared.Reduced.{Reduced}
 use Rattle.monitor.specs.declared.Refusal.the-variants.{Units}
+use Rattle.rules.specs.Reduces.{Is}
+use Rattle.rules.specs.Leads.{Ready, Fits, reduceAt, reduceBelow}
+use Rattle.rules.specs.declared.Event.{Event}
+use Rattle.rules.specs.declared.Site.{Site}
+use Rattle.rules.specs.declared.Step.the-variants.{Activate}
+use Rattle.rules.specs.declared.Reduced.{Reduced}
 use Rattle.monitor.specs.declared.Started.the-variants.{Begun, Refused as refusedStart}
 use Rattle.monitor.specs.Answers.{startAnswer}
 use Rattle.monitor.specs.Steps.{Goes, mainReduced, Due, reduced, advanced, Advances}
@@ -32,8 +39,8 @@ use Rattle.monitor.specs.Steps.{Goes, mainReduced, Due, reduced, advance
 -- ---- an accepted agreement is short
 pub short : {s places : List ℕ} {p : ℕ} → Goes s places p → length s ≤ 16_384
 unfolding sized between
-short {s = s} g = T-both (between 4 16_384 (length s)) _
-    ((passed s (agreementOf s) (g .mains) (g .isAccepted)) .sized) λ a b. T-both (leb 4 (length s))
+short {s = s} g = both-true (between 4 16_384 (length s)) _
+    ((passed s (agreementOf s) (g .mains) (g .isAccepted)) .sized) λ a b. both-true (leb 4 (length s))
     (leb (length s) 16_384) a λ c d. leb→le (length s) 16_384 d
 
 -- ---- the main clause's activation

@@ -1,23 +1,25 @@
 -- Laws for `verify`: what each test says of csl's check.
-use mathlib.Core.Path.{_≡_, refl, sym, _∙_, subst}
+use mathlib.Core.Path.{_≡_, refl, sym, _∙_}
 use mathlib.Core.Bool.{Bool, true, false, not}
 use mathlib.Core.List.{List}
 use mathlib.Core.Option.{Option, none, some}
-use Prim.Native.Nat.{ℕ, zero, suc, _+_, _*_, _<_}
+use Prim.Native.Nat.{ℕ}
 use native.Mathlib.Omega.{arith}
 use borrow.Author.Tests.{not-true, not-false}
-use lib.Dec.{T}
-use Rattle.csl.specs.Parties.{member, bit, bitsFrom, bitsOf}
+use Rattle.csl.specs.Parties.{bitsOf}
 use Rattle.csl.specs.Decode.{sized, wellFormed, agreementOf, decode}
 use Rattle.csl.specs.Typing.{typed}
 use Rattle.csl.specs.Guards.{guardedFrom}
 use Rattle.csl.specs.Widths.{narrowAll}
 use Rattle.csl.specs.Check as csl
 use Rattle.csl.specs.Check.{checked, checkTyped, checkDecoded, checkOf, refused, accepted}
-use Rattle.soundness.proofs.Members.{In, member→in}
+use Rattle.laws.proofs.Bools.{elim-false, elim-true, true→T}
+use Rattle.laws.proofs.Clash.{impossible}
 use Rattle.soundness.proofs.Checked.{passed, fair}
+use Rattle.soundness.proofs.Members.{member→in}
 use Rattle.soundness.proofs.Runs.{main-in}
 use Rattle.parties.specs.Masks.{maskOf}
+use Rattle.parties.proofs.Masks.{mask-bits}
 use Rattle.records.specs.Index.{Indexed}
 use Rattle.typing.specs.declared.Typed.{Typed}
 use Rattle.typing.specs.declared.Typed.the-variants.{Parties, Untyped}
@@ -31,40 +33,21 @@ use Rattle.monitor.specs.Steps.{Goes, Verified}
 pub untyped : (o : Option (List ℕ)) → Untyped ≡ typedAs o → o ≡ none
 unfolding typedAs
 untyped none e = refl
-untyped (some ps) e = let z : _≡_ {A = ℕ} 0 1 = cc in absurd (omega arith)
+untyped (some ps) e = impossible cc
 
 pub typed-mask : (o : Option (List ℕ)) (p : ℕ) → Parties p ≡ typedAs o → (ps : List ℕ) × (o ≡ some ps) × (p ≡ maskOf ps)
 unfolding typedAs
-typed-mask none p e = let z : _≡_ {A = ℕ} 0 1 = cc in absurd (omega arith)
+typed-mask none p e = impossible cc
 typed-mask (some ps) p e = (ps, refl, cc)
 
 -- ---- the main clause has no party parameters: its mask is its parties' bits
-no-bits : (k i : ℕ) (ps : List ℕ) → ((q : ℕ) → In q ps → q < i) → bitsFrom k i ps ≡ 0
-unfolding bitsFrom bit
-no-bits zero i ps h = refl
-no-bits (suc k) i ps h = go (member i ps) refl (no-bits k (suc i) ps (λ q m. omega (arith, h q m)))
-  where
-    go : (b : Bool) → member i ps ≡ b → bitsFrom k (suc i) ps ≡ 0 → bit b + 2 * bitsFrom k (suc i) ps ≡ 0
-    go true e r = absurd (omega (arith, h i (member→in i ps (subst T (sym e) tt))))
-    go false e r = omega arith
-
-pub mask-bits : (ps : List ℕ) → ((q : ℕ) → In q ps → q < 16) → maskOf ps ≡ bitsOf ps
-unfolding maskOf
-mask-bits ps h = omega (arith, no-bits 4 128 ps (λ q m. omega (arith, h q m)))
-
 pub main-bits : (s mains : List ℕ) → checked s ≡ accepted (agreementOf s) mains → maskOf mains ≡ bitsOf mains
 main-bits s mains e =
     let f = fair s (agreementOf s) mains (passed s (agreementOf s) mains e) in
-    mask-bits mains (λ q m. omega (arith, main-in (agreementOf s) mains f q m, f .few))
+    mask-bits mains (λ q m. omega
+    (arith, main-in (agreementOf s) mains f q (member→in q mains (true→T m)), f .few))
 
 -- ---- a definition by a test, or by whether something is there
-module _ {A : Type 0} (x y : A) where
-  test-no : (b : Bool) → b ≡ false → (elim b [ false ↦ x | true ↦ y ]) ≡ x
-  test-no b e = rw e refl
-
-  test-yes : (b : Bool) → b ≡ true → (elim b [ false ↦ x | true ↦ y ]) ≡ y
-  test-yes b e = rw e refl
-
 module _ {A B : Type 0} (x : A) (f : B → A) where
   have-none : (o : Option B) → o ≡ none → (elim o [ none ↦ x | some b ↦ f b ]) ≡ x
   have-none o e = rw e refl
@@ -74,22 +57,22 @@ module _ {A B : Type 0} (x : A) (f : B → A) where
 
 decode-no : (s : List ℕ) → wellFormed s ≡ false → decode s ≡ none
 unfolding decode
-decode-no s e = test-no _ _ (wellFormed s) e
+decode-no s e = elim-false (wellFormed s) _ _ e
 
 decode-yes : (s : List ℕ) → wellFormed s ≡ true → decode s ≡ some (agreementOf s)
 unfolding decode
-decode-yes s e = test-yes _ _ (wellFormed s) e
+decode-yes s e = elim-true (wellFormed s) _ _ e
 
 -- ---- the tests in order, as the code makes them: `if !test { return .. }`
 module _ (s : List ℕ) {l : Bool} (le : l ≡ sized s) where
   pub length-refused : not l ≡ true → checked s ≡ refused 1
   unfolding checked
-  length-refused e = test-no _ _ (sized s) (sym le ∙ not-true l e)
+  length-refused e = elim-false (sized s) _ _ (sym le ∙ not-true l e)
 
   module _ (lt : not l ≡ false) {w : Bool} (we : w ≡ wellFormed s) where
     on : checked s ≡ elim (decode s) [ none ↦ refused 2 | some a ↦ checkDecoded a ]
     unfolding checked
-    on = test-yes _ _ (sized s) (sym le ∙ not-false l lt)
+    on = elim-true (sized s) _ _ (sym le ∙ not-false l lt)
 
     pub form-refused : not w ≡ true → checked s ≡ refused 2
     form-refused e = on ∙ have-none _ checkDecoded (decode s) (decode-no s (sym we ∙ not-true w e))
@@ -115,21 +98,21 @@ module _ (s : List ℕ) {l : Bool} (le : l ≡ sized s) where
         module _ {g : Bool} (ge : g ≡ guardedFrom 0 (agreementOf s .templates)) where
           pub guards-refused : not g ≡ true → checked s ≡ refused 4
           unfolding checkTyped
-          guards-refused e = types ∙ test-no _ _ (guardedFrom 0 (agreementOf s .templates)) (sym ge ∙ not-true g e)
+          guards-refused e = types ∙ elim-false (guardedFrom 0 (agreementOf s .templates)) _ _ (sym ge ∙ not-true g e)
 
           module _ (gt : not g ≡ false) {n : Bool} (ne : n ≡ narrowAll (agreementOf s)) where
             guards : checked s ≡ elim (narrowAll (agreementOf s))
                 [ false ↦ refused 5 | true ↦ accepted (agreementOf s) mains ]
             unfolding checkTyped
-            guards = types ∙ test-yes _ _ (guardedFrom 0 (agreementOf s .templates)) (sym ge ∙ not-false g gt)
+            guards = types ∙ elim-true (guardedFrom 0 (agreementOf s .templates)) _ _ (sym ge ∙ not-false g gt)
 
             pub width-refused : not n ≡ true → checked s ≡ refused 5
-            width-refused e = guards ∙ test-no _ _ (narrowAll (agreementOf s)) (sym ne ∙ not-true n e)
+            width-refused e = guards ∙ elim-false (narrowAll (agreementOf s)) _ _ (sym ne ∙ not-true n e)
 
             pub goes : (places : List ℕ) → (w ≡ true → Indexed places s) → not n ≡ false → Goes s places p
             unfolding mains
             goes places x e =
-                let ok = guards ∙ test-yes _ _ (narrowAll (agreementOf s)) (sym ne ∙ not-false n e) in
+                let ok = guards ∙ elim-true (narrowAll (agreementOf s)) _ _ (sym ne ∙ not-false n e) in
                 record {
                   mains = mains;
                   isAccepted = ok;

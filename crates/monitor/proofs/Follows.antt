@@ -33,6 +33,7 @@ use Rattle.places.specs.Locate.{mainsOf}
 use Rattle.bridge.proofs.Across.{follow-across}
 use Rattle.bridge.proofs.Tables as bridge
 use Rattle.bridge.proofs.Refusals.{answer}
+use Rattle.cells.specs.Tables.{reducedTable}
 use Rattle.bridge.proofs.Entries.{keptCells, reading-eight, reading-nine, reading-ten, reading-done, reading-breach}
 use Rattle.bridge.proofs.Entries.{reading-running}
 use Rattle.readings.specs.Taking.{TakenIs, UntypedRead, FittingRead}
@@ -51,8 +52,8 @@ use Rattle.monitor.specs.declared.Taken.the-variants.{Accepted as accept
 use Rattle.monitor.specs.declared.Run.{Run}
 use Rattle.monitor.specs.declared.Run.the-variants.{Running, Fulfilled, Breached}
 use Rattle.monitor.specs.Answers.{takenAnswer}
-use Rattle.monitor.specs.Steps.{ShowsRun, Opened, mainReduced, UnitsDue, DueBy, Due, reducedBy, reduced, advanced}
-use Rattle.monitor.specs.Steps.{Advances, Fitted, SomeReading, ReadAs}
+use Rattle.monitor.specs.Steps.{ShowsRun, Opened, mainReduced, UnitsDue, DueBy, Due, reducedBy, reduced}
+use Rattle.monitor.specs.Steps.{advanced, Advances, Fitted, SomeReading, ReadAs}
 use Rattle.monitor.proofs.Begins.{short}
 use Rattle.monitor.proofs.Opens.{accepts}
 use Rattle.monitor.proofs.Tabled.{founds, sighted, has-tree}
@@ -66,9 +67,6 @@ mode-as : {s bytes : List ℕ} {us : List ℤ} {e : Event} {rs : List ℤ} (f : 
     → modeAt e rs ≡ cells.following (f .reading .time) (f .reading .type) (cellsOf (f .reading .values))
 mode-as f = rw (f .follows, f .time, f .type, f .cells) refl
 
-same-number : {m n : ℕ} → pos m ≡ pos n → m ≡ n
-same-number e = cc
-
 pub time-fits : {t : ℕ} → t < 4_294_967_296 → SFits w64 (pos t)
 time-fits h = small (omega arith)
 
@@ -76,8 +74,8 @@ pub prefix-length : {n : ℕ} (values : List ℤ) → n ≤ 4 → length values 
 prefix-length {n = n} values h e = omega (arith, length-take n values)
 
 -- a fulfilled run's last reading time moves
-moved : (us : List ℤ) (now t : ℕ) → us ≡ tableOf (runAt now done) → set us 1 (pos t) ≡ bridge.reducedTable t cells.done
-unfolding tableOf padded headCells natCells bridge.reducedTable
+moved : (us : List ℤ) (now t : ℕ) → us ≡ tableOf (runAt now done) → set us 1 (pos t) ≡ reducedTable t cells.done
+unfolding tableOf padded headCells natCells reducedTable
 moved us now t e = rw e refl
 
 module _ {s places : List ℕ} {us : List ℤ} {sights : List ℕ} {run : Run} (o : Opened s places us sights run) where

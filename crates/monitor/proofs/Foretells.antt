@@ -6,14 +6,14 @@ use native.Mathlib.Omega.{arith}
 use lib.Dec.{le→leb}
 use lib.IntN.{ℤ, pos}
 use lib.Signed.{mag, _≤ℤ_}
-use lib.ListN.{length, drop}
+use lib.ListN.{drop}
 use Rattle.arith.proofs.Ints.{seen, read! }
 use Rattle.csl.specs.Parties.{members}
 use Rattle.csl.specs.Decode.{agreementOf}
-use Rattle.csl.specs.Check.{checked, accepted}
-use Rattle.csl.specs.Outcomes.{Residue, units}
+use Rattle.csl.specs.Outcomes.{units}
 use Rattle.csl.specs.Entries as entries
 use Rattle.csl.specs.Entries.{forecastOf}
+use Rattle.laws.proofs.Integers.{pos-inj}
 use Rattle.soundness.proofs.Bits.{bits-members}
 use Rattle.soundness.proofs.Runs.{isFair}
 use Rattle.cells.specs.Reduce as cells
@@ -35,7 +35,7 @@ use Rattle.monitor.specs.Steps.{Opened, Due, reduced}
 use Rattle.monitor.proofs.Begins.{short}
 use Rattle.monitor.proofs.Opens.{accepts}
 use Rattle.monitor.proofs.Tabled.{founds, sighted}
-use Rattle.monitor.proofs.Follows.{residue-sights, units-ready}
+use Rattle.monitor.proofs.Follows.{residue-sights, units-ready, accepts}
 
 -- ---- a time u in a cell t, read as m
 module _ {t : ℤ} {u : ℕ} (fits : mag t < 2 ^ 63) (is : t ≡ pos u) where
@@ -43,10 +43,7 @@ module _ {t : ℤ} {u : ℕ} (fits : mag t < 2 ^ 63) (is : t ≡ pos u) where
   not-below = subst (λ z. pos 0 ≤ℤ z) (sym (read! fits ∙ is)) (record { le = le→leb 0 u (omega arith) })
 
   time-read : {m : ℕ} → pos m ≡ seen t → m ≡ u
-  time-read {m = m} e = same (e ∙ read! fits ∙ is)
-    where
-      same : pos m ≡ pos u → m ≡ u
-      same h = cc
+  time-read e = pos-inj (e ∙ read! fits ∙ is)
 
 -- ---- a running run, without readings
 abbrev aheadEvent : Event

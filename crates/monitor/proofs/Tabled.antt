@@ -1,7 +1,7 @@
 -- A table that shows a running run has the tree of units that the rules ask for.
 use mathlib.Core.Path.{_≡_, refl, sym, ap, _∙_, subst}
 use mathlib.Core.Bool.{Bool, true, false}
-use mathlib.Core.List.{List, [], _∷_, _++_}
+use mathlib.Core.List.{List, [], _∷_, _++_, append-assoc}
 use mathlib.Core.Option.{some}
 use Prim.Native.Nat.{ℕ, _-_, _*_, _^_, _≤_, _<_}
 use native.Mathlib.Omega.{arith}
@@ -19,17 +19,17 @@ use Rattle.csl.specs.Outcomes.{Residue, Sight, Sort, anObligation, aChoice, uni
 use Rattle.csl.specs.Table.{runOf, tableOf, padded, headCells, natCells, cellsOf, residueCells, unitCells, joinCells}
 use Rattle.csl.specs.Table.{joinNumber, sortNumber}
 use Rattle.csl.specs.Demand3.{needed}
+use Rattle.laws.proofs.Cells.{length-join, length-padded}
 use Rattle.soundness.proofs.Checked.{passed}
 use Rattle.soundness.proofs.Decoding.{decode-is}
 use Rattle.soundness.proofs.Good.{Good, Ok, OkUnit}
-use Rattle.soundness.proofs.RoundTrip.{++-assoc, units-length, join-length, len-padded, len-nats, len-cells, len-typed}
+use Rattle.soundness.proofs.RoundTrip.{units-length, len-nats, len-cells, len-typed}
 use Rattle.soundness.proofs.Runs.{Since, cells-len, isFair, runAt}
 use Rattle.soundness.proofs.ReadBack.{runOf-good, table-back}
 use Rattle.cells.specs.Across.{natOf}
 use Rattle.places.proofs.Found.{found-is}
 use Rattle.bridge.proofs.Across.{FoundIs, sightAt, sightsOf}
-use Rattle.walk.specs.Tree.{Waiting}
-use Rattle.walk.specs.Tree.{TreeOf, Tree}
+use Rattle.walk.specs.Tree.{Waiting, TreeOf, Tree}
 use Rattle.units.specs.Units.{sightNumbers}
 
 -- ---- the place of a clause that is found lies within the agreement
@@ -69,7 +69,7 @@ module _ (s mains : List ℕ) (ck : checked s ≡ accepted (agreementOf s) mains
         → length (cellsOf (e .values)) ≤ 16
     unfolding unitCells
     few-values k p a e ps ok =
-        let five = len-padded 5 (natCells (e .params))
+        let five = length-padded 5 (natCells (e .params))
         (omega (arith, len-nats (e .params), ok .sight .count, ok .sight .fewParams)) in
         few-cells (cellsOf (e .values)) (omega (
           arith,
@@ -138,7 +138,7 @@ module _ (s mains : List ℕ) (ck : checked s ≡ accepted (agreementOf s) mains
     join-tree j l r more rest t v =
         let a = drop-drop (2 * units l) 2 (units l ∷ 0 ∷ more) in
         let b = drop-drop (24 * units l) 24 (joinCells j ++ rest) in (
-          omega (arith, length-append (joinCells j) rest, join-length ag (Since ag now) j),
+          omega (arith, length-append (joinCells j) rest, length-join j),
           omega arith,
           join-waits j,
           refl,
@@ -154,9 +154,9 @@ module _ (s mains : List ℕ) (ck : checked s ≡ accepted (agreementOf s) mains
         let left = residue-tree l (ok .0) (sightsOf ag r ++ sights) (residueCells r ++ rest) (ok .2) in
         let right = residue-tree r (ok .1) sights rest (ok .3) in
         rw (
-          ++-assoc (sightsOf ag l) (sightsOf ag r) sights,
-          ++-assoc (joinCells j) (residueCells l ++ residueCells r) rest,
-          ++-assoc (residueCells l) (residueCells r) rest,
+          append-assoc (sightsOf ag l) (sightsOf ag r) sights,
+          append-assoc (joinCells j) (residueCells l ++ residueCells r) rest,
+          append-assoc (residueCells l) (residueCells r) rest,
         )
         (join-tree j l r (sightsOf ag l ++ (sightsOf ag r ++ sights)) (residueCells l ++ (residueCells r ++ rest)) left
         (rw (

@@ -14,10 +14,12 @@ use borrow.Author.Tests.{not-false}
 use Rattle.csl.specs.Lists.{all}
 use Rattle.csl.specs.Parties.{member, subset, memberCount, bitsFrom, bitsOf, membersFrom, members}
 use Rattle.csl.specs.Typing.{Names, blameOk, isConstant}
+use Rattle.laws.proofs.Bools.{by-test}
+use Rattle.laws.proofs.PartyBits.{member-self, member-append, bits-lt, bits-same, bits-append, bits-skip}
+use Rattle.laws.proofs.PartyBits.{members-within, members-bits}
 use Rattle.parties.specs.Masks.{maskOf, maskEnd, HasBit, ValidMembers, mayBlame, BlameMask}
-use Rattle.parties.proofs.Members.{both, member-self, member-tail, member-append, all-each, each-all, bits-lt}
-use Rattle.parties.proofs.Members.{bits-same, bits-apart, bits-nil, bits-append, bits-skip, bits-again}
-use Rattle.parties.proofs.Members.{bits-new, count-new, members-in, members-bits, members-below}
+use Rattle.parties.proofs.Members.{member-tail, all-each, each-all, bits-apart, bits-nil, bits-again, bits-new}
+use Rattle.parties.proofs.Members.{count-new, members-below}
 
 -- ---- valid members
 pub valid-nil : ValidMembers []
@@ -67,7 +69,7 @@ valid-cons n b {ps} l m e v = record { each = λ p h. go p (eqb p b) refl h }
 
 pub valid-members : (n : ℕ) → ValidMembers (members n)
 unfolding members
-valid-members n = record { each = λ p e. let r = members-in 16 0 n p e in inl (omega arith) }
+valid-members n = record { each = λ p e. let r = members-within 16 0 n p e in inl (omega arith) }
 
 -- ---- masks of lists
 pub mask-nil : maskOf [] ≡ 0
@@ -108,7 +110,7 @@ mask-ones ps = ap ones (swap ps) ∙ ones-cat 16 (bitsFrom 4 128 ps) (bitsFrom 1
 pub mask-count : (ps : List ℕ) → ValidMembers ps → ones (maskOf ps) ≡ memberCount ps
 unfolding memberCount bitsOf ones
 mask-count [] v = rw mask-nil
-mask-count (p ∷ ps) v = both (member p ps)
+mask-count (p ∷ ps) v = by-test (member p ps)
     (λ e. let m : maskOf (p ∷ ps) ≡ maskOf ps = mask-again p ps e in rw (e, m) (mask-count ps (valid-tail v)))
     (λ e. rw (e, mask-ones (p ∷ ps), ← mask-count ps (valid-tail v), mask-ones ps) (new e (valid-head v)))
   where
@@ -123,7 +125,7 @@ mask-count (p ∷ ps) v = both (member p ps)
 pub bits-within : (t : ℕ → Bool) (ps qs : List ℕ) → ((p : ℕ) → member p ps ≡ true → p < 16 → t p ≡ member p qs)
     → ((p : ℕ) → member p ps ≡ true → 16 ≤ p → t p ≡ true) → eqb (bitOr (bitsOf ps) (bitsOf qs)) (bitsOf qs) ≡ all t ps
 unfolding bitsOf
-bits-within t ps qs f g = rw (← bits-append 16 0 ps qs) (both (all t ps)
+bits-within t ps qs f g = rw (← bits-append 16 0 ps qs) (by-test (all t ps)
     (λ e. rw e (eq-eqb (bitsFrom 16 0 (ps ++ qs)) (bitsFrom 16 0 qs)
     (bits-same 16 0 (ps ++ qs) qs (λ j l u. member-append j ps qs ∙ held e j (omega arith) (member j ps) refl))))
     (λ e. rw e (ne-eqb (bitsFrom 16 0 (ps ++ qs)) (bitsFrom 16 0 qs)
@@ -155,7 +157,7 @@ mask-members n h = rw (
 ) (omega arith)
   where
     none : (j : ℕ) → 128 ≤ j → member j (membersFrom 16 0 n) ≡ member j []
-    none j l = both (member j (membersFrom 16 0 n)) (λ e. let r = members-in 16 0 n j e in absurd (omega arith))
+    none j l = by-test (member j (membersFrom 16 0 n)) (λ e. let r = members-within 16 0 n j e in absurd (omega arith))
         (λ e. e)
 
 pub bits-members : (n : ℕ) → n < 65_536 → bitsOf (members n) ≡ n
@@ -270,3 +272,15 @@ module _ (n : Names) (b : ℕ) {r : ℕ} (m : BlameMask (n .parties) (n .params)
   pub blame-allowed : (r ≡ 0 → ⊥) → blameOk n b ≡ true
   unfolding blameOk
   blame-allowed e = not-false (mayBlame (n .parties) (n .params) b) (sym (m .refused) ∙ ne-eqb r 0 e)
+
+-- parties alone have no bits of party parameters
+pub mask-bits : (ps : List ℕ) → ((q : ℕ) → member q ps ≡ true → q < 16) → maskOf ps ≡ bitsOf ps
+unfolding maskOf
+mask-bits ps f =
+    let e : bitsFrom 4 128 ps ≡ 0 = bits-same 4 128 ps [] (λ j l u. no-member j l (member j ps) refl)
+    ∙ bits-nil 4 128 in
+    omega (arith, e)
+  where
+    no-member : (j : ℕ) → 128 ≤ j → (b : Bool) → member j ps ≡ b → b ≡ member j []
+    no-member j l true e = absurd (omega (arith, f j e))
+    no-member j l false e = unfold member in refl

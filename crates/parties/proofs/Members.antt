@@ -1,49 +1,33 @@
 -- Lists of members, and their bits `bitsFrom k i`: bit j for the member i + j, below k.
-use mathlib.Core.Bool.{Bool, true, false, _&&_, _||_, or-assoc, or-true, true≢false}
-use mathlib.Core.List.{List, [], _∷_, _++_}
+use mathlib.Core.Bool.{Bool, true, false, _&&_, _||_, or-true, true≢false}
+use mathlib.Core.List.{List, [], _∷_}
 use mathlib.Core.Path.{_≡_, refl, sym, ap, _∙_}
-use Prim.Native.Nat.{ℕ, zero, suc, _+_, _-_, _*_, _/_, _%_, _^_, _≤_, _<_, max}
+use Prim.Native.Nat.{ℕ, zero, suc, _+_, _-_, _*_, _/_, _%_, _^_, _≤_, _<_}
 use native.Mathlib.Nat.{pow-suc}
 use native.Mathlib.Omega.{arith}
-use lib.Bits.{bitOr, or-step}
 use lib.Count.{ones, ones-step}
 use lib.Dec.{eqb, ltb}
 use lib.Pow.{pow-pos}
-use borrow.Author.Tests.{eq-eqb, ne-eqb, eqb-true, eqb-false, lt-ltb, le-ltb, ltb-true, ltb-false}
+use borrow.Author.Tests.{eqb-true, eqb-false, lt-ltb, le-ltb, ltb-true, ltb-false}
 use Rattle.csl.specs.Lists.{all}
 use Rattle.csl.specs.Parties.{member, bit, bitsFrom, membersFrom}
-
-pub both : {C : Type 0} (b : Bool) → (b ≡ true → C) → (b ≡ false → C) → C
-both true f g = f refl
-both false f g = g refl
+use Rattle.laws.proofs.Bools.{by-test}
+use Rattle.laws.proofs.PartyBits.{member-self, member-other, bit-div, bit-mod, bits-same, bits-skip}
 
 tests-same : (a b c d : ℕ) → (a < b → c < d) → (c < d → a < b) → ltb a b ≡ ltb c d
-tests-same a b c d f g = both (ltb a b)
+tests-same a b c d f g = by-test (ltb a b)
     (λ t. t ∙ sym (lt-ltb c d (f (ltb-true a b t))))
-    (λ t. t ∙ sym (both (ltb c d) (λ u. let l = g (ltb-true c d u) in let m = ltb-false a b t in absurd (omega arith))
-    (λ u. u)))
+    (λ t. t ∙ sym (by-test (ltb c d)
+    (λ u. let l = g (ltb-true c d u) in let m = ltb-false a b t in absurd (omega arith)) (λ u. u)))
 
 -- ---- members
-pub member-self : (p : ℕ) (ps : List ℕ) → member p (p ∷ ps) ≡ true
-unfolding member
-member-self p ps = rw (eq-eqb p p refl)
-
 pub member-tail : (p q : ℕ) (ps : List ℕ) → member p ps ≡ true → member p (q ∷ ps) ≡ true
 unfolding member
 member-tail p q ps e = rw e (or-true (eqb p q))
 
-pub member-other : (p q : ℕ) (ps : List ℕ) → (p ≡ q → ⊥) → member p (q ∷ ps) ≡ member p ps
-unfolding member
-member-other p q ps n = rw (ne-eqb p q n)
-
-pub member-append : (p : ℕ) (ps qs : List ℕ) → member p (ps ++ qs) ≡ (member p ps || member p qs)
-unfolding member
-member-append p [] qs = refl
-member-append p (x ∷ ps) qs = rw (member-append p ps qs) (sym (or-assoc (eqb p x) (member p ps) (member p qs)))
-
 -- one that is there already
 pub member-again : (p q : ℕ) (ps : List ℕ) → member q ps ≡ true → member p (q ∷ ps) ≡ member p ps
-member-again p q ps e = both (eqb p q)
+member-again p q ps e = by-test (eqb p q)
     (λ h. let s : p ≡ q = eqb-true p q h in rw s (member-self q ps ∙ sym e))
     (λ h. member-other p q ps (eqb-false p q h))
 
@@ -64,23 +48,6 @@ each-all t [] h = refl
 each-all t (x ∷ ps) h = rw (h x (member-self x ps), each-all t ps (λ p e. h p (member-tail p x ps e)))
 
 -- ---- one digit
-pub bit-div : (b : Bool) (m : ℕ) → (bit b + 2 * m) / 2 ≡ m
-unfolding bit
-bit-div true m = omega arith
-bit-div false m = omega arith
-
-pub bit-mod : (b : Bool) (m : ℕ) → (bit b + 2 * m) % 2 ≡ bit b
-unfolding bit
-bit-mod true m = omega arith
-bit-mod false m = omega arith
-
-bit-max : (a b : Bool) → max (bit a) (bit b) ≡ bit (a || b)
-unfolding bit
-bit-max true true = refl
-bit-max true false = refl
-bit-max false true = refl
-bit-max false false = refl
-
 bit-only : (a b : Bool) → bit a ≡ bit b → a ≡ b
 unfolding bit
 bit-only true true e = refl
@@ -88,40 +55,15 @@ bit-only true false e = absurd (omega arith)
 bit-only false true e = absurd (omega arith)
 bit-only false false e = refl
 
-or-of : (x y m n c d : ℕ) → x / 2 ≡ m → y / 2 ≡ n → x % 2 ≡ c → y % 2 ≡ d → bitOr x y ≡ bitOr m n * 2 + max c d
-or-of x y m n c d e f g h = rw (← e, ← f, ← g, ← h) (or-step x y)
-
-pub or-bit : (a b : Bool) (m n : ℕ) → bitOr (bit a + 2 * m) (bit b + 2 * n) ≡ bit (a || b) + 2 * bitOr m n
-or-bit a b m n = or-of (bit a + 2 * m) (bit b + 2 * n) m n (bit a) (bit b) (bit-div a m) (bit-div b n) (bit-mod a m)
-    (bit-mod b n) ∙ rw (bit-max a b) (omega arith)
-
 pub ones-bit : (b : Bool) (m : ℕ) → ones (bit b + 2 * m) ≡ bit b + ones m
 ones-bit b m = ones-step (bit b + 2 * m) ∙ rw (bit-div b m, bit-mod b m)
 
 -- ---- bits
-pub bits-lt : (k i : ℕ) (ps : List ℕ) → bitsFrom k i ps < 2 ^ k
-unfolding bitsFrom bit
-bits-lt zero i ps = omega arith
-bits-lt (suc k) i ps = go (member i ps) (bits-lt k (suc i) ps)
-  where
-    go : (b : Bool) → bitsFrom k (suc i) ps < 2 ^ k → bit b + 2 * bitsFrom k (suc i) ps < 2 ^ suc k
-    go true h = rw (pow-suc 2 k) (omega arith)
-    go false h = rw (pow-suc 2 k) (omega arith)
-
-pub bits-same : (k i : ℕ) (ps qs : List ℕ) → ((j : ℕ) → i ≤ j → j < i + k → member j ps ≡ member j qs)
-    → bitsFrom k i ps ≡ bitsFrom k i qs
-unfolding bitsFrom
-bits-same zero i ps qs h = refl
-bits-same (suc k) i ps qs h = rw (
-  h i (omega arith) (omega arith),
-  bits-same k (suc i) ps qs (λ j l u. h j (omega arith) (omega arith)),
-)
-
 pub bits-apart : (k i : ℕ) (ps qs : List ℕ) → bitsFrom k i ps ≡ bitsFrom k i qs → (j : ℕ) → i ≤ j → j < i + k
     → member j ps ≡ member j qs
 unfolding bitsFrom
 bits-apart zero i ps qs e j l u = absurd (omega arith)
-bits-apart (suc k) i ps qs e j l u = both (eqb j i)
+bits-apart (suc k) i ps qs e j l u = by-test (eqb j i)
     (λ h. let s : j ≡ i = eqb-true j i h in
     rw s (bit-only (member i ps) (member i qs)
     (sym (bit-mod (member i ps) (bitsFrom k (suc i) ps)) ∙ ap (λ x. x % 2) e
@@ -135,16 +77,7 @@ unfolding bitsFrom member bit
 bits-nil zero i = refl
 bits-nil (suc k) i = rw (bits-nil k (suc i))
 
-pub bits-append : (k i : ℕ) (ps qs : List ℕ) → bitsFrom k i (ps ++ qs) ≡ bitOr (bitsFrom k i ps) (bitsFrom k i qs)
-unfolding bitsFrom
-bits-append zero i ps qs = refl
-bits-append (suc k) i ps qs = rw (member-append i ps qs, bits-append k (suc i) ps qs)
-    (sym (or-bit (member i ps) (member i qs) (bitsFrom k (suc i) ps) (bitsFrom k (suc i) qs)))
-
--- a member that has no bit here
-pub bits-skip : (k i p : ℕ) (ps : List ℕ) → (i ≤ p → p < i + k → ⊥) → bitsFrom k i (p ∷ ps) ≡ bitsFrom k i ps
-bits-skip k i p ps n = bits-same k i (p ∷ ps) ps (λ j l u. member-other j p ps (λ e. n (omega arith) (omega arith)))
-
+-- a member that is there already
 pub bits-again : (k i p : ℕ) (ps : List ℕ) → member p ps ≡ true → bitsFrom k i (p ∷ ps) ≡ bitsFrom k i ps
 bits-again k i p ps h = bits-same k i (p ∷ ps) ps (λ j l u. member-again j p ps h)
 
@@ -153,7 +86,7 @@ pub bits-new : (k i p : ℕ) (ps : List ℕ) → i ≤ p → p < i + k → membe
     → bitsFrom k i (p ∷ ps) ≡ 2 ^ (p - i) + bitsFrom k i ps
 unfolding bitsFrom bit
 bits-new zero i p ps l u h = absurd (omega arith)
-bits-new (suc k) i p ps l u h = both (eqb i p)
+bits-new (suc k) i p ps l u h = by-test (eqb i p)
     (λ e. let s : p ≡ i = sym (eqb-true i p e) in
     let z : i - i ≡ 0 = omega arith in
     let m : member i ps ≡ false = rw s at h in
@@ -169,49 +102,14 @@ unfolding bitsFrom bit
 count-new zero i p ps l u h = absurd (omega arith)
 count-new (suc k) i p ps l u h =
     rw (ones-bit (member i (p ∷ ps)) (bitsFrom k (suc i) (p ∷ ps)), ones-bit (member i ps) (bitsFrom k (suc i) ps))
-    (both (eqb i p)
+    (by-test (eqb i p)
     (λ e. let s : p ≡ i = sym (eqb-true i p e) in
     let m : member i ps ≡ false = rw s at h in
     rw (s, member-self i ps, bits-skip k (suc i) i ps (λ a b. omega arith), m) (omega arith))
     (λ e. let n : i ≡ p → ⊥ = eqb-false i p e in
     rw (member-other i p ps n, count-new k (suc i) p ps (omega arith) (omega arith) h) (omega arith)))
 
--- ---- the members of a number
-pub members-in : (k i n p : ℕ) → member p (membersFrom k i n) ≡ true → (i ≤ p) × (p < i + k)
-unfolding membersFrom member
-members-in zero i n p h = absurd (true≢false (sym h))
-members-in (suc k) i n p h = go (eqb (n % 2) 1) h (members-in k (suc i) (n / 2) p)
-  where
-    rest : List ℕ
-    rest = membersFrom k (suc i) (n / 2)
-
-    go : (b : Bool) → member p (elim b [ true ↦ i ∷ rest | false ↦ rest ]) ≡ true
-        → (member p rest ≡ true → (suc i ≤ p) × (p < suc i + k)) → (i ≤ p) × (p < i + suc k)
-    go true e ih = both (eqb p i)
-        (λ s. let q : p ≡ i = eqb-true p i s in (omega arith, omega arith))
-        (λ s. let r = ih (sym (member-other p i rest (eqb-false p i s)) ∙ e) in (omega arith, omega arith))
-    go false e ih = let r = ih e in (omega arith, omega arith)
-
-not-member : (k i n : ℕ) → member i (membersFrom k (suc i) n) ≡ false
-not-member k i n = both (member i (membersFrom k (suc i) n))
-    (λ e. let r = members-in k (suc i) n i e in absurd (omega arith)) (λ e. e)
-
--- a number below 2^k is the bits of its members
-pub members-bits : (k i n : ℕ) → n < 2 ^ k → bitsFrom k i (membersFrom k i n) ≡ n
-unfolding bitsFrom membersFrom bit
-members-bits zero i n h = omega arith
-members-bits (suc k) i n h = go (eqb (n % 2) 1) refl (members-bits k (suc i) (n / 2) (omega (arith, pow-suc 2 k)))
-  where
-    rest : List ℕ
-    rest = membersFrom k (suc i) (n / 2)
-
-    go : (b : Bool) → eqb (n % 2) 1 ≡ b → bitsFrom k (suc i) rest ≡ n / 2
-        → bitsFrom (suc k) i (elim b [ true ↦ i ∷ rest | false ↦ rest ]) ≡ n
-    go true e ih = let r = eqb-true (n % 2) 1 e in
-        rw (member-self i rest, bits-skip k (suc i) i rest (λ a b. omega arith), ih) (omega arith)
-    go false e ih = let r = eqb-false (n % 2) 1 e in rw (not-member k i (n / 2), ih) (omega arith)
-
--- its members lie below j where it has no bit from there on
+-- ---- the members of a number lie below j where it has no bit from there on
 pub members-below : (k i j n : ℕ) → n < 2 ^ k → all (λ p. ltb p j) (membersFrom k i n) ≡ ltb n (2 ^ (j - i))
 unfolding membersFrom all
 members-below zero i j n h = sym (lt-ltb n (2 ^ (j - i)) (omega (arith, pow-pos (j - i))))
@@ -231,10 +129,10 @@ members-below (suc k) i j n h = go (eqb (n % 2) 1) refl (members-below k (suc i)
 
     go : (b : Bool) → eqb (n % 2) 1 ≡ b → all (λ p. ltb p j) rest ≡ ltb (n / 2) (2 ^ (j - suc i))
         → all (λ p. ltb p j) (elim b [ true ↦ i ∷ rest | false ↦ rest ]) ≡ ltb n (2 ^ (j - i))
-    go true e ih = both (ltb i j)
+    go true e ih = by-test (ltb i j)
         (λ t. rw (t, ih) (inside (ltb-true i j t)))
         (λ t. let l = ltb-false i j t in let z : j - i ≡ 0 = omega arith in let r = eqb-true (n % 2) 1 e in
         rw (t, z) (sym (le-ltb n 1 (omega arith))))
-    go false e ih = both (ltb i j)
+    go false e ih = by-test (ltb i j)
         (λ t. ih ∙ inside (ltb-true i j t))
         (λ t. let r = eqb-false (n % 2) 1 e in ih ∙ outside (ltb-false i j t) (omega arith))

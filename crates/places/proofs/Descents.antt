@@ -13,16 +13,17 @@ use Rattle.csl.specs.Lists.{orElse, orNil, at}
 use Rattle.csl.specs.Bytes.{byte, part, recordEnd}
 use Rattle.csl.specs.Syntax.{Ty, Template, Agreement, Clause, fulfilled, obligation, choice, if, join, instance}
 use Rattle.csl.specs.Syntax.{badClause}
-use Rattle.csl.specs.Decode.{pieces, recordsEnd, clause, tysOf, headsOf, whole, bodyOf, mainOf, mainPlace}
-use Rattle.csl.specs.Decode.{templatesPlace, templatePieces, templateHead, templateOf, agreementOf}
+use Rattle.csl.specs.Decode.{pieces, recordsEnd, clause, tysOf, headsOf, whole, mainOf, mainPlace, templatesPlace}
+use Rattle.csl.specs.Decode.{templatePieces, templateHead, templateOf, agreementOf}
 use Rattle.csl.specs.Typing.{typeClause, namesOf, thenSight}
 use Rattle.csl.specs.Places.{Found, find, findIn, clauseAt}
 use Rattle.records.specs.Index.{Indexed, Spans, templatePlace, pieceAt, headAt, templatePiece, valueCount, bodyFrom}
 use Rattle.records.specs.Index.{bodyTo}
 use Rattle.records.proofs.Index.{template-facts, templates-at, template-within, pieces-more, pieces-from, pieces-none}
 use Rattle.records.proofs.Index.{body-within, body-is, body-there}
+use Rattle.laws.proofs.Options.{some-inj, from-orElse, none-some}
+use Rattle.laws.proofs.Bools.{from-test}
 use Rattle.soundness.proofs.Places.{Out, find-none, orElse-none, none-orElse}
-use Rattle.soundness.proofs.Inversion.{some-inj}
 use Rattle.soundness.proofs.Decoding.{clause-ranged, decode-is}
 use Rattle.soundness.proofs.Checked.{passed, fair}
 use Rattle.soundness.proofs.Walks.{Fair}
@@ -30,7 +31,7 @@ use Rattle.places.specs.declared.Located.{Located}
 use Rattle.places.specs.declared.Located.the-variants.{Nothing, At}
 use Rattle.places.specs.declared.Step.{Step}
 use Rattle.places.specs.declared.Step.the-variants.{Absent, Here, Into}
-use Rattle.places.proofs.Found.{from-orElse, from-test, nothing, found-is}
+use Rattle.places.proofs.Found.{found-is}
 use Rattle.places.proofs.Steps.{TypedSide, obligation-typed, choice-typed, if-typed, join-typed}
 use Rattle.places.specs.Locate.{sightOf, Locates, TypedAt, Typed, GoesInto, StepAt, StepIs, DescentIs}
 use Rattle.places.specs.Locate.{inTemplate, mainsOf, Accepted}
@@ -96,7 +97,7 @@ module _ (ag : Agreement) (p : ℕ) (f : Found) where
   find-typed : (n : ℕ) (c : Clause) (env : List Ty) (ps : List ℕ) → typeClause (namesOf ag n) env c ≡ some ps
       → find (ag .readings) n p c env ≡ some f → TypedFound
   unfolding find namesOf orNil
-  find-typed n fulfilled env ps t e = nothing e
+  find-typed n fulfilled env ps t e = none-some e
   find-typed n (obligation b w c) env ps t e =
       let h = obligation-typed (namesOf ag n) env b w c ps t in
       from-test (eqb p (w .place)) _ _ e (λ _ g. same-found n env (obligation b w c) t g)
@@ -114,14 +115,14 @@ module _ (ag : Agreement) (p : ℕ) (f : Found) where
       let h = join-typed (namesOf ag n) env j c d ps t in
       from-orElse _ _ f e (λ o. find-typed n c env (h .0 .parties) (h .0 .typed) o)
       (λ o. find-typed n d env (h .1 .parties) (h .1 .typed) o)
-  find-typed n (instance k es bs) env ps t e = nothing e
-  find-typed n badClause env ps t e = nothing e
+  find-typed n (instance k es bs) env ps t e = none-some e
+  find-typed n badClause env ps t e = none-some e
 
   findIn-typed : (ts : List Template) → ((k : ℕ) (t : Template) → at ts k ≡ some t
       → TypedSide (namesOf ag (t .head .params)) (t .head .values) (t .body)) → findIn (ag .readings) p ts ≡ some f
       → TypedFound
   unfolding findIn at
-  findIn-typed [] h e = nothing e
+  findIn-typed [] h e = none-some e
   findIn-typed (t ∷ ts) h e = from-orElse _ _ f e
       (λ o. let g = h 0 t refl in find-typed (t .head .params) (t .body) (t .head .values) (g .parties) (g .typed) o)
       (λ o. findIn-typed ts (λ k u q. h (suc k) u q) o)

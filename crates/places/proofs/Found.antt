@@ -10,7 +10,7 @@ use lib.Dec.{T, eqb, leb, leb→le, eqb→eq}
 use lib.ListN.{length}
 use Rattle.arith.proofs.Lists.{length-part, part-part}
 use Rattle.arith.proofs.Bytes.{le16-part, record-end-within, record-end-after, whole-from}
-use Rattle.csl.specs.Lists.{orElse, all, at}
+use Rattle.csl.specs.Lists.{all, at}
 use Rattle.csl.specs.Bytes.{byte, le16, part, isRecord, kindNumber, recordEnd}
 use Rattle.csl.specs.Syntax.{Ty, Expr, Clause, fulfilled, instance, badClause, Head}
 use Rattle.csl.specs.Decode.{ExprKind, numberKind, truthKind, partyKind, variableKind, notKind, binaryKind, noExpr}
@@ -20,8 +20,10 @@ use Rattle.csl.specs.Decode.{waitEnd, arguments, recordsEnd, instanceOf, wholeE
 use Rattle.csl.specs.Decode.{templatesPlace, mainPlace, templatePieces, headsOf, mainOf, bodyOf, bodyPlace}
 use Rattle.csl.specs.Decode.{templateOf, templateOk, agreementOf, wellFormed, between}
 use Rattle.csl.specs.Places.{Found, find, findIn, clauseAt}
-use Rattle.records.proofs.Index.{T-both, some-within, template-holds}
-use Rattle.soundness.proofs.Inversion.{some-inj, T-left, T-right}
+use Rattle.laws.proofs.Options.{some-inj, from-orElse, none-some}
+use Rattle.laws.proofs.Bools.{T-left, T-right, from-test, both-true}
+use Rattle.laws.proofs.RecordEnds.{some-within}
+use Rattle.records.proofs.Index.{template-holds}
 use Rattle.soundness.proofs.Decoding.{well-formed}
 
 -- ---- whole at one depth, the same at a greater one
@@ -35,7 +37,7 @@ module _ {e f : List ℕ → Expr} (same : (u : List ℕ) → T (wholeExpr (e u)
   expr-body-same notKind t = rw (same (part s 4 (length s)) t)
   expr-body-same (binaryKind o) t =
       let c = recordEnd s 4 in
-      T-both (wholeExpr (e (part s 4 c))) _ t λ a b. rw (same (part s 4 c) a, same (part s c (length s)) b)
+      both-true (wholeExpr (e (part s 4 c))) _ t λ a b. rw (same (part s 4 c) a, same (part s c (length s)) b)
   expr-body-same noExpr t = absurd t
 
   arguments-same : (n i : ℕ) → T (all wholeExpr (arguments e n s i)) → arguments f n s i ≡ arguments e n s i
@@ -43,7 +45,7 @@ module _ {e f : List ℕ → Expr} (same : (u : List ℕ) → T (wholeExpr (e u)
   arguments-same zero i t = refl
   arguments-same (suc n) i t =
       let z = recordEnd s i in
-      T-both (wholeExpr (e (part s i z))) _ t λ a b. ap₂ (λ (x : Expr) (l : List Expr). x ∷ l) (same (part s i z) a)
+      both-true (wholeExpr (e (part s i z))) _ t λ a b. ap₂ (λ (x : Expr) (l : List Expr). x ∷ l) (same (part s i z) a)
       (arguments-same n z b)
 
   instance-same : (o : Option Head) → T (whole (instanceOf e s o)) → instanceOf f s o ≡ instanceOf e s o
@@ -66,8 +68,8 @@ module _ {e f : List ℕ → Expr} (same : (u : List ℕ) → T (wholeExpr (e u)
       let a = recordEnd s (i + 1) in
       let b = recordEnd s a in
       let z = recordEnd s b in
-      T-both (wholeExpr (e (part s (i + 1) a)) && wholeExpr (e (part s a b))) _ t λ t₁ h₃.
-      T-both (wholeExpr (e (part s (i + 1) a))) _ t₁ λ h₁ h₂.
+      both-true (wholeExpr (e (part s (i + 1) a)) && wholeExpr (e (part s a b))) _ t λ t₁ h₃.
+      both-true (wholeExpr (e (part s (i + 1) a))) _ t₁ λ h₁ h₂.
       rw (same (part s (i + 1) a) h₁, same (part s a b) h₂, same (part s b z) h₃)
 
   module _ (hs : List Head) {inner outer : ℕ → List ℕ → Clause}
@@ -78,22 +80,22 @@ module _ {e f : List ℕ → Expr} (same : (u : List ℕ) → T (wholeExpr (e u)
     clause-body-same fulfilledKind t = refl
     clause-body-same obligationKind t =
         let c = waitEnd s 5 in
-        T-both (wholeWait (waitAt e p s 5)) _ t λ a b. rw (wait-same p 5 a, within (p + c) (part s c (length s)) b)
+        both-true (wholeWait (waitAt e p s 5)) _ t λ a b. rw (wait-same p 5 a, within (p + c) (part s c (length s)) b)
     clause-body-same choiceKind t =
         let c = waitEnd s 4 in
         let z = recordEnd s c in
-        T-both (wholeWait (waitAt e p s 4) && whole (inner (p + c) (part s c z))) _ t λ t₁ h₃.
-        T-both (wholeWait (waitAt e p s 4)) _ t₁ λ h₁ h₂.
+        both-true (wholeWait (waitAt e p s 4) && whole (inner (p + c) (part s c z))) _ t λ t₁ h₃.
+        both-true (wholeWait (waitAt e p s 4)) _ t₁ λ h₁ h₂.
         rw (wait-same p 4 h₁, within (p + c) (part s c z) h₂, within (p + z) (part s z (length s)) h₃)
     clause-body-same ifKind t =
         let c = recordEnd s 4 in
         let z = recordEnd s c in
-        T-both (wholeExpr (e (part s 4 c)) && whole (inner (p + c) (part s c z))) _ t λ t₁ h₃.
-        T-both (wholeExpr (e (part s 4 c))) _ t₁ λ h₁ h₂.
+        both-true (wholeExpr (e (part s 4 c)) && whole (inner (p + c) (part s c z))) _ t λ t₁ h₃.
+        both-true (wholeExpr (e (part s 4 c))) _ t₁ λ h₁ h₂.
         rw (same (part s 4 c) h₁, within (p + c) (part s c z) h₂, within (p + z) (part s z (length s)) h₃)
     clause-body-same (joinKind j) t =
         let z = recordEnd s 4 in
-        T-both (whole (inner (p + 4) (part s 4 z))) _ t λ h₁ h₂.
+        both-true (whole (inner (p + 4) (part s 4 z))) _ t λ h₁ h₂.
         rw (within (p + 4) (part s 4 z) h₁, within (p + z) (part s z (length s)) h₂)
     clause-body-same instanceKind t = instance-same (at hs (byte s 4)) t
     clause-body-same noClause t = refl
@@ -123,20 +125,6 @@ end-is s b e l h =
     omega (arith, w .says, w .room, le16-part s b e 0 room, ap (le16 s) z)
 
 -- ---- what is found
-pub from-orElse : {A C : Type 0} (o u : Option A) (y : A) → orElse o u ≡ some y → (o ≡ some y → C) → (u ≡ some y → C)
-    → C
-unfolding orElse
-from-orElse none u y e f g = g e
-from-orElse (some x) u y e f g = f e
-
-pub from-test : {A C : Type 0} (b : Bool) (x y : A) {z : A} → (elim b [ true ↦ x | false ↦ y ]) ≡ z
-    → (T b → x ≡ z → C) → (y ≡ z → C) → C
-from-test true x y e f g = f tt e
-from-test false x y e f g = g e
-
-pub nothing : {A C : Type 0} {y : A} → none ≡ some y → C
-nothing e = let z : _≡_ {A = ℕ} 0 1 = cc in absurd (omega arith)
-
 module _ (s : List ℕ) (hs : List Head) (rs : List (List Ty)) (n p : ℕ) (f : Found) where
   -- the clause found is the record at p, and whole
   abbrev RecordAt : Type 0
@@ -173,8 +161,8 @@ module _ (s : List ℕ) (hs : List Head) (rs : List (List Ty)) (n p : ℕ) (f : 
     body-sound fulfilledKind env r q t h = blank (eqb (length u) 4) h
       where
         blank : (x : Bool) → find rs n p (cond x fulfilled badClause) env ≡ some f → RecordAt
-        blank true h = nothing h
-        blank false h = nothing h
+        blank true h = none-some h
+        blank false h = none-some h
     body-sound obligationKind env r q t h =
         let c = waitEnd u 5 in
         from-test (eqb p b) _ _ h
@@ -185,20 +173,20 @@ module _ (s : List ℕ) (hs : List Head) (rs : List (List Ty)) (n p : ℕ) (f : 
         let z = recordEnd u c in
         from-test (eqb p b) _ _ h
         (λ x g. here _ r q t x (sym (ap (λ z. z .clause) (some-inj g))))
-        (λ g. T-both (wholeWait (waitAt (expr d) b u 4) && whole (clause hs d (b + c) (part u c z))) _ t λ t₁ t₃.
+        (λ g. both-true (wholeWait (waitAt (expr d) b u 4) && whole (clause hs d (b + c) (part u c z))) _ t λ t₁ t₃.
         from-orElse _ _ f g
         (λ o. child c z _ (record-end-within u c) (T-right (wholeWait (waitAt (expr d) b u 4)) _ t₁) o)
         (λ o. child z (length u) env (omega arith) t₃ o))
     body-sound ifKind env r q t h =
         let c = recordEnd u 4 in
         let z = recordEnd u c in
-        T-both (wholeExpr (expr d (part u 4 c)) && whole (clause hs d (b + c) (part u c z))) _ t λ t₁ t₃.
+        both-true (wholeExpr (expr d (part u 4 c)) && whole (clause hs d (b + c) (part u c z))) _ t λ t₁ t₃.
         from-orElse _ _ f h
         (λ o. child c z env (record-end-within u c) (T-right (wholeExpr (expr d (part u 4 c))) _ t₁) o)
         (λ o. child z (length u) env (omega arith) t₃ o)
     body-sound (joinKind j) env r q t h =
         let z = recordEnd u 4 in
-        T-both (whole (clause hs d (b + 4) (part u 4 z))) _ t λ t₁ t₃.
+        both-true (whole (clause hs d (b + 4) (part u 4 z))) _ t λ t₁ t₃.
         from-orElse _ _ f h
         (λ o. child 4 z env (record-end-within u 4) t₁ o)
         (λ o. child z (length u) env (omega arith) t₃ o)
@@ -206,13 +194,13 @@ module _ (s : List ℕ) (hs : List Head) (rs : List (List Ty)) (n p : ℕ) (f : 
       where
         either : (x : Bool) (c : Clause) → find rs n p c env ≡ none → find rs n p (cond x c badClause) env ≡ some f
             → RecordAt
-        either true c g h = nothing (sym g ∙ h)
-        either false c g h = nothing h
+        either true c g h = none-some (sym g ∙ h)
+        either false c g h = none-some h
 
         none-there : (o : Option Head) → find rs n p (instanceOf (expr d) u o) env ≡ some f → RecordAt
-        none-there none h = nothing h
+        none-there none h = none-some h
         none-there (some hd) h = either (eqb (recordsEnd (length (hd .values)) u 5 + hd .params) (length u)) _ refl h
-    body-sound noClause env r q t h = nothing h
+    body-sound noClause env r q t h = none-some h
 
   clause-sound : (d : ℕ) → d ≤ 23 → Sound (clause hs d)
   unfolding clause whole clauseHead
@@ -233,13 +221,13 @@ module _ (s : List ℕ) (hs : List Head) (rs : List (List Ty)) (p : ℕ) (f : Fo
       → T (all (λ q. whole (bodyOf hs q)) (pieces n s i)) → findIn rs p (map (templateOf hs) (pieces n s i)) ≡ some f
       → RecordAt s hs rs 0 p f
   unfolding pieces all templateOf findIn bodyOf bodyPlace
-  in-templates zero i l ok t h = nothing h
+  in-templates zero i l ok t h = none-some h
   in-templates (suc n) i l ok t h =
       let e = recordEnd s i in
       let q = part s i e in
       let x = 8 + byte q 4 in
-      T-both (templateOk q) _ ok λ ok₁ ok₂.
-      T-both (whole (clause hs 22 (i + x) (part q x (length q)))) _ t λ t₁ t₂.
+      both-true (templateOk q) _ ok λ ok₁ ok₂.
+      both-true (whole (clause hs 22 (i + x) (part q x (length q)))) _ t λ t₁ t₂.
       let long = length-part s i e (record-end-within s i) in
       let room = template-holds q ok₁ .long in
       let g : part q x (length q) ≡ part s (i + x) (i + length q) = part-part s i e x (length q)

@@ -1,30 +1,28 @@
--- Type bytes put behind one another, and the types that they are.
-use mathlib.Core.Path.{_≡_, refl, sym, ap, _∙_}
-use mathlib.Core.List.{List, [], _∷_, _++_, append-nil, append-assoc}
+-- The types that bytes are, put behind one another.
+use mathlib.Core.Path.{_≡_, sym, ap, _∙_}
+use mathlib.Core.List.{List, [], _∷_, _++_}
 use Prim.Native.Nat.{ℕ, zero, suc, _+_, _-_, _≤_, _<_}
 use native.Mathlib.Decide.{decLe}
 use native.Mathlib.Numerals.{add-one}
 use native.Mathlib.Omega.{arith}
-use lib.ListN.{length, getD, take, set, length-append, length-take, length-map}
-use lib.Seq.{take-suc, take-suc-set, take-length}
-use Rattle.arith.proofs.Lists.{length-part, part-part}
-use Rattle.arith.proofs.Bytes.{record-end-within, record-end-after}
+use lib.ListN.{length, take, set, length-append, length-take, length-map}
+use lib.Seq.{take-suc-set}
+use Rattle.arith.proofs.Lists.{length-part}
+use Rattle.arith.proofs.Bytes.{record-end-within}
 use Rattle.csl.specs.Lists.{orNil, at}
 use Rattle.csl.specs.Bytes.{byte, part, recordEnd}
 use Rattle.csl.specs.Syntax.{Ty, number}
 use Rattle.csl.specs.Decode.{tyOf, tysOf, readingType, agreementOf}
 use Rattle.csl.specs.Typing.{readingOfType, thenSight}
+use Rattle.laws.proofs.Clash.{impossible}
+use Rattle.laws.proofs.Options.{some-inj}
+use Rattle.laws.proofs.Types.{types-append}
 use Rattle.records.specs.Index.{Indexed, readingPlace, pieceAt}
-use Rattle.records.proofs.Index.{reading-facts, reading-within, readings-at, readings-past, part-piece}
+use Rattle.records.proofs.Index.{readings-at, readings-past, reading-end, reading-types}
 use Rattle.soundness.proofs.Inversion.{some-inj}
 use Rattle.places.specs.Locate.{sightOf, Sees, SeesIn}
 
 -- ---- the types that bytes are
-pub tys-append : (bs cs : List ℕ) → tysOf (bs ++ cs) ≡ tysOf bs ++ tysOf cs
-unfolding tysOf
-tys-append [] cs = refl
-tys-append (b ∷ bs) cs = ap (λ (ts : List Ty). tyOf b ∷ ts) (tys-append bs cs)
-
 pub sight-length : (types : List ℕ) (c : ℕ) → c ≤ length types → length (sightOf types c) ≡ c
 unfolding tysOf
 sight-length types c l = length-map (take c types) tyOf ∙ omega (arith, length-take c types)
@@ -39,19 +37,19 @@ then-is : (types out : List ℕ) (c n : ℕ) (cs : List ℕ) → n < length out 
 unfolding thenSight tysOf tyOf
 then-is types out c n cs l h =
     rw (add-one n, take-suc-set out n 1 l, h)
-    (tys-append (take c types ++ cs) (1 ∷ [])
-    ∙ ap (λ (x : List Ty). x ++ (number ∷ [])) (tys-append (take c types) cs))
+    (types-append (take c types ++ cs) (1 ∷ [])
+    ∙ ap (λ (x : List Ty). x ++ (number ∷ [])) (types-append (take c types) cs))
 
 -- ---- what `then` sees of a reading
 sees-at : (A : List ℕ) (env : List Ty) (w : ℕ) (s : Sees A env w) → (1 ≤ w) × (w - 1 < byte A 9)
     × (s .values ≡ readingType (pieceAt A (readingPlace A (w - 1))))
 unfolding readingOfType
-sees-at A env zero s = let z : _≡_ {A = ℕ} 0 1 = cc (s .is) in absurd (omega arith)
+sees-at A env zero s = impossible (cc (s .is))
 sees-at A env (suc k) s = go (decLe (byte A 9) k)
   where
     go : Dec (byte A 9 ≤ k) → (1 ≤ suc k) × (suc k - 1 < byte A 9)
         × (s .values ≡ readingType (pieceAt A (readingPlace A (suc k - 1))))
-    go (yes h) = let e = sym (readings-past A k h) ∙ s .is in let z : _≡_ {A = ℕ} 0 1 = cc in absurd (omega arith)
+    go (yes h) = let e = sym (readings-past A k h) ∙ s .is in impossible cc
     go (no h) = let j : suc k - 1 ≡ k = omega arith in
         (omega arith, omega arith, rw j (some-inj (sym (s .is) ∙ readings-at A k (omega arith))))
 
@@ -61,28 +59,11 @@ module _ {places A : List ℕ} {w : ℕ} (types : List ℕ) (count : ℕ)
   named = let h = sees-at A (sightOf types count) w (pre .1 .sees) in (h .0, h .1)
 
   module _ {a e : ℕ} (p : a ≡ readingPlace A (w - 1)) (q : e ≡ recordEnd A a) where
-    piece-length : length (pieceAt A (readingPlace A (w - 1))) ≡ e - a
-    piece-length = sym (ap length (part-piece A p q)) ∙ length-part A a e (omega (arith, record-end-within A a))
-
     pub values-room : (a + 5 ≤ e) × (e ≤ length A)
-    values-room = (
-      omega (
-        arith,
-        piece-length,
-        reading-facts (pre .0) (w - 1) (named .1) .long,
-        record-end-after A a (omega (arith, reading-within (pre .0) (w - 1))),
-      ),
-      omega (arith, record-end-within A a),
-    )
+    values-room = (omega (arith, reading-end (pre .0) (named .1) p q), omega (arith, record-end-within A a))
 
     values-are : pre .1 .sees .values ≡ tysOf (part A (a + 5) e)
-    unfolding readingType
-    values-are =
-        let s = pieceAt A (readingPlace A (w - 1)) in
-        let same : part s 5 (length s) ≡ part A (a + 5) e = ap (λ (u : List ℕ). part u 5 (length s))
-        (sym (part-piece A p q)) ∙ part-part A a e 5 (length s) (omega (arith, piece-length, values-room))
-        ∙ ap (λ (z : ℕ). part A (a + 5) z) (omega (arith, piece-length, values-room)) in
-        sees-at A (sightOf types count) w (pre .1 .sees) .2 ∙ ap tysOf same
+    values-are = sees-at A (sightOf types count) w (pre .1 .sees) .2 ∙ reading-types (pre .0) (named .1) p q
 
     pub sight-room : count + (e - a - 5) + 1 ≤ 16
     unfolding tysOf

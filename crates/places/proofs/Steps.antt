@@ -20,11 +20,13 @@ use Rattle.csl.specs.Decode.{expr, waitAt, joinOf, recordsEnd, instanceOf, clau
 use Rattle.csl.specs.Decode.{agreementOf}
 use Rattle.csl.specs.Typing.{Names, blameOk, hasType, readingOfType, thenSight, typeWait, typeClause, namesOf}
 use Rattle.csl.specs.Places.{find}
+use Rattle.laws.proofs.Clash.{impossible}
+use Rattle.laws.proofs.Options.{from-bind, from-need, some-inj}
+use Rattle.laws.proofs.Bools.{elim-true, elim-false}
 use Rattle.records.specs.Index.{firstClause}
-use Rattle.records.proofs.Trees.{clause-zero, clause-none, clause-at, clause-wait, clause-two, sided, sided-choice}
+use Rattle.records.proofs.Trees.{clause-at, clause-wait, clause-two, clause-deep, clause-record, sided, sided-choice}
 use Rattle.records.proofs.Trees.{kind-fulfilled, kind-instance, kind-no-clause-low, kind-no-clause-high}
 use Rattle.records.proofs.Index.{first-within, first-from}
-use Rattle.soundness.proofs.Inversion.{from-bind, from-need, some-inj}
 use Rattle.soundness.proofs.Places.{Out, find-none, orElse-none, none-orElse}
 use Rattle.soundness.proofs.Decoding.{clause-ranged}
 use Rattle.places.specs.Locate.{sightOf, waitNumber, findAt, TypedAt, Typed, Sees, GoesInto, IsHere}
@@ -95,7 +97,7 @@ module _ (n : Names) (env : List Ty) where
 
   pub bad-typed : {C : Type 0} (ps : List ℕ) → typeClause n env badClause ≡ some ps → C
   unfolding typeClause
-  bad-typed ps e = let z : _≡_ {A = ℕ} 0 1 = cc in absurd (omega arith)
+  bad-typed ps e = impossible cc
 
   -- kinds 19 to 21
   sides-typed : (e : List ℕ → Expr) (p : ℕ) (s : List ℕ) (k : ℕ) (t f : Clause) (ps : List ℕ) → 19 ≤ k
@@ -121,12 +123,6 @@ find-sides rs n place env e p s k t f l = rw (ne-eqb k 18 (λ z. omega arith)) (
     go false = refl
 
 -- what is found at its own place, and elsewhere
-on-true : {A : Type 0} (b : Bool) (x y : A) → b ≡ true → (elim b [ true ↦ x | false ↦ y ]) ≡ x
-on-true b x y e = rw e refl
-
-on-false : {A : Type 0} (b : Bool) (x y : A) → b ≡ false → (elim b [ true ↦ x | false ↦ y ]) ≡ y
-on-false b x y e = rw e refl
-
 -- what `then` sees, the wanted reading type standing at i
 abbrev seen : List (List Ty) → List Ty → List ℕ → ℕ → List Ty
 seen rs env s i = thenSight env (orNil (readingOfType rs (byte s i)))
@@ -138,12 +134,12 @@ module _ (rs : List (List Ty)) (n : ℕ) (env : List Ty) (place p : ℕ) (e : Li
     params = n;
   })
   unfolding find waitAt
-  find-own b t h = on-true (eqb place p) _ _ (eq-eqb place p h)
+  find-own b t h = elim-true (eqb place p) _ _ (eq-eqb place p h)
 
   find-then : (b : ℕ) (t : Clause) → (place ≡ p → ⊥)
       → find rs n place (obligation b (waitAt e p s 5) t) env ≡ find rs n place t (seen rs env s 5)
   unfolding find waitAt
-  find-then b t h = on-false (eqb place p) _ _ (ne-eqb place p h)
+  find-then b t h = elim-false (eqb place p) _ _ (ne-eqb place p h)
 
   choice-own : (t f : Clause) → place ≡ p → find rs n place (choice (waitAt e p s 4) t f) env ≡ some (record {
     clause = choice (waitAt e p s 4) t f;
@@ -151,29 +147,27 @@ module _ (rs : List (List Ty)) (n : ℕ) (env : List Ty) (place p : ℕ) (e : Li
     params = n;
   })
   unfolding find waitAt
-  choice-own t f h = on-true (eqb place p) _ _ (eq-eqb place p h)
+  choice-own t f h = elim-true (eqb place p) _ _ (eq-eqb place p h)
 
   choice-other : (t f : Clause) → (place ≡ p → ⊥)
       → find rs n place (choice (waitAt e p s 4) t f) env ≡ orElse (find rs n place t (seen rs env s 4))
       (find rs n place f env)
   unfolding find waitAt
-  choice-other t f h = on-false (eqb place p) _ _ (ne-eqb place p h)
+  choice-other t f h = elim-false (eqb place p) _ _ (ne-eqb place p h)
 
 -- ---- a typed clause is a record
 module _ {A : List ℕ} {d p : ℕ} {s : List ℕ} {env : List Ty} (t : TypedAt A d p s env) where
+  abbrev HasParties : Clause → Type 0
+  HasParties c = typeClause (namesOf (agreementOf A) (t .params)) env c ≡ some (t .parties)
+
+  no-parties : HasParties badClause → ⊥
+  no-parties e = bad-typed (namesOf (agreementOf A) (t .params)) env (t .parties) e
+
   deep : d ≡ 0 → ⊥
-  deep e = bad-typed (namesOf (agreementOf A) (t .params)) env {C = ⊥} (t .parties)
-      (subst (λ (c : Clause). typeClause (namesOf (agreementOf A) (t .params)) env c ≡ some (t .parties))
-      (sym (clause-zero (λ (c : Clause). c) (headsOf A) d p s e refl)) (t .typed))
+  deep = clause-deep HasParties no-parties (headsOf A) d p s (t .typed)
 
   is-record : isRecord s ≡ true
-  is-record = go (isRecord s) refl
-    where
-      go : (b : Bool) → isRecord s ≡ b → b ≡ true
-      go true e = refl
-      go false e = bad-typed (namesOf (agreementOf A) (t .params)) env {C = false ≡ true} (t .parties)
-          (subst (λ (c : Clause). typeClause (namesOf (agreementOf A) (t .params)) env c ≡ some (t .parties))
-          (sym (clause-none (λ (c : Clause). c) (headsOf A) d p s deep (sym e) refl refl)) (t .typed))
+  is-record = clause-record HasParties no-parties (headsOf A) d p s (t .typed)
 
 pub typed-room : {A : List ℕ} {p : ℕ} {s : List ℕ} {env : List Ty} → Typed A p s env → 4 ≤ length s
 typed-room {s = s} t = whole-from s (is-record (t .at)) .room

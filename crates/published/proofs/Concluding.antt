@@ -10,14 +10,14 @@ use Rattle.csl.specs.Lists.{at}
 use Rattle.csl.specs.Numbers.{laterOf}
 use Rattle.csl.specs.Syntax.{Agreement, Clause, Join, or, Template, Ty, Wait, choice, obligation}
 use Rattle.csl.specs.Typing.{blameOk, joinOk, namesOf, thenSight, typeClause, typeWait}
-use Rattle.csl.specs.Outcomes.{Sight, unit, Outcome, done, breach, running, stuck, anObligation, joined}
+use Rattle.csl.specs.Outcomes.{Sight, unit, Outcome, done, breach, anObligation, joined}
 use Rattle.csl.specs.Rules.{Window}
 use Rattle.csl.specs.Table.{standFor}
 use Rattle.csl.specs.Demand3.{NotStuck}
-use Rattle.soundness.proofs.Inversion.{from-bind, from-need, some-inj}
+use Rattle.laws.proofs.Options.{from-bind, from-need, some-inj}
+use Rattle.laws.proofs.Integers.{later-from}
 use Rattle.soundness.proofs.Members.{Sub, in-right, stand-sub}
-use Rattle.soundness.proofs.Times.{later-from}
-use Rattle.soundness.proofs.Good.{Good, Placed, SightOk, good-sub, joined-good}
+use Rattle.soundness.proofs.Good.{Good, Placed, SightOk, good-sub, joined-good, good-moves}
 use Rattle.soundness.proofs.Walks.{Fair, blamed-ok, num-typed}
 use Rattle.soundness.proofs.Following.{breach-good, from-wait}
 use Rattle.published.specs.Fig6.{Due, due}
@@ -52,20 +52,14 @@ module _ (ag : Agreement) (mains : List ℕ) (fair : Fair ag mains) where
   abbrev From : ℕ → Type 0
   From t = ag .start ≤ t
 
-  good-moves : (P : List ℕ) (o : Outcome) → Good ag From P o → NotStuck o
-  unfolding Good NotStuck
-  good-moves P done g = tt
-  good-moves P (breach t ps) g = tt
-  good-moves P (running r) g = tt
-  good-moves P stuck g = g
-
   abbrev Verdict : ℕ → Text → List ℕ → Type 0
   Verdict τ x P = (ν : Outcome) × Finishes (ag .templates) τ x ν × Good ag From P ν
 
   joined-verdicts : (j : Join) (P Q : List ℕ) (p q : Outcome) → T (joinOk j (P ++ Q)) → Good ag From P p
       → Good ag From Q q → Joins j p q (joined j p q) × Good ag From (P ++ Q) (joined j p q)
   joined-verdicts j P Q p q ok g h =
-      let k = joined-good ag From j P Q p q ok g h in (joins-derived j p q (good-moves (P ++ Q) (joined j p q) k) .2, k)
+      let k = joined-good ag From j P Q p q ok g h in
+      (joins-derived j p q (good-moves ag From (P ++ Q) (joined j p q) k) .2, k)
 
   -- the window of a typed wait
   has-window : {C : Type 0} (n : ℕ) (env : List Ty) (s : Sight) (τ : ℕ) (w : Wait) (vs : List Ty) → SightOk ag n env s

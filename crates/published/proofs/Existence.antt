@@ -16,7 +16,9 @@ use Rattle.csl.specs.Guards.{guardedIn}
 use Rattle.csl.specs.Values.{Val, bool, evalBool}
 use Rattle.csl.specs.Outcomes.{Sight}
 use Rattle.csl.specs.Table.{standFor}
-use Rattle.soundness.proofs.Inversion.{T-left, T-right, from-bind, from-need, some-inj}
+use Rattle.laws.proofs.Clash.{impossible}
+use Rattle.laws.proofs.Bools.{T-left, T-right}
+use Rattle.laws.proofs.Options.{from-bind, from-need, some-inj}
 use Rattle.soundness.proofs.Members.{Sub, in-left, in-right, stand-++, stand-joinOk, stand-sub}
 use Rattle.soundness.proofs.Evaluation.{HaveTy}
 use Rattle.soundness.proofs.Good.{SightOk}
@@ -129,7 +131,7 @@ module _ (ag : Agreement) (W : ℕ → Type 0) (Got : Type 0) (Fine : List ℕ �
               (rules .fine-sub (h .declared ++ stood) (standFor (s .params) (h .declared ++ cs)) (g .0) declared
               (g .2)),
         )
-    clause-gives m below badClause n env s τ bs gd ok wτ ty = let z : _≡_ {A = ℕ} 0 1 = cc in absurd (omega arith)
+    clause-gives m below badClause n env s τ bs gd ok wτ ty = impossible cc
 
     instances : (m : ℕ) → Instances m
     instances zero k h vs ps τ lt p hv count range wτ = absurd (omega arith)

@@ -6,6 +6,7 @@ use mathlib.Core.Option.{Option, some}
 use mathlib.Core.Path.{ap, ap₂, refl, subst, sym, _∙_, _≡_}
 use Prim.Native.Nat.{ℕ, _<_, _≤_}
 use native.Mathlib.Omega.{arith}
+use borrow.Author.Tests.{eqb-false}
 use lib.Dec.{T, eqb, eqb→eq, leb}
 use lib.IntN.{ℤ, pos, _+ℤ_, _-ℤ_}
 use lib.ListN.{length}
@@ -19,10 +20,11 @@ use Rattle.csl.specs.Values.{evalBool}
 use Rattle.csl.specs.Outcomes.{Sight, Outcome, breach, joined}
 use Rattle.csl.specs.Rules.{Reading, Window, withValues}
 use Rattle.csl.specs.Table.{standFor}
-use Rattle.soundness.proofs.Inversion.{from-bind, from-need, passes, some-bind, some-inj}
+use Rattle.laws.proofs.Options.{from-bind, from-need, passes, some-bind, some-inj}
+use Rattle.laws.proofs.Integers.{later-from}
 use Rattle.soundness.proofs.Members.{Sub, in-left, in-right, joinOk-sub, stand-sub, sub-both, sub-refl, sub-trans}
 use Rattle.soundness.proofs.Evaluation.{HasTy, HaveTy, HaveTy-++}
-use Rattle.soundness.proofs.Times.{later-from, later-to, remaining-range}
+use Rattle.soundness.proofs.Times.{later-to, remaining-range}
 use Rattle.soundness.proofs.Good.{Good, SightOk, good-sub, joined-good, left-good, right-good}
 use Rattle.soundness.proofs.Walks.{Fair, blamed-ok, bool-typed, num-typed}
 use Rattle.soundness.proofs.Following.{ReadingOk, breach-good, from-wait}
@@ -39,7 +41,7 @@ use Rattle.published.proofs.Sighted.{i-choice-waiting, i-composition, i
 use Rattle.published.proofs.Sighted.{i-internal-false, i-instantiation}
 use Rattle.published.proofs.Evaluations.{bool-derived, num-derived, stands-derived}
 use Rattle.published.proofs.Verdicts.{joins-derived}
-use Rattle.published.proofs.Reducing.{ltZ-false, true-ltZ, false-ltZ, type-other}
+use Rattle.published.proofs.Reducing.{ltZ-false, true-ltZ, false-ltZ}
 use Rattle.published.proofs.Existence.{Rules, typed-gives}
 use Rattle.published.proofs.Ranges.{rewritten-range}
 
@@ -170,7 +172,7 @@ module _ (ag : Agreement) (mains : List ℕ) (fair : Fair ag mains) (ε : Readin
 
             wanted : (b c : Bool) → eqb (w .wanted) (ε .type) ≡ b → ltZ (pos (ε .time)) (win .first) ≡ c
                 → Way n env s τ w vs win
-            wanted false c p f = waits l (other l (type-other (w .wanted) (ε .type) p))
+            wanted false c p f = waits l (other l (eqb-false (w .wanted) (ε .type) p))
             wanted true true p f = waits l (early l (true-ltZ _ _ f))
             wanted true false p f =
                 let same = eqb→eq (w .wanted) (ε .type) (subst T (sym p) tt) in

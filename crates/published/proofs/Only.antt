@@ -10,7 +10,7 @@ use Rattle.csl.specs.Syntax.{Clause, Join, and, or, Template, Wait, choice, joi
 use Rattle.csl.specs.Outcomes.{Outcome, done, breach, running, stuck, joined}
 use Rattle.csl.specs.Rules.{Reading, Window}
 use Rattle.csl.specs.Demand3.{NotStuck}
-use Rattle.soundness.proofs.Inversion.{some-inj}
+use Rattle.laws.proofs.Options.{some-inj}
 use Rattle.published.specs.Fig6.{Due}
 use Rattle.published.specs.Verdicts.{and-first, and-second, and-same, or-first, or-second, or-same}
 use Rattle.published.specs.Fig7.{put}

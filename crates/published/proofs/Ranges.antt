@@ -8,6 +8,7 @@ use lib.Dec.{T, leb→le, le→leb, ltb, ltb→lt, nltb→le}
 use lib.IntN.{ℤ, pos, negsuc, natAbs, subℕ, _+ℤ_, _-ℤ_, +ℤ-comm, +ℤ-negℤ-cancel}
 use lib.Signed.{leZ, _≤ℤ_}
 use Rattle.csl.specs.Numbers.{inRange, limit}
+use Rattle.laws.proofs.Integers.{difference-below}
 
 -- a and b apart by at most m
 sub-size : (a b m : ℕ) → a ≤ b + m → b ≤ a + m → natAbs (subℕ a b) ≤ m
@@ -29,15 +30,11 @@ sub-above a b t = go (ltb a b) refl
     go true e h = absurd h
     go false e h = let l = nltb→le a b (subst (λ z. T (not z)) (sym e) tt) in let k = leb→le t (a - b) h in omega arith
 
-sub-below : (a b m : ℕ) → subℕ a b ≡ pos m → m ≤ a
-sub-below a b m e = let h = sub-above a b m (subst (λ z. T (leZ (pos m) z)) (sym e) (le→leb m m (omega arith))) in
-    omega arith
-
 -- the window's first end, of a clause activated at τ, is at most τ + limit
 first-below : (τ a : ℕ) (x : ℤ) → T (inRange x) → pos τ +ℤ x ≡ pos a → a ≤ τ + limit
 unfolding inRange
 first-below τ a (pos b) h e = let q : τ + b ≡ a = cc in omega (arith, leb→le b limit h)
-first-below τ a (negsuc b) h e = omega (arith, sub-below τ (suc b) a e)
+first-below τ a (negsuc b) h e = omega (arith, difference-below τ (suc b) a e)
 
 -- τ₁ − τ′ is in range
 after-range : (f y : ℤ) (τ t : ℕ) (x : ℤ) → T (inRange x) → T (inRange y) → τ ≤ t → pos τ +ℤ x ≡ f

@@ -15,7 +15,8 @@ use Rattle.csl.specs.Syntax.{instance, join, negation, numberLit, obligation, p
 use Rattle.csl.specs.Values.{Val, bool, num, who}
 use Rattle.csl.specs.Outcomes.{Sight}
 use Rattle.csl.specs.Rules.{Reading, Window, withValues}
-use Rattle.soundness.proofs.Inversion.{T-both}
+use Rattle.laws.proofs.Clash.{impossible}
+use Rattle.laws.proofs.Bools.{T-both, T→true, not-T→false}
 use Rattle.soundness.proofs.Members.{all-in}
 use Rattle.soundness.proofs.Walks.{at-in}
 use Rattle.published.specs.Fig6.{Evaluates, e-number, e-false, e-true, e-party, e-sight, e-not, e-arithmetic}
@@ -31,7 +32,6 @@ use Rattle.published.specs.Literal.{leaves-other, leaves-untrue, continu
 use Rattle.published.specs.Literal.{l-obligation-matched, l-obligation-late, l-obligation-waiting}
 use Rattle.published.specs.Literal.{l-choice-matched, l-choice-late, l-choice-waiting, l-composition}
 use Rattle.published.specs.Literal.{l-internal-true, l-internal-false, l-instantiation}
-use Rattle.published.proofs.Verdicts.{is-true, is-false}
 use Rattle.published.proofs.Sighted.{Text, closed, joins, Sighted, i-fulfilment, i-obligation-matched}
 use Rattle.published.proofs.Sighted.{i-obligation-late, i-obligation-waiting, i-choice-matched, i-choice-late}
 use Rattle.published.proofs.Sighted.{i-choice-waiting, i-composition, i-joins, i-internal-true}
@@ -74,14 +74,14 @@ all-put θ (e-more d ds) = e-more (evaluates-put θ d) (all-put θ ds)
 -- ---- e[θ₁][θ₂] is e[θ₁ ++ θ₂]
 at-first : (θ₁ θ₂ : List Val) (i : ℕ) (v : Val) → at θ₁ i ≡ some v → at (θ₁ ++ θ₂) i ≡ some v
 unfolding at
-at-first [] θ₂ i v e = let z : _≡_ {A = ℕ} 0 1 = cc in absurd (omega arith)
+at-first [] θ₂ i v e = impossible cc
 at-first (u ∷ θ₁) θ₂ zero v e = e
 at-first (u ∷ θ₁) θ₂ (suc i) v e = at-first θ₁ θ₂ i v e
 
 at-rest : (θ₁ θ₂ : List Val) (i : ℕ) → at θ₁ i ≡ none → at (θ₁ ++ θ₂) i ≡ at θ₂ (i - length θ₁)
 unfolding at
 at-rest [] θ₂ i e = ap (at θ₂) (omega arith)
-at-rest (u ∷ θ₁) θ₂ zero e = let z : _≡_ {A = ℕ} 0 1 = cc in absurd (omega arith)
+at-rest (u ∷ θ₁) θ₂ zero e = impossible cc
 at-rest (u ∷ θ₁) θ₂ (suc i) e = at-rest θ₁ θ₂ i e ∙ ap (at θ₂) (omega arith)
 
 literal-stays : (θ : List Val) (v : Val) → putExpr θ (literal v) ≡ literal v
@@ -133,15 +133,15 @@ no-blames [] = refl
 no-blames (b ∷ bs) = ap₂ (λ x xs. x ∷ xs) (no-blame b) (no-blames bs)
 
 -- ---- clauses
+abbrev waits : Wait → Expr → Expr → Expr → Wait
+waits w c a i = record { place = w .place; wanted = w .wanted; condition = c; after = a; within = i }
+
 wait-twice : (θ₁ θ₂ : List Val) (w : Wait) → putWait θ₂ (putWait θ₁ w) ≡ putWait (θ₁ ++ θ₂) w
 wait-twice θ₁ θ₂ w =
-    ap (λ e. waits e (putExpr θ₂ (putExpr θ₁ (w .after))) (putExpr θ₂ (putExpr θ₁ (w .within))))
+    ap (λ e. waits w e (putExpr θ₂ (putExpr θ₁ (w .after))) (putExpr θ₂ (putExpr θ₁ (w .within))))
     (put-twice-expr θ₁ θ₂ (w .condition))
-    ∙ ap₂ (waits (putExpr (θ₁ ++ θ₂) (w .condition))) (put-twice-expr θ₁ θ₂ (w .after))
+    ∙ ap₂ (waits w (putExpr (θ₁ ++ θ₂) (w .condition))) (put-twice-expr θ₁ θ₂ (w .after))
     (put-twice-expr θ₁ θ₂ (w .within))
-  where
-    waits : Expr → Expr → Expr → Wait
-    waits c a i = record { place = w .place; wanted = w .wanted; condition = c; after = a; within = i }
 
 -- c[θ₁]⟨ps⟩[θ₂] is c[θ₁ ++ θ₂]⟨ps⟩
 put-twice : (θ₁ θ₂ : List Val) (ps : List ℕ) (c : Clause) → put θ₂ [] (put θ₁ ps c) ≡ put (θ₁ ++ θ₂) ps c
@@ -175,11 +175,8 @@ nothing-exprs [] = refl
 nothing-exprs (e ∷ es) = ap₂ (λ x xs. x ∷ xs) (nothing-expr e) (nothing-exprs es)
 
 nothing-wait : (w : Wait) → putWait [] w ≡ w
-nothing-wait w = ap (λ e. waits e (putExpr [] (w .after)) (putExpr [] (w .within))) (nothing-expr (w .condition))
-    ∙ ap₂ (waits (w .condition)) (nothing-expr (w .after)) (nothing-expr (w .within))
-  where
-    waits : Expr → Expr → Expr → Wait
-    waits c a i = record { place = w .place; wanted = w .wanted; condition = c; after = a; within = i }
+nothing-wait w = ap (λ e. waits w e (putExpr [] (w .after)) (putExpr [] (w .within))) (nothing-expr (w .condition))
+    ∙ ap₂ (waits w (w .condition)) (nothing-expr (w .after)) (nothing-expr (w .within))
 
 pub put-nothing : (c : Clause) → put [] [] c ≡ c
 unfolding put
@@ -201,10 +198,10 @@ Small ps = T (all (λ p. ltb p 128) ps)
 blame-is : (ps : List ℕ) {b p : ℕ} → Stands ps b p → putBlame ps b ≡ p
 unfolding putBlame
 blame-is ps (a-party {b = b} l) = ap (λ t. elim t
-    [ true ↦ b | false ↦ elim (at ps (b - 128)) [ some p ↦ p | none ↦ b ] ]) (is-true (ltb b 128) (lt→ltb b 128 l))
+    [ true ↦ b | false ↦ elim (at ps (b - 128)) [ some p ↦ p | none ↦ b ] ]) (T→true (ltb b 128) (lt→ltb b 128 l))
 blame-is ps (a-parameter {b = b} l e) =
     ap (λ t. elim t [ true ↦ b | false ↦ elim (at ps (b - 128)) [ some p ↦ p | none ↦ b ] ])
-    (is-false (ltb b 128) (λ t. let k = ltb→lt b 128 t in omega arith))
+    (not-T→false (ltb b 128) (λ t. let k = ltb→lt b 128 t in omega arith))
     ∙ ap (λ o. elim o [ some p ↦ p | none ↦ b ]) e
 
 stands-small : (ps : List ℕ) {b p : ℕ} → Small ps → Stands ps b p → p < 128

@@ -10,6 +10,7 @@ use Rattle.csl.specs.Syntax.{Clause, Agreement}
 use Rattle.csl.specs.Check.{accepted, checked}
 use Rattle.csl.specs.Outcomes.{Outcome, done, breach, running, stuck}
 use Rattle.csl.specs.Rules.{Reading}
+use Rattle.laws.proofs.Clash.{impossible}
 use Rattle.soundness.proofs.Members.{all-in, in-all}
 use Rattle.soundness.proofs.Evaluation.{HaveTy}
 use Rattle.soundness.proofs.Walks.{Fair}
@@ -38,10 +39,10 @@ steps-at ag breached-stays h = absurd h
 -- a breach is final
 steps-final : (ag : Agreement) {ε : Reading} {τ u t : ℕ} {o q : Outcome} (B : List ℕ) → Steps ag ε τ o u q
     → o ≡ breach t B → (u ≡ τ) × (q ≡ breach t B)
-steps-final ag B (to-breach f) e = let z : _≡_ {A = ℕ} 0 1 = cc in absurd (omega arith)
-steps-final ag B (to-clause f) e = let z : _≡_ {A = ℕ} 0 1 = cc in absurd (omega arith)
-steps-final ag B (to-fulfilled f) e = let z : _≡_ {A = ℕ} 0 1 = cc in absurd (omega arith)
-steps-final ag B fulfilled-stays e = let z : _≡_ {A = ℕ} 0 1 = cc in absurd (omega arith)
+steps-final ag B (to-breach f) e = impossible cc
+steps-final ag B (to-clause f) e = impossible cc
+steps-final ag B (to-fulfilled f) e = impossible cc
+steps-final ag B fulfilled-stays e = impossible cc
 steps-final ag B breached-stays e = (refl, e)
 
 runs-final : (ag : Agreement) {bs : List (List ℕ)} {t u v : ℕ} {o q : Outcome} (B : List ℕ) → Runs ag t o bs u q
@@ -152,7 +153,7 @@ module _ (bytes : List ℕ) (a : Agreement) (mains : List ℕ) (ck : checked byt
       → Shown a u r o → (c : Clause) → closesAll r ≡ clause c
       → (ν : Outcome) × Concludes (a .templates) u c ν × ((μ : Outcome) → Concludes (a .templates) u c μ → μ ≡ ν)
       × Ahead a o ν
-  letter-ends u from (breached t B) o st h c e = let z : _≡_ {A = ℕ} 0 1 = cc in absurd (omega arith)
+  letter-ends u from (breached t B) o st h c e = impossible cc
   letter-ends u from (clause x) o st h c e =
       let v = text-finishes a mains checks u (st .1) from in
       let same : closes x ≡ c = cc in

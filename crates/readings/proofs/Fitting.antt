@@ -8,22 +8,24 @@ use native.Mathlib.Omega.{arith}
 use borrow.Author.Tests.{eq-eqb, ne-eqb}
 use lib.Dec.{eqb, eqb→eq}
 use lib.IntN.{ℤ}
-use lib.ListN.{length, take, length-map}
+use lib.ListN.{length, take}
 use lib.Seq.{length-take-le}
 use Rattle.arith.proofs.Ints.{some-bits}
-use Rattle.arith.proofs.Lists.{length-part, part-part}
+use Rattle.arith.proofs.Lists.{length-part}
 use Rattle.arith.proofs.Bytes.{record-end-within}
 use Rattle.csl.specs.Lists.{_>>=_, at}
 use Rattle.csl.specs.Bytes.{byte, part, recordEnd}
 use Rattle.csl.specs.Syntax.{Ty, Agreement}
-use Rattle.csl.specs.Decode.{agreementOf, readingType, tyOf, tysOf}
+use Rattle.csl.specs.Decode.{agreementOf, tysOf}
 use Rattle.csl.specs.Values.{valuesOf}
 use Rattle.csl.specs.Rules.{Reading}
 use Rattle.csl.specs.Run as run
 use Rattle.csl.specs.Run.{rawReading, typedReading, valuesWanted}
 use Rattle.csl.specs.Table.{cellsOf}
+use Rattle.laws.proofs.Options.{some-inj, from-bind, from-need}
+use Rattle.laws.proofs.Types.{types-length}
 use Rattle.records.specs.Index.{Indexed, readingPlace, pieceAt}
-use Rattle.records.proofs.Index.{readings-at, readings-past, reading-facts, part-piece}
+use Rattle.records.proofs.Index.{readings-at, readings-past, reading-end, reading-types, part-piece}
 use Rattle.readings.specs.declared.Raw.{Raw}
 use Rattle.readings.specs.declared.Raw.the-variants.{Malformed, Read}
 use Rattle.readings.specs.Taking.{given, RawRead, RawIs, TypedIs, UntypedRead, FittingRead}
@@ -105,27 +107,18 @@ module _ {places s : List ℕ} (x : Indexed places s) {k b a e : ℕ} (f : k ≡
   within : e ≤ length s
   within = omega (arith, record-end-within s a)
 
-  long : length (part s a e) ≡ 5 + byte (part s a e) 4
-  long = rw cut (reading-facts x (k - 1) listed .long)
-
   pub types-from : a + 5 ≤ e
-  types-from = omega (arith, long, length-part s a e within)
+  types-from = omega (arith, reading-end x listed q g)
 
   types-many : length (part s (a + 5) e) ≡ byte (part s a e) 4
-  types-many = omega (arith, long, length-part s a e within, length-part s (a + 5) e within)
-
-  types-are : readingType (pieceAt s (readingPlace s (k - 1))) ≡ tysOf (part s (a + 5) e)
-  unfolding readingType
-  types-are =
-      let m : a + length (part s a e) ≡ e = omega (arith, long, length-part s a e within) in
-      rw (← cut) (ap tysOf (rw m at (part-part s a e 5 (length (part s a e)) (omega arith))))
+  types-many = rw cut (omega (arith, reading-end x listed q g, length-part s (a + 5) e within))
 
   wanted : (w : run.Raw) → k ≡ w .type → valuesWanted (agreementOf s) (w .type) ≡ some (tysOf (part s (a + 5) e))
-  wanted w h = rw (← h) (wanted-at (agreementOf s) k (some-bits f) ∙ readings-at s (k - 1) listed ∙ ap some types-are)
+  wanted w h = rw (← h) (wanted-at (agreementOf s) k (some-bits f) ∙ readings-at s (k - 1) listed
+      ∙ ap some (reading-types x listed q g))
 
   count : length (tysOf (part s (a + 5) e)) ≡ byte (part s a e) 4
-  unfolding tysOf
-  count = length-map (part s (a + 5) e) tyOf ∙ types-many
+  count = types-length (part s (a + 5) e) ∙ types-many
 
   -- n values were read
   module _ (vs : List ℤ) {n d : ℕ} (m : n ≤ length vs) (h : d ≡ byte (part s a e) 4) where

@@ -15,9 +15,9 @@ use Rattle.csl.specs.Bytes.{byte, le32, signed32, isRecord, kindNumber}
 use Rattle.csl.specs.Decode.{between}
 use Rattle.csl.specs.Run as run
 use Rattle.csl.specs.Run.{rawReading, numbersFrom}
-use Rattle.records.proofs.Index.{T-both, T-true, true-T}
+use Rattle.laws.proofs.Bools.{both-true, T→true, true→T, told-yes, told-no, refused}
 use Rattle.readings.specs.Taking.{given, RawRead}
-use Rattle.readings.proofs.Options.{told-yes, told-no, refused, given-none, given-needs, some-needs}
+use Rattle.readings.proofs.Options.{given-none, given-needs, some-needs}
 
 -- ---- the bytes are a reading, but that its values may be cut short
 pub record Holds (s : List ℕ) : Type 0 where
@@ -43,19 +43,19 @@ module _ (s : List ℕ) where
   holds : given (rawReading s) ≡ true → Holds s
   unfolding between
   holds e =
-      T-both isKind inLength (true-T (sym tests ∙ e)) λ t₁ t₂.
-      T-both (isRecord s) (eqb (kindNumber s) 64) t₁ λ h₁ h₂.
-      T-both (between 9 25 (length s)) _ t₂ λ t₃ h₅.
-      T-both (leb 9 (length s)) (leb (length s) 25) t₃ λ h₃ h₄.
+      both-true isKind inLength (true→T (sym tests ∙ e)) λ t₁ t₂.
+      both-true (isRecord s) (eqb (kindNumber s) 64) t₁ λ h₁ h₂.
+      both-true (between 9 25 (length s)) _ t₂ λ t₃ h₅.
+      both-true (leb 9 (length s)) (leb (length s) 25) t₃ λ h₃ h₄.
       record {
-        isOne = T-true (isRecord s) h₁;
+        isOne = T→true (isRecord s) h₁;
         kind = eqb→eq (kindNumber s) 64 h₂;
         long = leb→le 9 (length s) h₃;
         short = leb→le (length s) 25 h₄;
       }
 
   pub raw-no : (Holds s → ⊥) → false ≡ given (rawReading s)
-  raw-no f = refused (given (rawReading s)) λ e. f (holds e)
+  raw-no f = refused (given (rawReading s)) λ t. f (holds (T→true _ t))
 
   pub raw-last : Holds s → eqb ((length s - 9) % 4) 0 ≡ given (rawReading s)
   unfolding between

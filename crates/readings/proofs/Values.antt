@@ -1,6 +1,5 @@
 -- Laws for numbers as values of their types: which fit, and that the cell of each is the number.
 use mathlib.Core.Path.{_≡_, refl, sym, ap}
-use mathlib.Core.Bool.{Bool, true, false}
 use mathlib.Core.List.{List, [], _∷_}
 use mathlib.Core.Option.{some}
 use Prim.Native.Nat.{ℕ, zero, suc}
@@ -9,34 +8,16 @@ use borrow.Author.Tests.{lt-leb}
 use lib.Dec.{ltb}
 use lib.IntN.{ℤ, pos, negsuc}
 use lib.ListN.{length}
-use Rattle.csl.specs.Lists.{_>>=_, need}
+use Rattle.csl.specs.Lists.{_>>=_}
 use Rattle.csl.specs.Numbers.{inRange}
 use Rattle.csl.specs.Syntax.{Ty, number, truth, party}
 use Rattle.csl.specs.Values.{Val, num, who, asNat, asTruth, valueOf, valuesOf}
-use Rattle.csl.specs.Table.{cellOf, cellsOf}
+use Rattle.csl.specs.Table.{cellsOf}
 use Rattle.arith.specs.Values.{valueOk, valuesOk}
+use Rattle.laws.proofs.Options.{some-inj, none-some, from-bind}
+use Rattle.laws.proofs.Cells.{value-is}
 use Rattle.readings.specs.Taking.{given}
-use Rattle.readings.proofs.Options.{some-inj, none-some, given-need, given-both, from-bind}
-
--- ---- the cell of a value is the number
-truth-cell : (n : ℕ) (v : Val) → asTruth n ≡ some v → cellOf v ≡ pos n
-unfolding asTruth cellOf
-truth-cell zero v e = ap cellOf (sym (some-inj e))
-truth-cell (suc zero) v e = ap cellOf (sym (some-inj e))
-truth-cell (suc (suc n)) v e = none-some e
-
-ranged-cell : (b : Bool) (u v : Val) → need b >>= (λ _. some u) ≡ some v → cellOf v ≡ cellOf u
-unfolding need _>>=_
-ranged-cell true u v e = ap cellOf (sym (some-inj e))
-ranged-cell false u v e = none-some e
-
-pub value-cell : (ps : ℕ) (t : Ty) (z : ℤ) (v : Val) → valueOf ps t z ≡ some v → cellOf v ≡ z
-unfolding valueOf asNat _>>=_ cellOf
-value-cell ps number z v e = ranged-cell (inRange z) (num z) v e
-value-cell ps truth (pos n) v e = truth-cell n v e
-value-cell ps truth (negsuc n) v e = none-some e
-value-cell ps party (pos n) v e = ranged-cell (ltb n ps) (who n) v e
-value-cell ps party (negsuc n) v e = none-some e
+use Rattle.readings.proofs.Options.{given-need, given-both}
 
 -- ---- the test of a value, and of values, is whether there is one
 value-given : (ps : ℕ) (t : Ty) (z : ℤ) → valueOk ps t z ≡ given (valueOf ps t z)
@@ -67,4 +48,4 @@ values-cells ps (t ∷ ts) (z ∷ zs) r l e =
     from-bind (valueOf ps t z) _ r e λ v a₁ b₁.
     from-bind (valuesOf ps ts zs) _ r b₁ λ q a₂ b₂.
     let k = values-cells ps ts zs q (omega arith) a₂ in
-    rw (← some-inj b₂) (rw (value-cell ps t z v a₁, ← k .0) refl, ap suc (k .1))
+    rw (← some-inj b₂) (rw (← value-is ps t z v a₁, ← k .0) refl, ap suc (k .1))

@@ -1,10 +1,10 @@
 -- Laws for the parts of an agreement: where its records end, which records its lists have, and what the heads of an
 -- indexed agreement hold to.
-use mathlib.Core.Path.{_≡_, refl, sym, ap, subst, _∙_}
+use mathlib.Core.Path.{_≡_, refl, sym, ap, _∙_}
 use mathlib.Core.Bool.{Bool, true, false, cond, _&&_}
 use mathlib.Core.List.{List, [], _∷_, map}
 use mathlib.Core.Option.{none, some}
-use Prim.Native.Nat.{ℕ, zero, suc, _+_, _-_, _≤_, _<_, min}
+use Prim.Native.Nat.{ℕ, zero, suc, _+_, _-_, _≤_, _<_}
 use native.Mathlib.Nat.{le-of-suc-le-suc, not-suc-le-zero}
 use native.Mathlib.Numerals.{add-one}
 use native.Mathlib.Omega.{arith}
@@ -16,50 +16,16 @@ use Rattle.csl.specs.Lists.{all, at}
 use Rattle.csl.specs.Bytes.{byte, le16, part, isRecord, kindNumber, recordEnd}
 use Rattle.csl.specs.Syntax.{Head}
 use Rattle.csl.specs.Decode.{Piece, recordsEnd, pieces, templatesPlace, mainPlace, readingPieces, templatePieces}
-use Rattle.csl.specs.Decode.{headsOf, bodyPlace, bodyOf, clause, templateOf, agreementOf, isType, tyOf, tysOf, readingTypeOk}
-use Rattle.csl.specs.Decode.{readingType, templateOk, templateHead, waitEnd}
+use Rattle.csl.specs.Decode.{headsOf, bodyPlace, bodyOf, clause, templateOf, agreementOf, isType, tyOf, tysOf}
+use Rattle.csl.specs.Decode.{readingTypeOk, readingType, templateOk, templateHead}
 use Rattle.csl.specs.Typing.{headsIn}
-use Rattle.records.specs.Index.{Indexed, readingPlace, templatePlace, pieceAt, headAt, templatePiece, valueCount}
-use Rattle.records.specs.Index.{bodyFrom, bodyTo, Spans, firstClause}
-
--- ---- tests that hold
-pub T-both : {C : Type 0} (a b : Bool) → T (a && b) → (T a → T b → C) → C
-T-both true b t k = k tt t
-T-both false b t k = absurd t
-
-pub T-true : (b : Bool) → T b → b ≡ true
-T-true true t = refl
-T-true false t = absurd t
-
-pub true-T : {b : Bool} → b ≡ true → T b
-true-T e = subst T (sym e) tt
+use Rattle.records.specs.Index.{Indexed, readingPlace, templatePlace, pieceAt, headAt, templatePiece}
+use Rattle.records.specs.Index.{valueCount, bodyFrom, bodyTo, Spans, firstClause}
+use Rattle.laws.proofs.Bools.{both-true, T→true}
+use Rattle.laws.proofs.RecordEnds.{record-end-from, wait-within, wait-from, pieces-within}
+use Rattle.laws.proofs.Templates.{params-few}
 
 -- ---- where records end
-pub end-from : (s : List ℕ) (a : ℕ) → min a (length s) ≤ recordEnd s a
-unfolding recordEnd
-end-from s a = omega arith
-
-pub wait-within : (s : List ℕ) (i : ℕ) → waitEnd s i ≤ length s
-unfolding waitEnd
-wait-within s i = record-end-within s (recordEnd s (recordEnd s (i + 1)))
-
-pub wait-from : (s : List ℕ) (i : ℕ) → min (i + 1) (length s) ≤ waitEnd s i
-unfolding waitEnd
-wait-from s i =
-    let a = recordEnd s (i + 1) in
-    let b = recordEnd s a in
-    omega (arith, end-from s (i + 1), end-from s a, end-from s b, record-end-within s (i + 1), record-end-within s a)
-
-pub pieces-within : (n : ℕ) (s : List ℕ) (i : ℕ) → i ≤ length s → recordsEnd n s i ≤ length s
-unfolding recordsEnd
-pieces-within zero s i l = l
-pieces-within (suc n) s i l = pieces-within n s (recordEnd s i) (record-end-within s i)
-
-pub some-within : (n : ℕ) (s : List ℕ) (i : ℕ) → 1 ≤ n → recordsEnd n s i ≤ length s
-unfolding recordsEnd
-some-within zero s i l = absurd (not-suc-le-zero l)
-some-within (suc n) s i l = pieces-within n s (recordEnd s i) (record-end-within s i)
-
 pub pieces-from : (n : ℕ) (s : List ℕ) (i : ℕ) → i ≤ length s → i ≤ recordsEnd n s i
 unfolding recordsEnd
 pieces-from zero s i l = omega arith
@@ -111,8 +77,8 @@ module _ (p : Piece → Bool) where
       → T (p (piece s (recordsEnd k s i)))
   unfolding all pieces recordsEnd
   all-pieces zero s i k t l = absurd (not-suc-le-zero l)
-  all-pieces (suc n) s i zero t l = T-both (p (piece s i)) _ t λ h u. h
-  all-pieces (suc n) s i (suc k) t l = T-both (p (piece s i)) _ t λ h u. all-pieces n s (recordEnd s i) k u
+  all-pieces (suc n) s i zero t l = both-true (p (piece s i)) _ t λ h u. h
+  all-pieces (suc n) s i (suc k) t l = both-true (p (piece s i)) _ t λ h u. all-pieces n s (recordEnd s i) k u
       (le-of-suc-le-suc l)
 
 -- ---- the lists of an agreement, by the count of each
@@ -168,12 +134,12 @@ reading-holds q t =
     let c = leb (byte q 4) 4 in
     let d = eqb (length q) (5 + byte q 4) in
     let e = all isType (part q 5 (length q)) in
-    T-both (a && b && c && d) e t λ t₁ h₅.
-    T-both (a && b && c) d t₁ λ t₂ h₄.
-    T-both (a && b) c t₂ λ t₃ h₃.
-    T-both a b t₃ λ h₁ h₂.
+    both-true (a && b && c && d) e t λ t₁ h₅.
+    both-true (a && b && c) d t₁ λ t₂ h₄.
+    both-true (a && b) c t₂ λ t₃ h₃.
+    both-true a b t₃ λ h₁ h₂.
     record {
-      isOne = T-true a h₁;
+      isOne = T→true a h₁;
       kind = eqb→eq (kindNumber q) 2 h₂;
       few = leb→le (byte q 4) 4 h₃;
       long = eqb→eq (length q) (5 + byte q 4) h₄;
@@ -198,13 +164,13 @@ template-holds q t =
     let d = leb (8 + byte q 4) (length q) in
     let e = all isType (part q 5 (5 + byte q 4)) in
     let f = leb (byte q (5 + byte q 4)) 4 in
-    T-both (a && b && c && d && e) f t λ t₁ h₆.
-    T-both (a && b && c && d) e t₁ λ t₂ h₅.
-    T-both (a && b && c) d t₂ λ t₃ h₄.
-    T-both (a && b) c t₃ λ t₄ h₃.
-    T-both a b t₄ λ h₁ h₂.
+    both-true (a && b && c && d && e) f t λ t₁ h₆.
+    both-true (a && b && c && d) e t₁ λ t₂ h₅.
+    both-true (a && b && c) d t₂ λ t₃ h₄.
+    both-true (a && b) c t₃ λ t₄ h₃.
+    both-true a b t₄ λ h₁ h₂.
     record {
-      isOne = T-true a h₁;
+      isOne = T→true a h₁;
       kind = eqb→eq (kindNumber q) 3 h₂;
       few = leb→le (byte q 4) 8 h₃;
       long = leb→le (8 + byte q 4) (length q) h₄;
@@ -217,10 +183,6 @@ unfolding templateHead tysOf
 values-length q t =
     let h = template-holds q t in
     length-map (part q 5 (5 + byte q 4)) tyOf ∙ omega (arith, length-part q 5 (5 + byte q 4) (omega (arith, h .long)))
-
-pub params-few : (q : List ℕ) → T (templateOk q) → templateHead q .params ≤ 4
-unfolding templateHead
-params-few q t = template-holds q t .fewParams
 
 pub params-is : (q : List ℕ) → templateHead q .params ≡ byte q (5 + byte q 4)
 unfolding templateHead
@@ -309,6 +271,27 @@ module _ {s : List ℕ} {k from to : ℕ} (b : Spans s k from to) where
 pub part-piece : (s : List ℕ) {a e t : ℕ} → a ≡ t → e ≡ recordEnd s a → part s a e ≡ pieceAt s t
 part-piece s p q = rw (q, p)
 
+-- the types of reading type k
+module _ {places s : List ℕ} (x : Indexed places s) {k a e : ℕ} (l : k < byte s 9) (p : a ≡ readingPlace s k)
+    (q : e ≡ recordEnd s a) where
+  pub reading-end : e ≡ a + 5 + byte (pieceAt s (readingPlace s k)) 4
+  reading-end =
+      let t = readingPlace s k in
+      rw (q, p) (omega (
+        arith,
+        reading-facts x k l .long,
+        length-part s t (recordEnd s t) (record-end-within s t),
+        record-end-after s t (reading-within x k),
+      ))
+
+  pub reading-types : readingType (pieceAt s (readingPlace s k)) ≡ tysOf (part s (a + 5) e)
+  unfolding readingType
+  reading-types =
+      let cut = part-piece s p q in
+      let within : e ≤ length s = rw q (record-end-within s a) in
+      let n : a + length (part s a e) ≡ e = omega (arith, reading-end, length-part s a e within) in
+      rw (← cut) (ap tysOf (rw n at (part-part s a e 5 (length (part s a e)) (omega arith))))
+
 -- a template's head, read where it stands in the agreement
 module _ {places s : List ℕ} {k a : ℕ} (x : Indexed places s × (k < byte s 10)) (p : a ≡ templatePlace s k) where
   abbrev head : List ℕ
@@ -355,7 +338,7 @@ unfolding firstClause
 first-from k s l =
     either (eqb k 17) (omega (arith, wait-from s 5))
     (either (eqb k 18) (omega (arith, wait-from s 4))
-    (either (eqb k 19) (omega (arith, end-from s 4)) (omega arith)))
+    (either (eqb k 19) (omega (arith, record-end-from s 4)) (omega arith)))
   where
     either : (b : Bool) {x y : ℕ} → 4 ≤ x → 4 ≤ y → 4 ≤ cond b x y
     either true h g = h

@@ -1,4 +1,3 @@
-mod Appended
 pub mod Index
 mod Listed
 pub mod Trees

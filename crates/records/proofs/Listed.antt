@@ -7,7 +7,7 @@ use native.Mathlib.Nat.{not-suc-le-zero, zero-add}
 use native.Mathlib.Numerals.{add-one, sub-one}
 use native.Mathlib.Omega.{arith}
 use borrow.Author.Count.{below-more}
-use borrow.Author.Tests.{not-true, not-false, le-leb, lt-leb, eq-eqb}
+use borrow.Author.Tests.{le-leb, lt-leb, eq-eqb}
 use lib.Dec.{T, leb, eqb, leb→le, eqb→eq}
 use lib.ListN.{length, getD, set, drop, length-set, drop-of-length-le}
 use lib.Seq.{drop-cons, getD-set-same, getD-set-other}
@@ -17,24 +17,13 @@ use Rattle.csl.specs.Lists.{all}
 use Rattle.csl.specs.Bytes.{byte, le16, part, isRecord, kindNumber, recordEnd}
 use Rattle.csl.specs.Decode.{pieces, recordsEnd, templatesPlace, mainPlace, readingPieces, templatePieces, between}
 use Rattle.csl.specs.Decode.{bodyPlace, isType, readingTypeOk, templateOk, countsOk, listed, sized}
+use Rattle.laws.proofs.Bools.{told-no, told-yes, refused, both-true, T→true, true→T}
 use Rattle.records.specs.Index.{Indexed, pieceAt, recordOk}
-use Rattle.records.proofs.Index.{T-both, T-true, true-T, all-pieces, ReadingHolds, reading-holds}
-use Rattle.records.proofs.Index.{TemplateHolds, template-holds}
-
--- ---- a test that fails, since what it holds to does not hold
-pub refused : (b : Bool) → (T b → ⊥) → false ≡ b
-refused true f = absurd (f tt)
-refused false f = refl
+use Rattle.records.proofs.Index.{all-pieces, ReadingHolds, reading-holds, TemplateHolds, template-holds}
 
 -- u is what a call answered for x, and the code goes by `!u`
-pub told-no : {u x : Bool} → u ≡ x → not u ≡ true → x ≡ false
-told-no {u} e f = sym e ∙ not-true u f
-
-pub told-yes : {u x : Bool} → u ≡ x → not u ≡ false → x ≡ true
-told-yes {u} e f = sym e ∙ not-false u f
-
 pub untold : {u x : Bool} → u ≡ x → not u ≡ true → T x → ⊥
-untold {x} e f t = false≢true (sym (told-no e f) ∙ T-true x t)
+untold {x} e f t = false≢true (sym (told-no e f) ∙ T→true x t)
 
 -- ---- ranges
 module _ (low high n : ℕ) where
@@ -48,7 +37,7 @@ module _ (low high n : ℕ) where
 
   pub range-holds : T (between low high n) → (low ≤ n) × (n ≤ high)
   unfolding between
-  range-holds t = T-both (leb low n) (leb n high) t λ h g. (leb→le low n h, leb→le n high g)
+  range-holds t = both-true (leb low n) (leb n high) t λ h g. (leb→le low n h, leb→le n high g)
 
 -- ---- refusal 1
 module _ (s : List ℕ) {u : Bool} (e : u ≡ between 4 16_384 (length s)) where
@@ -166,9 +155,9 @@ counts-hold s t =
     let b = between 1 16 (byte s 8) in
     let c = between 1 16 (byte s 9) in
     let d = leb (byte s 10) 32 in
-    T-both a (b && c && d) t λ h₁ t₁.
-    T-both (b && c) d t₁ λ t₂ h₄.
-    T-both b c t₂ λ h₂ h₃.
+    both-true a (b && c && d) t λ h₁ t₁.
+    both-true (b && c) d t₁ λ t₂ h₄.
+    both-true b c t₂ λ h₂ h₃.
     record { kind = eqb→eq (kindNumber s) 1 h₁; parties = h₂; readings = h₃; templates = leb→le (byte s 10) 32 h₄ }
 
 module _ (s : List ℕ) {k : ℕ} (e : k ≡ kindNumber s) where
@@ -201,12 +190,13 @@ templatesOk s = all (λ q. templateOk (q .bytes)) (templatePieces s)
 
 from-listed : {C : Type 0} (s : List ℕ) → T (listed s) → (T (counted s) → T (readingsOk s) → C) → C
 unfolding listed
-from-listed s t f = T-both (counted s && readingsOk s) (templatesOk s) t λ t₁ h. T-both (counted s) (readingsOk s) t₁ f
+from-listed s t f = both-true (counted s && readingsOk s) (templatesOk s) t λ t₁ h.
+    both-true (counted s) (readingsOk s) t₁ f
 
 -- the counts that were tested
 module _ (s : List ℕ) {u : Bool} (e : u ≡ counted s) (f : not u ≡ false) where
   pub counts-told : Counts s
-  counts-told = counts-hold s (true-T (told-yes e f))
+  counts-told = counts-hold s (true→T (told-yes e f))
 
   pub few-readings : byte s 9 ≤ 16
   few-readings = range-holds 1 16 (byte s 9) (counts-told .readings) .1
@@ -268,6 +258,6 @@ module _ (s : List ℕ) {u : Bool} (e : u ≡ counted s) where
                   ∙ stored₂ k (omega arith) ∙ ap (λ i. recordsEnd k s i) first-is;
               main = getD-set-same two 48 w 0 (omega arith) ∙ ends ∙ ap (λ i. recordsEnd i s f) g
                   ∙ ap (λ i. recordsEnd (byte s 10) s i) first-is;
-              readingsOk = true-T (told-yes readings-told z);
-              templatesOk = true-T (sym templates-told ∙ t);
+              readingsOk = true→T (told-yes readings-told z);
+              templatesOk = true→T (sym templates-told ∙ t);
             }

@@ -7,14 +7,14 @@ use native.Mathlib.Numerals.{sub-one}
 use native.Mathlib.Decide.{decLe}
 use native.Mathlib.Omega.{arith}
 use borrow.Author.Tests.{ne-eqb}
-use lib.Dec.{eqb}
+use lib.Dec.{eqb, T}
 use lib.ListN.{length}
 use Rattle.csl.specs.Bytes.{byte, part, isRecord, kindNumber, recordEnd}
 use Rattle.csl.specs.Syntax.{Expr, badExpr, Clause, obligation, choice, if, join, badClause, Head}
-use Rattle.csl.specs.Decode.{ExprKind, numberKind, notKind, binaryKind, noExpr, exprKind, exprBody}
-use Rattle.csl.specs.Decode.{exprHead, expr, ClauseKind, fulfilledKind, obligationKind, choiceKind, ifKind, joinKind}
-use Rattle.csl.specs.Decode.{instanceKind, noClause, joinOf, clauseKind, waitAt, clauseBody, clauseHead}
-use Rattle.csl.specs.Decode.{clause}
+use Rattle.csl.specs.Decode.{ExprKind, numberKind, notKind, binaryKind, noExpr, exprKind, exprBody, exprHead, expr}
+use Rattle.csl.specs.Decode.{ClauseKind, fulfilledKind, obligationKind, choiceKind, ifKind, joinKind, instanceKind}
+use Rattle.csl.specs.Decode.{noClause, joinOf, clauseKind, waitAt, clauseBody, clauseHead, clause, whole}
+use Rattle.laws.proofs.Bools.{by-test}
 use Rattle.records.specs.Index.{firstClause}
 use Rattle.records.specs.Kinds.{leafKind, arithmeticOf, opOf}
 
@@ -60,6 +60,27 @@ module _ {A : Type 0} (f : Clause → A) (hs : List Head) (d p : ℕ) (s : List 
       → r ≡ f (clauseBody hs (expr (d - 1)) (clause hs (d - 1)) p s (clauseKind m)) → r ≡ f (clause hs d p s)
   unfolding clauseHead
   clause-at {m = m} n e h k q = q ∙ ap f (sym (clause-step hs d p s (clauseKind m) n (rw (sym e ∙ h, k))))
+
+-- a clause of which something holds that does not hold of a bad one has a depth left, and is a record
+module _ (P : Clause → Type 0) (bad : P badClause → ⊥) (hs : List Head) (d p : ℕ) (s : List ℕ) (h : P (clause hs d p s))
+  where
+    pub clause-deep : d ≡ 0 → ⊥
+    clause-deep e = bad (subst P (sym (clause-zero (λ c. c) hs d p s e refl)) h)
+
+    pub clause-record : isRecord s ≡ true
+    clause-record = by-test (isRecord s) (λ e. e) λ e.
+        absurd (bad (subst P (sym (clause-none (λ c. c) hs d p s clause-deep (sym e) refl refl)) h))
+
+bad-not-whole : T (whole badClause) → ⊥
+unfolding whole
+bad-not-whole t = t
+
+module _ (hs : List Head) (d p : ℕ) (s : List ℕ) (t : T (whole (clause hs d p s))) where
+  pub whole-deep : d ≡ 0 → ⊥
+  whole-deep = clause-deep (λ c. T (whole c)) bad-not-whole hs d p s t
+
+  pub whole-record : isRecord s ≡ true
+  whole-record = clause-record (λ c. T (whole c)) bad-not-whole hs d p s t
 
 -- ---- kinds by their numbers, as a `match` finds them
 -- a number from a on, as a and what it is above it: then each can be tried

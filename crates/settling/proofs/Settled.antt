@@ -13,7 +13,8 @@ use Rattle.arith.proofs.Lists.{tail-put}
 use Rattle.csl.specs.Table.{padded, headCells, natCells}
 use Rattle.cells.specs.Reduce as cells
 use Rattle.residues.specs.Reduces.{Stands, Is, unitsOf}
-use Rattle.settling.specs.Settles.{Settles, reducedTable}
+use Rattle.cells.specs.Tables.{reducedTable}
+use Rattle.settling.specs.Settles.{Settles}
 use Rattle.residues.specs.declared.Reduced.{Reduced}
 use Rattle.residues.specs.declared.Reduced.the-variants.{Done, Breach, Running}
 use Rattle.residues.proofs.Cells.{length-padded}

@@ -2,14 +2,13 @@
 use Rattle.residues.specs.Reduces.{unitsOf, Is}
 use mathlib.Core.Path.{_≡_}
 use mathlib.Core.Bool.{Bool, true, false}
-use mathlib.Core.List.{List, _++_}
-use Prim.Native.Nat.{ℕ, _*_, _/_, _≤_}
+use mathlib.Core.List.{List}
+use Prim.Native.Nat.{ℕ, _*_, _≤_}
 use lib.Dec.{leb}
 use lib.IntN.{ℤ}
 use lib.ListN.{length}
-use Rattle.csl.specs.Table.{padded, headCells, tableLength}
-use Rattle.cells.specs.Reduce.{done, breach, running}
 use Rattle.cells.specs.Reduce as cells
+use Rattle.cells.specs.Tables.{reducedTable}
 use Rattle.residues.specs.declared.Reduced.{Reduced}
 
 -- a residue that a table can hold stands whole in `out`
@@ -17,11 +16,6 @@ pub record Whole (r : Reduced) (out : List ℤ) : Type 0 where
   pub room : unitsOf r ≤ 128 → 24 * unitsOf r ≤ length out
 
 -- ---- a run's table after a reading
-unfoldable pub reducedTable : ℕ → cells.Reduced → List ℤ
-reducedTable now done = padded tableLength (headCells 2 now 0 0 0)
-reducedTable now (breach t b) = padded tableLength (headCells 3 now t b 0)
-reducedTable now (running cs) = padded tableLength (headCells 1 now 0 0 (length cs / 24) ++ cs)
-
 -- `after` is the table of what r answers for, where its units fit; where they do not nothing is written
 pub record Settles (now : ℕ) (r : Reduced) (out before after : List ℤ) (settled : Bool) : Type 0 where
   pub fits : settled ≡ leb (unitsOf r) 128

@@ -19,7 +19,9 @@ use Rattle.csl.specs.Values.{Val}
 use Rattle.csl.specs.Outcomes.{Sight, orStuck}
 use Rattle.csl.specs.Rules.{Step, activate, activating, during, walkIn}
 use Rattle.csl.specs.Table.{isSort, standFor, standsFor}
-use Rattle.soundness.proofs.Inversion.{T-both, T-left, T-or, T-right, from-bind, from-need, or-left, some-inj}
+use Rattle.laws.proofs.Bools.{T-both, T-left, T-or, T-right, or-left}
+use Rattle.laws.proofs.Options.{from-bind, from-need, some-inj}
+use Rattle.laws.proofs.Clash.{impossible}
 use Rattle.soundness.proofs.Members.{In, Sub, all-in, in-cases, in-left, in-right, stand-in, sub-refl}
 use Rattle.soundness.proofs.Evaluation.{HaveTy}
 use Rattle.soundness.proofs.Good.{Good, Ok, Placed, SightOk, good-sub}
@@ -93,7 +95,7 @@ module _ (ag : Agreement) (mains : List ℕ) (fair : Fair ag mains) where
     where
       constant : q < ag .parties → T (blameOk (namesOf ag n) q)
       constant h = or-left (ltb q (ag .parties)) _ (lt→ltb q (ag .parties) h)
-  typed-blames badClause n env bs ty q i = let z : _≡_ {A = ℕ} 0 1 = cc in absurd (omega arith)
+  typed-blames badClause n env bs ty q i = impossible cc
 
   -- a typed clause names only templates that are there
   pub typed-guarded : (c : Clause) (n : ℕ) (env : List Ty) (bs : List ℕ) → typeClause (namesOf ag n) env c ≡ some bs

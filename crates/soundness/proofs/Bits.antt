@@ -1,27 +1,15 @@
 -- Party sets as bits, and back.
-use mathlib.Core.Bool.{Bool, false, true, _||_}
+use mathlib.Core.Bool.{Bool, false, true}
 use mathlib.Core.List.{List, _∷_}
 use mathlib.Core.Logic.{inl, inr}
 use mathlib.Core.Path.{ap₂, refl, subst, sym, _≡_}
 use Prim.Native.Nat.{_%_, _*_, _+_, _/_, _<_, _^_, suc, zero, ℕ, _≤_}
 use native.Mathlib.Decide.{decLt}
-use native.Mathlib.Nat.{pow-suc}
 use native.Mathlib.Omega.{arith}
-use lib.Dec.{T, eqb, eqb-refl, eqb→eq}
+use lib.Dec.{T, eqb}
 use Rattle.csl.specs.Parties.{bit, bitsFrom, bitsOf, member, members, membersFrom}
+use Rattle.laws.proofs.PartyBits.{bit-div, bit-mod, bits-lt, members-bits}
 use Rattle.soundness.proofs.Members.{In, Sub, in→member, member→in}
-
-odd-mod : (m : ℕ) → (1 + 2 * m) % 2 ≡ 1
-odd-mod m = omega arith
-
-odd-div : (m : ℕ) → (1 + 2 * m) / 2 ≡ m
-odd-div m = omega arith
-
-even-mod : (m : ℕ) → (0 + 2 * m) % 2 ≡ 0
-even-mod m = omega arith
-
-even-div : (m : ℕ) → (0 + 2 * m) / 2 ≡ m
-even-div m = omega arith
 
 members-at : (n r q k i : ℕ) → n % 2 ≡ r → n / 2 ≡ q
     → membersFrom (suc k) i n ≡ (elim (eqb r 1)
@@ -36,8 +24,8 @@ pub members-step : (b : Bool) (m k i : ℕ)
     → membersFrom (suc k) i (bit b + 2 * m) ≡
     (elim b [ true ↦ i ∷ membersFrom k (suc i) m | false ↦ membersFrom k (suc i) m ])
 unfolding bit
-members-step true m k i = members-at (1 + 2 * m) 1 m k i (odd-mod m) (odd-div m)
-members-step false m k i = members-at (0 + 2 * m) 0 m k i (even-mod m) (even-div m)
+members-step true m k i = members-at (1 + 2 * m) 1 m k i (bit-mod true m) (bit-div true m)
+members-step false m k i = members-at (0 + 2 * m) 0 m k i (bit-mod false m) (bit-div false m)
 
 pub members-in : (k i : ℕ) (ps : List ℕ) (x : ℕ) → In x (membersFrom k i (bitsFrom k i ps)) → In x ps
 unfolding bitsFrom In membersFrom
@@ -55,15 +43,6 @@ members-in (suc k) i ps x h = go (member i ps) refl
     go true e (inr q) ih = ih q
     go false e q ih = ih q
 
-pub bits-lt : (k i : ℕ) (ps : List ℕ) → bitsFrom k i ps < 2 ^ k
-unfolding bitsFrom bit
-bits-lt zero i ps = omega arith
-bits-lt (suc k) i ps = go (member i ps) (bits-lt k (suc i) ps)
-  where
-    go : (b : Bool) → bitsFrom k (suc i) ps < 2 ^ k → bit b + 2 * bitsFrom k (suc i) ps < 2 ^ suc k
-    go true h = rw (pow-suc 2 k) (omega arith)
-    go false h = rw (pow-suc 2 k) (omega arith)
-
 pub bits-pos : (k i : ℕ) (ps : List ℕ) (p : ℕ) → In p ps → i ≤ p → p < i + k → 0 < bitsFrom k i ps
 unfolding bitsFrom bit
 bits-pos zero i ps p h lo hi = absurd (omega arith)
@@ -78,73 +57,14 @@ bits-pos (suc k) i ps p h lo hi = go (member i ps) refl (λ q. bits-pos k (suc i
         differs (no q) = let e₂ : i ≡ p = omega arith in
             absurd (subst T e (subst (λ z. T (member z ps)) (sym e₂) (in→member p ps h)))
 
-pub member-skip : (j k i : ℕ) (l : List ℕ) → j < i → bitsFrom k i (j ∷ l) ≡ bitsFrom k i l
-unfolding bitsFrom member
-member-skip j zero i l h = refl
-member-skip j (suc k) i l h = rw (no-eq, member-skip j k (suc i) l (omega arith)) refl
-  where
-    no-eq : eqb i j ≡ false
-    no-eq = go (eqb i j) refl
-      where
-        go : (b : Bool) → eqb i j ≡ b → eqb i j ≡ false
-        go true e = absurd (omega (arith, eqb→eq i j (subst T (sym e) tt)))
-        go false e = e
-
-members-ge : (k i n x : ℕ) → In x (membersFrom k i n) → i ≤ x
-unfolding membersFrom In
-members-ge zero i n x h = absurd h
-members-ge (suc k) i n x h = go (eqb (n % 2) 1) h (members-ge k (suc i) (n / 2) x)
-  where
-    go : (b : Bool) → In x (elim b [
-      | true ↦ i ∷ membersFrom k (suc i) (n / 2)
-      | false ↦ membersFrom k (suc i) (n / 2)
-    ]) → (In x (membersFrom k (suc i) (n / 2)) → suc i ≤ x) → i ≤ x
-    go true (inl e) ih = omega arith
-    go true (inr q) ih = omega (arith, ih q)
-    go false q ih = omega (arith, ih q)
-
-pub not-member : (k i n : ℕ) → member i (membersFrom k (suc i) n) ≡ false
-not-member k i n = go (member i (membersFrom k (suc i) n)) refl
-  where
-    go : (b : Bool) → member i (membersFrom k (suc i) n) ≡ b → member i (membersFrom k (suc i) n) ≡ false
-    go true e = absurd (omega (arith, members-ge k (suc i) n i (member→in i _ (subst T (sym e) tt))))
-    go false e = e
-
-pub member-self : (i : ℕ) (l : List ℕ) → member i (i ∷ l) ≡ true
-unfolding member
-member-self i l = go (eqb i i) (eqb-refl i)
-  where
-    go : (b : Bool) → T b → (b || member i l) ≡ true
-    go true t = refl
-    go false t = absurd t
-
 -- a number below 2^k is the bits of its members
-pub number-back : (k i n : ℕ) → n < 2 ^ k → bitsFrom k i (membersFrom k i n) ≡ n
-unfolding bitsFrom membersFrom bit
-number-back zero i n h = omega arith
-number-back (suc k) i n h = go (eqb (n % 2) 1) refl (number-back k (suc i) (n / 2) (omega (arith, pow-suc 2 k)))
-  where
-    go : (b : Bool) → eqb (n % 2) 1 ≡ b → bitsFrom k (suc i) (membersFrom k (suc i) (n / 2)) ≡ n / 2
-        → bitsFrom (suc k) i (elim b [
-          | true ↦ i ∷ membersFrom k (suc i) (n / 2)
-          | false ↦ membersFrom k (suc i) (n / 2)
-        ]) ≡ n
-    go true e ih = rw (
-      member-self i (membersFrom k (suc i) (n / 2)),
-      member-skip i k (suc i) (membersFrom k (suc i) (n / 2)) (omega arith),
-      ih,
-    )
-        (omega (arith, eqb→eq (n % 2) 1 (subst T (sym e) tt)))
-    go false e ih = let even : n % 2 ≡ 1 → ⊥ = λ q. subst T e (subst (λ z. T (eqb z 1)) (sym q) tt) in
-        rw (not-member k i (n / 2), ih) (omega arith)
-
 pub bits-members : (n : ℕ) → n < 2 ^ 16 → bitsOf (members n) ≡ n
 unfolding bitsOf members
-bits-members n h = number-back 16 0 n h
+bits-members n h = members-bits 16 0 n h
 
 -- the members of a set of bits have those bits
 pub bits-back : (k i : ℕ) (ps : List ℕ) → bitsFrom k i (membersFrom k i (bitsFrom k i ps)) ≡ bitsFrom k i ps
-bits-back k i ps = number-back k i (bitsFrom k i ps) (bits-lt k i ps)
+bits-back k i ps = members-bits k i (bitsFrom k i ps) (bits-lt k i ps)
 
 -- a party is a member of what its set's bits stand for
 pub in-members : (k i : ℕ) (ps : List ℕ) (x : ℕ) → In x ps → i ≤ x → x < i + k

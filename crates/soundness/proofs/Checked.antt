@@ -17,7 +17,9 @@ use Rattle.csl.specs.Guards.{guardedFrom, guardedIn}
 use Rattle.csl.specs.Widths.{narrowAll}
 use Rattle.csl.specs.Check.{CheckResult, accepted, checkDecoded, checkTyped, checked, refused}
 use Rattle.csl.specs.Places.{clauseAt, findIn}
-use Rattle.soundness.proofs.Inversion.{T-left, T-right, from-bind, from-need, need-true, some-inj}
+use Rattle.laws.proofs.Bools.{T-left, T-right}
+use Rattle.laws.proofs.Options.{from-bind, from-need, need-true, some-inj}
+use Rattle.laws.proofs.Clash.{impossible}
 use Rattle.soundness.proofs.Members.{In, all-in, member→in}
 use Rattle.soundness.proofs.Good.{Placed}
 use Rattle.soundness.proofs.Walks.{Fair}
@@ -38,7 +40,7 @@ templates-placed : (ag : Agreement) (lo hi : ℕ) (ts : List Template) → TRang
     → ((p : ℕ) → lo ≤ p → p < hi → clauseAt ag p ≡ findIn (ag .readings) p ts) → (k : ℕ) (t : Template)
     → at ts k ≡ some t → Placed ag (t .head .params) (t .head .values) (t .body) × (t .head .params ≤ 4)
 unfolding TRanged findIn at Out
-templates-placed ag lo hi [] h f k t e = let z : _≡_ {A = ℕ} 0 1 = cc in absurd (omega arith)
+templates-placed ag lo hi [] h f k t e = impossible cc
 templates-placed ag lo hi (t′ ∷ ts) h f zero t e = subst
     (λ z. Placed ag (z .head .params) (z .head .values) (z .body) × (z .head .params ≤ 4)) (some-inj e) (
       placed-in ag (t′ .head .params) lo (h .0) (t′ .body) (t′ .head .values) (h .1)
@@ -55,11 +57,11 @@ templates-placed ag lo hi (t′ ∷ ts) h f (suc k) t e = templates-placed ag (h
 pass : (b : Bool) (n : ℕ) (x : CheckResult) (a : Agreement) (ms : List ℕ)
     → (elim b [ false ↦ refused n | true ↦ x ]) ≡ accepted a ms → T b × (x ≡ accepted a ms)
 pass true n x a ms e = (tt, e)
-pass false n x a ms e = let z : _≡_ {A = ℕ} 0 1 = cc in absurd (omega arith)
+pass false n x a ms e = impossible cc
 
 have : {A : Type 0} (o : Option A) (n : ℕ) (f : A → CheckResult) (a : Agreement) (ms : List ℕ)
     → (elim o [ none ↦ refused n | some x ↦ f x ]) ≡ accepted a ms → (x : A) × (o ≡ some x) × (f x ≡ accepted a ms)
-have none n f a ms e = let z : _≡_ {A = ℕ} 0 1 = cc in absurd (omega arith)
+have none n f a ms e = impossible cc
 have (some x) n f a ms e = (x, refl, e)
 
 pub record Passed (bytes : List ℕ) (a : Agreement) (mains : List ℕ) : Type 0 where
@@ -95,7 +97,7 @@ passed bytes a mains e =
 guarded-at : (m : ℕ) (ts : List Template) (k : ℕ) (t : Template) → T (guardedFrom m ts) → at ts k ≡ some t
     → T (guardedIn (k + m) (t .body))
 unfolding guardedFrom at
-guarded-at m [] k t g e = let z : _≡_ {A = ℕ} 0 1 = cc in absurd (omega arith)
+guarded-at m [] k t g e = impossible cc
 guarded-at m (t′ ∷ ts) zero t g e = subst (λ z. T (guardedIn (0 + m) (z .body))) (some-inj e)
     (subst (λ z. T (guardedIn z (t′ .body))) (omega arith) (T-left (guardedIn m (t′ .body)) _ g))
 guarded-at m (t′ ∷ ts) (suc k) t g e = subst (λ z. T (guardedIn z (t .body))) (omega arith)
@@ -105,7 +107,7 @@ typed-at : {C : Type 0} (ps : ℕ) (rs : List (List Ty)) (hs : List Head) (ts : 
     (t : Template) → typeTemplates ps rs hs ts ≡ some u → at ts k ≡ some t
     → ((v : Unit {0}) → typeTemplate ps rs hs t ≡ some v → C) → C
 unfolding typeTemplates at
-typed-at ps rs hs [] u k t e h f = let z : _≡_ {A = ℕ} 0 1 = cc in absurd (omega arith)
+typed-at ps rs hs [] u k t e h f = impossible cc
 typed-at ps rs hs (t′ ∷ ts) u zero t e h f = from-bind (typeTemplate ps rs hs t′) _ u e λ v a b. f v
     (subst (λ z. typeTemplate ps rs hs z ≡ some v) (some-inj h) a)
 typed-at ps rs hs (t′ ∷ ts) u (suc k) t e h f = from-bind (typeTemplate ps rs hs t′) _ u e λ v a b. typed-at ps rs hs

@@ -4,55 +4,37 @@ use mathlib.Core.Bool.{_&&_, Bool, cond, false, true}
 use mathlib.Core.List.{List, [], map, _∷_}
 use mathlib.Core.Option.{Option, none, some}
 use mathlib.Core.Path.{ap, refl, subst, sym, _∙_, _≡_}
-use Prim.Native.Nat.{_+_, _-_, min, suc, zero, ℕ, _≤_}
+use Prim.Native.Nat.{_+_, _-_, suc, zero, ℕ, _≤_}
 use native.Mathlib.Decide.{decLe}
-use native.Mathlib.Nat.{min-le-right}
 use native.Mathlib.Omega.{arith}
 use lib.Dec.{T, eqb, leb, leb→le}
-use lib.ListN.{drop, drop-of-length-le, length, length-drop, length-take, take}
+use lib.ListN.{drop-of-length-le, length, take}
 use lib.Seq.{take-nil}
 use Rattle.csl.specs.Lists.{all, at}
 use Rattle.csl.specs.Bytes.{byte, isRecord, kindNumber, le16, le32, part, recordEnd}
 use Rattle.csl.specs.Syntax.{Agreement, Clause, Expr, Head, Template, badClause, fulfilled}
 use Rattle.csl.specs.Decode.{ClauseKind, Piece, agreementOf, recordsEnd, between, bodyOf, bodyPlace, choiceKind}
 use Rattle.csl.specs.Decode.{clause, clauseBody, clauseHead, clauseKind, countsOk, decode, expr, fulfilledKind}
-use Rattle.csl.specs.Decode.{headsOf, ifKind, instanceKind, instanceOf, isType, joinKind, listed, mainOf, mainPlace}
-use Rattle.csl.specs.Decode.{noClause, obligationKind, pieces, readingPieces, readingTypeOk, templateHead}
-use Rattle.csl.specs.Decode.{templateOf, templateOk, templatePieces, templatesPlace, waitAt, waitEnd, wellFormed}
-use Rattle.csl.specs.Decode.{whole}
-use Rattle.soundness.proofs.Inversion.{T-left, T-right, both-true, some-inj}
+use Rattle.csl.specs.Decode.{headsOf, ifKind, instanceKind, instanceOf, joinKind, listed, mainOf, mainPlace, noClause}
+use Rattle.csl.specs.Decode.{obligationKind, pieces, readingPieces, readingTypeOk, templateOf, templateOk}
+use Rattle.csl.specs.Decode.{templatePieces, templatesPlace, waitAt, waitEnd, wellFormed, whole}
+use Rattle.laws.proofs.RecordEnds.{record-end-within, record-end-from, wait-within, wait-from, record-end-after}
+use Rattle.laws.proofs.RecordEnds.{pieces-within, some-within}
+use Rattle.laws.proofs.Lists.{length-part}
+use Rattle.laws.proofs.Clash.{impossible}
+use Rattle.laws.proofs.Bools.{T-left, T-right, both-true}
+use Rattle.laws.proofs.Options.{some-inj}
+use Rattle.laws.proofs.Templates.{params-few}
 use Rattle.soundness.proofs.Places.{Ranged, ranged-le, ranged-wider}
 
 -- ---- where a record ends
-pub end-within : (s : List ℕ) (a : ℕ) → recordEnd s a ≤ length s
-unfolding recordEnd
-end-within s a = min-le-right (a + le16 s a) (length s)
-
-pub end-from : (s : List ℕ) (a : ℕ) → min a (length s) ≤ recordEnd s a
-unfolding recordEnd
-end-from s a = omega arith
-
-pub part-length : (s : List ℕ) (a e : ℕ) → e ≤ length s → length (part s a e) ≡ e - a
-part-length s a e h = length-take (e - a) (drop a s) ∙ omega (arith, length-drop a s)
-
 -- what lies from c to the end of s, s standing at p
 rest-end : (s : List ℕ) (p c : ℕ) → c ≤ length s → (p + c) + length (part s c (length s)) ≡ p + length s
-rest-end s p c h = omega (arith, part-length s c (length s) (omega arith))
+rest-end s p c h = omega (arith, length-part s c (length s) (omega arith))
 
 -- what lies from c up to f
 middle-end : (s : List ℕ) (p c f : ℕ) → c ≤ f → f ≤ length s → (p + c) + length (part s c f) ≡ p + f
-middle-end s p c f h k = omega (arith, part-length s c f k)
-
-wait-within : (s : List ℕ) (i : ℕ) → waitEnd s i ≤ length s
-unfolding waitEnd
-wait-within s i = end-within s (recordEnd s (recordEnd s (i + 1)))
-
-wait-from : (s : List ℕ) (i : ℕ) → min (i + 1) (length s) ≤ waitEnd s i
-unfolding waitEnd
-wait-from s i =
-    let a = recordEnd s (i + 1) in
-    let b = recordEnd s a in
-    omega (arith, end-from s (i + 1), end-from s a, end-from s b, end-within s (i + 1), end-within s a)
+middle-end s p c f h k = omega (arith, length-part s c f k)
 
 -- ---- one clause
 either-ranged : (lo hi : ℕ) (b : Bool) (c d : Clause) → Ranged lo hi c → Ranged lo hi d → Ranged lo hi (cond b c d)
@@ -77,9 +59,6 @@ module _ (hs : List Head) (e : List ℕ → Expr) (inner : ℕ → List ℕ → 
   middle-ranged c f h k = subst (λ z. Ranged (p + c) z (inner (p + c) (part s c f))) (middle-end s p c f h k)
       (io (p + c) (part s c f))
 
-  on-from : (c : ℕ) → c ≤ length s → c ≤ recordEnd s c
-  on-from c h = omega (arith, end-from s c)
-
   body-ranged : (k : ClauseKind) → Ranged p (p + length s) (clauseBody hs e inner p s k)
   unfolding clauseBody Ranged waitAt
   body-ranged fulfilledKind = either-ranged p (p + length s) (eqb (length s) 4) fulfilled badClause (omega arith)
@@ -94,23 +73,23 @@ module _ (hs : List Head) (e : List ℕ → Expr) (inner : ℕ → List ℕ → 
         p + f,
         omega arith,
         omega (arith, wait-from s 4),
-        middle-ranged c f (on-from c (wait-within s 4)) (end-within s c),
-        last-ranged f (end-within s c),
+        middle-ranged c f (record-end-after s c (wait-within s 4)) (record-end-within s c),
+        last-ranged f (record-end-within s c),
       )
   body-ranged ifKind =
       let c = recordEnd s 4 in
       let f = recordEnd s c in (
         p + f,
         ranged-wider (p + c) p (p + f) (p + f) (inner (p + c) (part s c f)) (omega arith) (omega arith)
-            (middle-ranged c f (on-from c (end-within s 4)) (end-within s c)),
-        last-ranged f (end-within s c),
+            (middle-ranged c f (record-end-after s c (record-end-within s 4)) (record-end-within s c)),
+        last-ranged f (record-end-within s c),
       )
   body-ranged (joinKind j) =
       let f = recordEnd s 4 in (
         p + f,
         ranged-wider (p + 4) p (p + f) (p + f) (inner (p + 4) (part s 4 f)) (omega arith) (omega arith)
-            (middle-ranged 4 f (on-from 4 room) (end-within s 4)),
-        last-ranged f (end-within s 4),
+            (middle-ranged 4 f (record-end-after s 4 room) (record-end-within s 4)),
+        last-ranged f (record-end-within s 4),
       )
   body-ranged instanceKind = instance-ranged p (p + length s) e s (at hs (byte s 4)) (omega arith)
   body-ranged noClause = omega arith
@@ -165,12 +144,6 @@ unfolding TRanged
 tranged-le lo hi [] h = h
 tranged-le lo hi (t ∷ ts) h = omega (arith, ranged-le lo (h .0) (t .body) (h .1), tranged-le (h .0) hi ts (h .2))
 
-head-params : (s : List ℕ) → T (templateOk s) → (templateHead s) .params ≤ 4
-unfolding templateOk templateHead
-head-params s t = leb→le (byte s (5 + byte s 4)) 4
-    (T-right (isRecord s && eqb (kindNumber s) 3 && leb (byte s 4) 8 && leb (bodyPlace s) (length s)
-    && all isType (part s 5 (5 + byte s 4))) _ t)
-
 templates-ranged : (hs : List Head) (s : List ℕ) (n i : ℕ) → T (all (λ q. templateOk (q .bytes)) (pieces n s i))
     → i ≤ length s → TRanged i (recordsEnd n s i) (map (templateOf hs) (pieces n s i))
 unfolding pieces recordsEnd all templateOf TRanged
@@ -179,20 +152,11 @@ templates-ranged hs s (suc n) i t l =
     let q : Piece = record { place = i; bytes = part s i (recordEnd s i) } in (
       recordEnd s i,
       subst (λ z. Ranged i z (bodyOf hs q)) (omega
-          (arith, end-from s i, part-length s i (recordEnd s i) (end-within s i))) (body-within hs q),
-      templates-ranged hs s n (recordEnd s i) (T-right (templateOk (part s i (recordEnd s i))) _ t) (end-within s i),
-      head-params (part s i (recordEnd s i)) (T-left (templateOk (part s i (recordEnd s i))) _ t),
+          (arith, record-end-from s i, length-part s i (recordEnd s i) (record-end-within s i))) (body-within hs q),
+      templates-ranged hs s n (recordEnd s i) (T-right (templateOk (part s i (recordEnd s i))) _ t)
+          (record-end-within s i),
+      params-few (part s i (recordEnd s i)) (T-left (templateOk (part s i (recordEnd s i))) _ t),
     )
-
-pieces-within : (s : List ℕ) (n i : ℕ) → i ≤ length s → recordsEnd n s i ≤ length s
-unfolding recordsEnd
-pieces-within s zero i l = l
-pieces-within s (suc n) i l = pieces-within s n (recordEnd s i) (end-within s i)
-
-some-within : (s : List ℕ) (n i : ℕ) → 1 ≤ n → recordsEnd n s i ≤ length s
-unfolding recordsEnd
-some-within s zero i l = absurd (omega arith)
-some-within s (suc n) i l = pieces-within s n (recordEnd s i) (end-within s i)
 
 -- ---- what decoding gives
 pub decode-is : {C : Type 0} (s : List ℕ) (a : Agreement) → decode s ≡ some a
@@ -203,7 +167,7 @@ decode-is {C = C} s a e k = go (wellFormed s) refl e
     go : (b : Bool) → wellFormed s ≡ b → _≡_ {A = Option Agreement}
         (elim b [ true ↦ some (agreementOf s) | false ↦ none ]) (some a) → C
     go true p q = k (subst T (sym p) tt) (some-inj q)
-    go false p q = let z : _≡_ {A = ℕ} 0 1 = cc in absurd (omega arith)
+    go false p q = impossible cc
 
 pub record Decoded (s : List ℕ) (a : Agreement) : Type 0 where
   pub start : a .start ≡ le32 s 4
@@ -260,7 +224,7 @@ decoded s a e = decode-is s a e λ t same.
     let w = well-formed s t in
     let i = templatesPlace s in
     let m = mainPlace s in
-    let in-s : i ≤ length s = some-within s (byte s 9) 11
+    let in-s : i ≤ length s = some-within (byte s 9) s 11
     (leb→le 1 (byte s 9) (T-left (leb 1 (byte s 9)) _ (w .readings))) in
     subst (λ z. Decoded s z) same (record {
       start = refl;
@@ -269,6 +233,6 @@ decoded s a e = decode-is s a e λ t same.
       mid = m;
       templates = templates-ranged (headsOf s) s (byte s 10) i (w .templatesOk) in-s;
       main = subst (λ z. Ranged m z (mainOf s))
-          (omega (arith, part-length s m (length s) (omega arith), pieces-within s (byte s 10) i in-s))
+          (omega (arith, length-part s m (length s) (omega arith), pieces-within (byte s 10) s i in-s))
           (clause-ranged (headsOf s) 23 m (part s m (length s)));
     })

@@ -21,7 +21,7 @@ use Rattle.csl.specs.Rules.{Reading, activate, activating, blamedAll, during, w
 use Rattle.csl.specs.Run.{Run, Stepped, kept, started, step, tooMany}
 use Rattle.csl.specs.Table.{standFor}
 use Rattle.csl.specs.Demand3.{AllBytes, Bytes, IsBreach, fitting, needed, reached, runAfter}
-use Rattle.soundness.proofs.Inversion.{some-inj}
+use Rattle.laws.proofs.Options.{some-none, some-inj}
 use Rattle.soundness.proofs.Members.{In, Sub, stand-in}
 use Rattle.soundness.proofs.Evaluation.{HaveTy}
 use Rattle.soundness.proofs.Good.{Good, good-sub}
@@ -50,9 +50,6 @@ module _ (a : Agreement) (now : ℕ) (o : Outcome) (r : List ℕ) where
   fits-only P d f h = subst (λ x. (now ≤ x .time) × P (needed (reached a o x))) (same-reading (h .0) d (h .1) f)
       (h .2, h .3)
 
-  no-reading : {C : Type 0} (d : Reading) → fitting a r ≡ none → fitting a r ≡ some d → C
-  no-reading d e f = let z : _≡_ {A = ℕ} 0 1 = cc in absurd (omega arith)
-
   numbered : (k n : ℕ) (q : Run) → next ≡ stepped n q → next .number ≡ k → n ≡ k
   numbered k n q e z = sym (ap (λ s. s .number) e) ∙ z
 
@@ -67,7 +64,7 @@ module _ (a : Agreement) (now : ℕ) (o : Outcome) (r : List ℕ) where
   pub step-taken : Case a now o r → (next .number ≡ 0) ↔ Fits (λ n. n ≤ 128)
   step-taken (misfit n w f e) = (
     λ z. absurd (eight-or-nine n 0 w (numbered 0 n _ e z) (inl refl)),
-    λ h. no-reading (h .0) f (h .1),
+    λ h. some-none f (h .1),
   )
   step-taken (early d f lt e) = (
     λ z. let q : _≡_ {A = ℕ} 10 0 = numbered 0 10 _ e z in absurd (omega arith),
@@ -84,7 +81,7 @@ module _ (a : Agreement) (now : ℕ) (o : Outcome) (r : List ℕ) where
   pub step-eleven : Case a now o r → (next .number ≡ 11) ↔ Fits (λ n. 128 < n)
   step-eleven (misfit n w f e) = (
     λ z. absurd (eight-or-nine n 11 w (numbered 11 n _ e z) (inr refl)),
-    λ h. no-reading (h .0) f (h .1),
+    λ h. some-none f (h .1),
   )
   step-eleven (early d f lt e) = (
     λ z. let q : _≡_ {A = ℕ} 10 11 = numbered 11 10 _ e z in absurd (omega arith),

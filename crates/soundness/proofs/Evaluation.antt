@@ -17,7 +17,9 @@ use Rattle.csl.specs.Syntax.{numberLit, party, partyLit, truth, truthLit, varia
 use Rattle.csl.specs.Typing.{operand, result, sameTy, typeExpr}
 use Rattle.csl.specs.Values.{Val, apply, asBool, asNum, asTruth, bool, eval, num, onBools, onNums, sameBool, sameVal}
 use Rattle.csl.specs.Values.{who}
-use Rattle.soundness.proofs.Inversion.{both-true, from-bind, from-need, some-bind, some-inj}
+use Rattle.laws.proofs.Bools.{both-true}
+use Rattle.laws.proofs.Options.{from-bind, from-need, some-bind, some-inj}
+use Rattle.laws.proofs.Clash.{impossible}
 
 pub sameTy→eq : (s t : Ty) → T (sameTy s t) → s ≡ t
 unfolding sameTy
@@ -60,7 +62,7 @@ HaveTy-++ ps (t ∷ ts) us (v ∷ vs) ws h k = (h .0, HaveTy-++ ps ts us vs ws (
 pub at-typed : (ps : ℕ) (ts : List Ty) (vs : List Val) (i : ℕ) (t : Ty) → HaveTy ps ts vs → at ts i ≡ some t
     → (v : Val) × (at vs i ≡ some v) × HasTy ps t v
 unfolding HaveTy at
-at-typed ps [] [] i t h e = let z : _≡_ {A = ℕ} 0 1 = cc in absurd (omega arith)
+at-typed ps [] [] i t h e = impossible cc
 at-typed ps [] (v ∷ vs) i t h e = absurd h
 at-typed ps (s ∷ ts) [] i t h e = absurd h
 at-typed ps (s ∷ ts) (v ∷ vs) zero t h e = let p : s ≡ t = cc in (v, refl, subst (λ x. HasTy ps x v) p (h .0))
@@ -200,4 +202,4 @@ eval-typed ps ts vs (binary o x y) t h e =
     (λ u hu. then-typed ps (operand o s) (result o) (eval vs y) _
     (retype ps s′ (operand o s) _ (sameTy→eq s′ (operand o s) b₂) (eval-typed ps ts vs y s′ h p′))
     (λ v hv. apply-typed ps o s u v hu hv (sameTy→eq s (operand o s) b₁))))
-eval-typed ps ts vs badExpr t h e = let z : _≡_ {A = ℕ} 0 1 = cc in absurd (omega arith)
+eval-typed ps ts vs badExpr t h e = impossible cc

@@ -20,10 +20,12 @@ use Rattle.csl.specs.Rules.{Reading, Step, activate, activating, blamed, during
 use Rattle.csl.specs.Rules.{window, withValues}
 use Rattle.csl.specs.Places.{across, clauseAt, follow}
 use Rattle.csl.specs.Table.{standFor, standsFor}
-use Rattle.soundness.proofs.Inversion.{both-true, from-bind, from-need, some-bind, some-inj}
+use Rattle.laws.proofs.Bools.{both-true}
+use Rattle.laws.proofs.Options.{from-bind, from-need, some-bind, some-inj}
+use Rattle.laws.proofs.Integers.{later-from}
 use Rattle.soundness.proofs.Members.{In, Sub, in-left, in-right, stand-sub}
 use Rattle.soundness.proofs.Evaluation.{HasTy, HaveTy, HaveTy-++}
-use Rattle.soundness.proofs.Times.{later-from, later-to, remaining-range}
+use Rattle.soundness.proofs.Times.{later-to, remaining-range}
 use Rattle.soundness.proofs.Good.{Good, Ok, Placed, SightOk, good-sub, joined-good}
 use Rattle.soundness.proofs.Walks.{Fair, StepGood, blamed-ok, bool-typed, good-bind, num-typed}
 use Rattle.soundness.proofs.Activation.{activate-good, activating-good, during-good, heads-declared}

@@ -20,12 +20,14 @@ use Rattle.csl.specs.Typing.{blameOk, namesOf, readingOfType, thenSight, typeCl
 use Rattle.csl.specs.Values.{Val, evalBool, evals, who}
 use Rattle.csl.specs.Outcomes.{Outcome, Residue, Sight, both, breach, done, earlier, joinBoth, joinEither, joined}
 use Rattle.csl.specs.Outcomes.{later, orStuck, running, stuck, unit}
-use Rattle.csl.specs.Rules.{Reading, Window, blamed, blamedAll, during, forecasting, taken, walk, walkIn, wants, window}
+use Rattle.csl.specs.Rules.{Reading, Window, blamed, blamedAll, during, forecasting, taken, walk, walkIn, wants}
+use Rattle.csl.specs.Rules.{window}
 use Rattle.csl.specs.Places.{across, clauseAt, forecast}
 use Rattle.csl.specs.Table.{standFor}
-use Rattle.soundness.proofs.Inversion.{from-bind, from-need, some-inj}
+use Rattle.laws.proofs.Options.{from-bind, from-need, some-inj}
+use Rattle.laws.proofs.Integers.{later-from}
+use Rattle.laws.proofs.Clash.{impossible}
 use Rattle.soundness.proofs.Members.{In, Sub, in-right, stand-sub, sub-trans, sub→subset}
-use Rattle.soundness.proofs.Times.{later-from}
 use Rattle.soundness.proofs.Good.{Good, Ok, Placed, SightOk, good-sub}
 use Rattle.soundness.proofs.Walks.{Fair, StepGood, blamed-ok, good-bind, num-typed}
 use Rattle.soundness.proofs.Activation.{heads-declared}
@@ -230,7 +232,7 @@ module _ (ag : Agreement) (r : Reading) (mark : r .type ≡ 0) where
   unwanted w v vs e = go (eqb (w .wanted) (r .type)) refl
     where
       none-at : (k : ℕ) → k ≡ 0 → readingOfType (ag .readings) k ≡ some vs → ⊥
-      none-at zero z p = let c : _≡_ {A = ℕ} 0 1 = cc in omega arith
+      none-at zero z p = impossible cc
       none-at (suc k) z p = omega arith
 
       go : (b : Bool) → eqb (w .wanted) (r .type) ≡ b → (b && not (ltZ (pos (r .time)) (v .first))) ≡ false

@@ -16,7 +16,8 @@ use Rattle.csl.specs.Outcomes.{Outcome, Residue, Sight, Sort, both, breach, don
 use Rattle.csl.specs.Outcomes.{joined, later, running, stuck, unit}
 use Rattle.csl.specs.Places.{Found, clauseAt}
 use Rattle.csl.specs.Table.{isSort, standFor}
-use Rattle.soundness.proofs.Inversion.{T-both}
+use Rattle.csl.specs.Demand3.{NotStuck}
+use Rattle.laws.proofs.Bools.{T-both}
 use Rattle.soundness.proofs.Members.{In, One, Sub, few→one, in-left, in-right, joinOk-sub, sub-both, sub-trans}
 use Rattle.soundness.proofs.Members.{sub→subset}
 use Rattle.soundness.proofs.Evaluation.{HaveTy}
@@ -77,6 +78,13 @@ module _ (ag : Agreement) (W : ℕ → Type 0) where
   good-sub P Q (breach t ps) h g = (g .0, g .1, sub-trans ps P Q (g .2) h, g .3)
   good-sub P Q (running r) h g = (g .0, g .1, sub-trans (g .0) P Q (g .2) h)
   good-sub P Q stuck h g = g
+
+  pub good-moves : (P : List ℕ) (o : Outcome) → Good P o → NotStuck o
+  unfolding Good NotStuck
+  good-moves P done g = tt
+  good-moves P (breach t ps) g = tt
+  good-moves P (running r) g = tt
+  good-moves P stuck g = g
 
   earlier-good : (P Q : List ℕ) (t u : ℕ) (ps qs : List ℕ) → Good P (breach t ps) → Good Q (breach u qs)
       → Good (P ++ Q) (earlier t ps u qs)

@@ -23,7 +23,8 @@ use Rattle.csl.specs.Outcomes.{joinBoth, joinEither, joined, later, orStuck, ru
 use Rattle.csl.specs.Rules.{Reading, Window, blamed, blamedAll, during, following, forecasting, late, walk, walkIn}
 use Rattle.csl.specs.Rules.{window}
 use Rattle.csl.specs.Places.{Found, across, clauseAt, follow, forecast}
-use Rattle.soundness.proofs.Inversion.{T-both, T-left, T-right, from-bind, from-need, some-bind, some-inj}
+use Rattle.laws.proofs.Bools.{T-both, T-left, T-right}
+use Rattle.laws.proofs.Options.{from-bind, from-need, some-bind, some-inj}
 use Rattle.soundness.proofs.Members.{Sub, in-left, in-right, sub-both, sub-refl, sub-trans, sub→subset}
 use Rattle.soundness.proofs.Members.{subset→sub}
 use Rattle.soundness.proofs.Times.{later-to}

@@ -1,4 +1,3 @@
-pub mod Inversion
 pub mod Members
 pub mod Evaluation
 pub mod Times

@@ -25,7 +25,8 @@ use Rattle.csl.specs.Table.{headCells, natCells, padded, runOf, tableOf}
 use Rattle.csl.specs.Entries.{Forecast, breachAt, forecastOf, forecastRun, isTable, noBreach, refusedForecast, shown}
 use Rattle.csl.specs.Demand3.{AllBytes, Bytes, IsBreach, fitting, reached, runAfter}
 use Rattle.csl.specs.Marks.{AllTimes, Breached, ForecastFits, IsMark, timeIn}
-use Rattle.soundness.proofs.Inversion.{from-bind, from-need, some-inj}
+use Rattle.laws.proofs.Options.{from-bind, from-need, some-inj}
+use Rattle.laws.proofs.Clash.{impossible}
 use Rattle.soundness.proofs.Members.{In, Sub, subset→sub, sub→subset}
 use Rattle.soundness.proofs.Good.{Good}
 use Rattle.soundness.proofs.Bits.{bits-back, bits-pos, in-members, members-in, same-bits}
@@ -71,7 +72,7 @@ breach-inj : {t u b c : ℕ} → breachAt t b ≡ breachAt u c → (t ≡ u) × 
 breach-inj e = (cc, cc)
 
 pub none-breach : {t b : ℕ} → noBreach ≡ breachAt t b → ⊥
-none-breach e = let z : _≡_ {A = ℕ} 0 1 = cc in omega arith
+none-breach e = impossible cc
 
 -- at the very forecast minute: a breach at that time, by some of the forecast's parties
 pub record AtOnce (t b : ℕ) (q : Run) : Type 0 where
@@ -83,10 +84,10 @@ pub record AtOnce (t b : ℕ) (q : Run) : Type 0 where
 -- ---- the state cell of a run's table
 pub table-state : (now : ℕ) (o : Outcome) → Breached (tableOf (runAt now o)) → IsBreach o
 unfolding Breached tableOf padded headCells natCells at IsBreach
-table-state now done b = let z : _≡_ {A = ℕ} 0 1 = cc in omega arith
+table-state now done b = impossible cc
 table-state now (breach t ps) b = tt
-table-state now (running r) b = let z : _≡_ {A = ℕ} 0 1 = cc in omega arith
-table-state now stuck b = let z : _≡_ {A = ℕ} 0 1 = cc in omega arith
+table-state now (running r) b = impossible cc
+table-state now stuck b = impossible cc
 
 pub breach-state : (q : Run) → IsBreach (q .outcome) → Breached (tableOf q)
 breach-state q = go (q .lastTime) (q .outcome)
@@ -151,7 +152,7 @@ module _ (bytes : List ℕ) (a : Agreement) (mains : List ℕ) (ck : checked byt
   mark-next f q m i s mk z = go (case-of q m i)
     where
       go : Case a (q .lastTime) (q .outcome) m → Next a f (timeIn m) ((step a q m) .run)
-      go (misfit n w g e) = let c : _≡_ {A = ℕ} 0 1 = cc in absurd (omega arith)
+      go (misfit n w g e) = impossible cc
       go (early d g lt e) = let n : _≡_ {A = ℕ} 10 0 = sym (ap (λ s. s .number) e) ∙ z in absurd (omega arith)
       go (many d g le nd e) = let n : _≡_ {A = ℕ} 11 0 = sym (ap (λ s. s .number) e) ∙ z in absurd (omega arith)
       go (after d g le nd nb ok lt e) =

@@ -12,7 +12,7 @@ use Rattle.csl.specs.Parties.{member, memberCount, subset}
 use Rattle.csl.specs.Syntax.{Join, and, or}
 use Rattle.csl.specs.Typing.{joinOk}
 use Rattle.csl.specs.Table.{standFor, standsFor}
-use Rattle.soundness.proofs.Inversion.{T-both, T-left, T-or, T-right, or-left, or-right}
+use Rattle.laws.proofs.Bools.{T-both, T-left, T-or, T-right, or-left, or-right}
 
 unfoldable pub In : ℕ → List ℕ → Type 0
 In x [] = ⊥

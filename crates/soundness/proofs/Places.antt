@@ -1,15 +1,16 @@
 -- Every wait of a decoded agreement is found at its place.
-use mathlib.Core.Bool.{Bool, false, true}
 use mathlib.Core.List.{List}
 use mathlib.Core.Logic.{inl, inr, _⊎_}
 use mathlib.Core.Option.{Option, none, some}
-use mathlib.Core.Path.{refl, subst, sym, _∙_, _≡_}
+use mathlib.Core.Path.{refl, _∙_, _≡_}
 use Prim.Native.Nat.{_<_, ℕ, _≤_}
 use native.Mathlib.Omega.{arith}
-use lib.Dec.{T, eqb, eqb-refl, eqb→eq}
+use borrow.Author.Tests.{ne-eqb}
+use lib.Dec.{eqb, eqb-refl}
 use Rattle.csl.specs.Lists.{orElse}
 use Rattle.csl.specs.Syntax.{Agreement, Clause, Ty, badClause, choice, fulfilled, if, instance, join, obligation}
 use Rattle.csl.specs.Places.{clauseAt, find}
+use Rattle.laws.proofs.Bools.{T→true, elim-true, elim-false}
 use Rattle.soundness.proofs.Good.{Placed}
 
 -- ---- places lie in a range, in order
@@ -56,23 +57,6 @@ ranged-wider lo lo′ hi hi′ (instance k es bs) a b h = omega arith
 ranged-wider lo lo′ hi hi′ badClause a b h = omega arith
 
 -- ---- finding
-T→true : (b : Bool) → T b → b ≡ true
-T→true true t = refl
-T→true false t = absurd t
-
-eqb-no : (p q : ℕ) → (p ≡ q → ⊥) → eqb p q ≡ false
-eqb-no p q h = go (eqb p q) refl
-  where
-    go : (b : Bool) → eqb p q ≡ b → eqb p q ≡ false
-    go true e = absurd (h (eqb→eq p q (subst T (sym e) tt)))
-    go false e = e
-
-elim-true : {A : Type 0} (b : Bool) (x y : A) → b ≡ true → (elim b [ true ↦ x | false ↦ y ]) ≡ x
-elim-true b x y e = rw e refl
-
-elim-false : {A : Type 0} (b : Bool) (x y : A) → b ≡ false → (elim b [ true ↦ x | false ↦ y ]) ≡ y
-elim-false b x y e = rw e refl
-
 unfoldable pub Out : ℕ → ℕ → ℕ → Type 0
 Out p lo hi = (p < lo) ⊎ (hi ≤ p)
 
@@ -101,10 +85,10 @@ module _ (rs : List (List Ty)) (n p : ℕ) where
   unfolding find Ranged
   find-none lo hi fulfilled env h o = refl
   find-none lo hi (obligation b w t) env h o = elim-false (eqb p (w .place)) _ _
-      (eqb-no p (w .place) (out-ne p (w .place) lo hi (h .1) (omega (arith, h .2, ranged-le (h .0) hi t (h .3))) o))
+      (ne-eqb p (w .place) (out-ne p (w .place) lo hi (h .1) (omega (arith, h .2, ranged-le (h .0) hi t (h .3))) o))
       ∙ (find-none (h .0) hi t _ (h .3) (out-in p lo hi (h .0) hi (omega (arith, h .1, h .2)) (omega arith) o))
   find-none lo hi (choice w t f) env h o =
-      elim-false (eqb p (w .place)) _ _ (eqb-no p (w .place)
+      elim-false (eqb p (w .place)) _ _ (ne-eqb p (w .place)
       (out-ne p (w .place) lo hi (h .2) (omega
       (arith, h .3, ranged-le (h .0) (h .1) t (h .4), ranged-le (h .1) hi f (h .5))) o))
       ∙ (orElse-none _ _ (find-none (h .0) (h .1) t _ (h .4)
@@ -129,17 +113,17 @@ placed-in ag n lo hi (obligation b w t) env h k = (
   k (w .place) (h .1) (omega (arith, h .2, ranged-le (h .0) hi t (h .3)))
       ∙ elim-true (eqb (w .place) (w .place)) _ _ (T→true (eqb (w .place) (w .place)) (eqb-refl (w .place))),
   placed-in ag n (h .0) hi t _ (h .3) (λ p a c. k p (omega (arith, h .1, h .2)) c
-      ∙ elim-false (eqb p (w .place)) _ _ (eqb-no p (w .place) (λ e. omega (arith, h .2)))),
+      ∙ elim-false (eqb p (w .place)) _ _ (ne-eqb p (w .place) (λ e. omega (arith, h .2)))),
 )
 placed-in ag n lo hi (choice w t f) env h k = (
   k (w .place) (h .2) (omega (arith, h .3, ranged-le (h .0) (h .1) t (h .4), ranged-le (h .1) hi f (h .5)))
       ∙ elim-true (eqb (w .place) (w .place)) _ _ (T→true (eqb (w .place) (w .place)) (eqb-refl (w .place))),
   placed-in ag n (h .0) (h .1) t _ (h .4)
       (λ p a c. k p (omega (arith, h .2, h .3)) (omega (arith, ranged-le (h .1) hi f (h .5)))
-      ∙ elim-false (eqb p (w .place)) _ _ (eqb-no p (w .place) (λ e. omega (arith, h .3)))
+      ∙ elim-false (eqb p (w .place)) _ _ (ne-eqb p (w .place) (λ e. omega (arith, h .3)))
       ∙ (none-orElse _ _ (find-none (ag .readings) n p (h .1) hi f env (h .5) (inl c)))),
   placed-in ag n (h .1) hi f env (h .5) (λ p a c. k p (omega (arith, h .2, h .3, ranged-le (h .0) (h .1) t (h .4))) c
-      ∙ elim-false (eqb p (w .place)) _ _ (eqb-no p (w .place)
+      ∙ elim-false (eqb p (w .place)) _ _ (ne-eqb p (w .place)
       (λ e. omega (arith, h .3, ranged-le (h .0) (h .1) t (h .4))))
       ∙ (orElse-none _ _ (find-none (ag .readings) n p (h .0) (h .1) t _ (h .4) (inr a)))),
 )

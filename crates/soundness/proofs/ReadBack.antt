@@ -1,6 +1,6 @@
 -- Cells that read as a run are that run's table, and the run is well typed: the other direction of Round.
-use mathlib.Core.Bool.{_&&_, Bool, false, not, true}
-use mathlib.Core.List.{_++_, List, [], _∷_}
+use mathlib.Core.Bool.{_&&_, not}
+use mathlib.Core.List.{_++_, List, [], _∷_, append-assoc}
 use mathlib.Core.Logic.{inl, _↔_}
 use mathlib.Core.Option.{Option, none, some}
 use mathlib.Core.Path.{ap, ap₂, refl, subst, sym, _∙_, _≡_}
@@ -9,42 +9,35 @@ use native.Mathlib.Omega.{arith}
 use lib.Dec.{T, eqb, eqb→eq, leb, leb→le, ltb, ltb→lt}
 use lib.IntN.{negsuc, pos, ℤ}
 use lib.ListN.{length, length-append, replicate}
-use Rattle.csl.specs.Lists.{_>>=_, all, at, need, orElse, split}
-use Rattle.csl.specs.Numbers.{inRange}
+use Rattle.csl.specs.Lists.{_>>=_, all, at, need, split}
 use Rattle.csl.specs.Parties.{bit, bitsFrom, bitsOf, member, members, subset}
 use Rattle.csl.specs.Syntax.{Agreement, Clause, Join, Ty, and, badClause, choice, fulfilled, if, instance, join}
-use Rattle.csl.specs.Syntax.{Template, number, obligation, or, party, truth}
+use Rattle.csl.specs.Syntax.{Template, obligation, or}
 use Rattle.csl.specs.Typing.{joinOk, namesOf, typeClause, typed}
-use Rattle.csl.specs.Values.{Val, asNat, asTruth, valueOf, valuesOf}
+use Rattle.csl.specs.Values.{Val, asNat, valueOf, valuesOf}
 use Rattle.csl.specs.Outcomes.{Outcome, Residue, Sort, aChoice, anObligation, both, unit, units}
 use Rattle.csl.specs.Places.{Found, clauseAt, find, findIn}
 use Rattle.csl.specs.Run.{Run}
-use Rattle.csl.specs.Table.{HeadNumbers, UnitSort, addUnit, asNats, cellOf, cellsOf, headCells, headNumbers, isSort}
-use Rattle.csl.specs.Table.{isZero, joinCells, joinNumber, joining, natCells, padded, push, readState, residueCells}
+use Rattle.csl.specs.Table.{HeadNumbers, UnitSort, addUnit, asNats, cellsOf, headCells, headNumbers, isSort, isZero}
+use Rattle.csl.specs.Table.{joinCells, joinNumber, joining, natCells, padded, push, readState, residueCells}
 use Rattle.csl.specs.Table.{residueParties, runOf, single, sortNumber, standFor, tableOf, trees, unitCells, unitSort}
 use Rattle.csl.specs.Table.{waiting, waitingUnit}
 use Rattle.csl.specs.Demand3.{needed}
-use Rattle.soundness.proofs.Inversion.{T-left, T-right, from-bind, from-need, some-bind, some-inj}
+use Rattle.laws.proofs.Options.{from-orElse, from-bind, from-need, some-bind, some-inj}
+use Rattle.laws.proofs.Bools.{from-test, T-left, T-right}
+use Rattle.laws.proofs.Cells.{nat-is, value-is}
+use Rattle.laws.proofs.Residues.{single-is}
+use Rattle.laws.proofs.Clash.{impossible}
 use Rattle.soundness.proofs.Members.{In, Sub, sub-join, subset→sub}
 use Rattle.soundness.proofs.Evaluation.{HaveTy}
 use Rattle.soundness.proofs.Good.{Good, Ok, Placed}
 use Rattle.soundness.proofs.Walks.{Fair}
 use Rattle.soundness.proofs.Bits.{bits-members}
-use Rattle.soundness.proofs.RoundTrip.{++-assoc, len-nats}
+use Rattle.soundness.proofs.RoundTrip.{len-nats}
 use Rattle.soundness.proofs.Readings.{values-typed}
 use Rattle.soundness.proofs.Runs.{Inv, Since, main-in, reads, runAt, same}
 
 -- ---- what the finder finds
-from-orElse : {A C : Type 0} (o u : Option A) (y : A) → orElse o u ≡ some y → (o ≡ some y → C) → (u ≡ some y → C) → C
-unfolding orElse
-from-orElse none u y e f g = g e
-from-orElse (some x) u y e f g = f e
-
-from-test : {A C : Type 0} (b : Bool) (x y : A) {z : A} → (elim b [ true ↦ x | false ↦ y ]) ≡ z → (x ≡ z → C)
-    → (y ≡ z → C) → C
-from-test true x y e f g = f e
-from-test false x y e f g = g e
-
 unfoldable FoundOk : Agreement → Found → Type 0
 FoundOk ag f = Placed ag (f .params) (f .sight) (f .clause) × (f .params ≤ 4)
 
@@ -52,23 +45,23 @@ module _ (ag : Agreement) (p : ℕ) (f : Found) where
   find-placed : (n : ℕ) (c : Clause) (env : List Ty) → n ≤ 4 → Placed ag n env c
       → find (ag .readings) n p c env ≡ some f → FoundOk ag f
   unfolding find Placed FoundOk
-  find-placed n fulfilled env few pl e = let z : _≡_ {A = ℕ} 0 1 = cc in absurd (omega arith)
+  find-placed n fulfilled env few pl e = impossible cc
   find-placed n (obligation b w t) env few pl e = from-test (eqb p (w .place)) _ _ e
-      (λ q. subst (FoundOk ag) (some-inj q) (pl, few)) (find-placed n t _ few (pl .1))
+      (λ _ q. subst (FoundOk ag) (some-inj q) (pl, few)) (find-placed n t _ few (pl .1))
   find-placed n (choice w t u) env few pl e = from-test (eqb p (w .place)) _ _ e
-      (λ q. subst (FoundOk ag) (some-inj q) (pl, few))
+      (λ _ q. subst (FoundOk ag) (some-inj q) (pl, few))
       (λ q. from-orElse _ _ f q (find-placed n t _ few (pl .1)) (find-placed n u env few (pl .2)))
   find-placed n (if c t u) env few pl e = from-orElse _ _ f e (find-placed n t env few (pl .0))
       (find-placed n u env few (pl .1))
   find-placed n (join j t u) env few pl e = from-orElse _ _ f e (find-placed n t env few (pl .0))
       (find-placed n u env few (pl .1))
-  find-placed n (instance k es bs) env few pl e = let z : _≡_ {A = ℕ} 0 1 = cc in absurd (omega arith)
-  find-placed n badClause env few pl e = let z : _≡_ {A = ℕ} 0 1 = cc in absurd (omega arith)
+  find-placed n (instance k es bs) env few pl e = impossible cc
+  find-placed n badClause env few pl e = impossible cc
 
   findIn-placed : (ts : List Template) → ((k : ℕ) (t : Template) → at ts k ≡ some t → (t .head .params ≤ 4)
       × Placed ag (t .head .params) (t .head .values) (t .body)) → findIn (ag .readings) p ts ≡ some f → FoundOk ag f
   unfolding findIn at
-  findIn-placed [] h e = let z : _≡_ {A = ℕ} 0 1 = cc in absurd (omega arith)
+  findIn-placed [] h e = impossible cc
   findIn-placed (t ∷ ts) h e = from-orElse _ _ f e
       (λ q. let i = h 0 t refl in find-placed (t .head .params) (t .body) (t .head .values) (i .0) (i .1) q)
       (findIn-placed ts (λ k u q. h (suc k) u q))
@@ -87,7 +80,7 @@ module _ {A : Type 0} where
   unfolding split
   split-is zero xs s e = subst (λ z. (xs ≡ z .0 ++ z .1) × (length (z .0) ≡ 0) × (length xs ≡ 0 + length (z .1)))
       (some-inj e) (refl, refl, omega arith)
-  split-is (suc n) [] s e = let z : _≡_ {A = ℕ} 0 1 = cc in absurd (omega arith)
+  split-is (suc n) [] s e = impossible cc
   split-is (suc n) (x ∷ xs) s e = from-bind (split n xs) _ s e λ t a b. let i = split-is n xs t a in
       subst (λ z. (x ∷ xs ≡ z .0 ++ z .1) × (length (z .0) ≡ suc n) × (suc (length xs) ≡ suc n + length (z .1)))
       (some-inj b) (ap (λ l. x ∷ l) (i .0), ap suc (i .1), omega (arith, i .2))
@@ -106,35 +99,17 @@ filled n xs zs t l =
     let e : length zs ≡ n - length xs = omega (arith, length-append xs zs) in
     ap (λ z. xs ++ z) (zeros-are zs t ∙ ap (λ k. replicate k (pos 0)) e)
 
-nat-is : (z : ℤ) (n : ℕ) → asNat z ≡ some n → z ≡ pos n
-unfolding asNat
-nat-is (pos m) n e = ap pos (some-inj e)
-nat-is (negsuc m) n e = let z : _≡_ {A = ℕ} 0 1 = cc in absurd (omega arith)
-
 nats-are : (zs : List ℤ) (ns : List ℕ) → asNats zs ≡ some ns → zs ≡ natCells ns
 unfolding asNats natCells
 nats-are [] ns e = ap natCells (some-inj e)
 nats-are (z ∷ zs) ns e = from-bind (asNat z) _ ns e λ m a₁ b₁. from-bind (asNats zs) _ ns b₁ λ ms a₂ b₂. ap₂ _∷_
     (nat-is z m a₁) (nats-are zs ms a₂) ∙ ap natCells (some-inj b₂)
 
-truth-is : (n : ℕ) (v : Val) → asTruth n ≡ some v → pos n ≡ cellOf v
-unfolding asTruth cellOf
-truth-is zero v e = ap cellOf (some-inj e)
-truth-is (suc zero) v e = ap cellOf (some-inj e)
-truth-is (suc (suc n)) v e = let z : _≡_ {A = ℕ} 0 1 = cc in absurd (omega arith)
-
-value-is : (ps : ℕ) (t : Ty) (z : ℤ) (v : Val) → valueOf ps t z ≡ some v → z ≡ cellOf v
-unfolding valueOf cellOf
-value-is ps number z v e = from-need (inRange z) _ v e λ t b. ap cellOf (some-inj b)
-value-is ps truth z v e = from-bind (asNat z) _ v e λ n a b. nat-is z n a ∙ truth-is n v b
-value-is ps party z v e = from-bind (asNat z) _ v e λ n a b. from-need (ltb n ps) _ v b λ t c. nat-is z n a
-    ∙ ap cellOf (some-inj c)
-
 pub values-are : (ps : ℕ) (ts : List Ty) (zs : List ℤ) (r : List Val × List ℤ) → valuesOf ps ts zs ≡ some r
     → zs ≡ cellsOf (r .0) ++ r .1
 unfolding valuesOf cellsOf
 values-are ps [] zs r e = ap (λ x. cellsOf (x .0) ++ x .1) (some-inj e)
-values-are ps (t ∷ ts) [] r e = let z : _≡_ {A = ℕ} 0 1 = cc in absurd (omega arith)
+values-are ps (t ∷ ts) [] r e = impossible cc
 values-are ps (t ∷ ts) (z ∷ zs) r e = from-bind (valueOf ps t z) _ r e λ v a₁ b₁. from-bind (valuesOf ps ts zs) _ r b₁
     λ q a₂ b₂.
     ap₂ _∷_ (value-is ps t z v a₁) (values-are ps ts zs q a₂) ∙ ap (λ x. cellsOf (x .0) ++ x .1) (some-inj b₂)
@@ -167,10 +142,10 @@ kind-is : (m : ℕ) (u : UnitSort) → at kinds m ≡ some (some u) → m + 17 �
 unfolding at numberOf sortNumber joinNumber
 kind-is zero u e = ap numberOf (some-inj (some-inj e))
 kind-is (suc zero) u e = ap numberOf (some-inj (some-inj e))
-kind-is (suc (suc zero)) u e = let z : _≡_ {A = ℕ} 0 1 = cc in absurd (omega arith)
+kind-is (suc (suc zero)) u e = impossible cc
 kind-is (suc (suc (suc zero))) u e = ap numberOf (some-inj (some-inj e))
 kind-is (suc (suc (suc (suc zero)))) u e = ap numberOf (some-inj (some-inj e))
-kind-is (suc (suc (suc (suc (suc m))))) u e = let z : _≡_ {A = ℕ} 0 1 = cc in absurd (omega arith)
+kind-is (suc (suc (suc (suc (suc m))))) u e = impossible cc
 
 sort-is : (z : ℤ) (u : UnitSort) → unitSort z ≡ some u → z ≡ pos (numberOf u)
 unfolding unitSort
@@ -238,15 +213,15 @@ cellsIn (r ∷ rs) = residueCells r ++ cellsIn rs
 push-is : (ag : Agreement) (j : Join) (rs qs : List Residue) → push j rs ≡ some qs → Shapes ag rs → Shapes ag qs
     × (unitsIn qs ≡ suc (unitsIn rs)) × (joinCells j ++ cellsIn rs ≡ cellsIn qs)
 unfolding push Shapes Shaped unitsIn units cellsIn residueCells
-push-is ag j [] qs e h = let z : _≡_ {A = ℕ} 0 1 = cc in absurd (omega arith)
-push-is ag j (l ∷ []) qs e h = let z : _≡_ {A = ℕ} 0 1 = cc in absurd (omega arith)
+push-is ag j [] qs e h = impossible cc
+push-is ag j (l ∷ []) qs e h = impossible cc
 push-is ag j (l ∷ r ∷ rs) qs e h = subst
     (λ qs. Shapes ag qs × (unitsIn qs ≡ suc (units l + (units r + unitsIn rs)))
     × (joinCells j ++ (residueCells l ++ (residueCells r ++ cellsIn rs)) ≡ cellsIn qs)) (some-inj e) (
       ((h .0, h .1 .0), h .1 .1),
       omega arith,
-      sym (++-assoc (joinCells j) (residueCells l ++ residueCells r) (cellsIn rs)
-          ∙ ap (λ x. joinCells j ++ x) (++-assoc (residueCells l) (residueCells r) (cellsIn rs))),
+      sym (append-assoc (joinCells j) (residueCells l ++ residueCells r) (cellsIn rs)
+          ∙ ap (λ x. joinCells j ++ x) (append-assoc (residueCells l) (residueCells r) (cellsIn rs))),
     )
 
 add-is : (ag : Agreement) (cells : List ℤ) (rs qs : List Residue) → addUnit ag cells rs ≡ some qs → length cells ≡ 24
@@ -296,15 +271,9 @@ trees-are ag (suc n) cells rs e =
       count = k .1 ∙ ap suc (j .count);
       zeros = j .zeros;
       allZero = j .allZero;
-      same = i .0 ∙ ap (λ x. s .0 ++ x) (j .same) ∙ sym (++-assoc (s .0) (cellsIn qs) (j .zeros))
+      same = i .0 ∙ ap (λ x. s .0 ++ x) (j .same) ∙ sym (append-assoc (s .0) (cellsIn qs) (j .zeros))
           ∙ ap (λ x. x ++ j .zeros) (k .2);
     }
-
-single-is : (rs : List Residue) (r : Residue) → single rs ≡ some r → rs ≡ r ∷ []
-unfolding single
-single-is [] r e = let z : _≡_ {A = ℕ} 0 1 = cc in absurd (omega arith)
-single-is (x ∷ []) r e = ap (λ y. y ∷ []) (some-inj e)
-single-is (x ∷ y ∷ rs) r e = let z : _≡_ {A = ℕ} 0 1 = cc in absurd (omega arith)
 
 tree-is : (ag : Agreement) (n : ℕ) (cells : List ℤ) (rs : List Residue) (r : Residue) → trees ag n cells ≡ some rs
     → single rs ≡ some r → Trees ag n cells (r ∷ [])
@@ -377,14 +346,14 @@ module _ (ag : Agreement) (mains : List ℕ) (h : HeadNumbers) (cells : List ℤ
 
   state-is : (n : ℕ) (o : Outcome) → readState ag mains h cells n ≡ some o → StateIs n o
   unfolding readState StateIs Good needed tableOf Shapes unitsIn cellsIn headCells natCells
-  state-is zero o e = let z : _≡_ {A = ℕ} 0 1 = cc in absurd (omega arith)
+  state-is zero o e = impossible cc
   state-is (suc zero) o e =
       from-need (eqb (h .time) 0 && eqb (h .parties) 0 && leb (h .used) 128) _ o e λ t b₁.
       from-bind (trees ag (h .used) cells) _ o b₁ λ rs a₂ b₂.
       from-bind (single rs) _ o b₂ λ r a₃ b₃. let i = tree-is ag (h .used) cells rs r a₂ a₃ in
       from-bind (residueParties ag mains (h .now) r) _ o b₃ λ ps a₄ b₄.
       let u = T-left (eqb (h .time) 0 && eqb (h .parties) 0) _ t in
-      let same : cells ≡ residueCells r ++ i .zeros = i .same ∙ ++-assoc (residueCells r) [] (i .zeros) in
+      let same : cells ≡ residueCells r ++ i .zeros = i .same ∙ append-assoc (residueCells r) [] (i .zeros) in
       let used : h .used ≡ units r = omega (arith, i .count) in
       subst (StateIs 1) (some-inj b₄) (
         (λ fr. let k = parties-ok ag mains fr (h .now) r ps (i .shaped .0) a₄ in (
@@ -442,7 +411,7 @@ module _ (ag : Agreement) (mains : List ℕ) (h : HeadNumbers) (cells : List ℤ
             ∙ ap₂ (λ b u. padded 3080 (headCells 3 (h .now) (h .time) b u)) (sym (bits-members (h .parties) small))
             (eqb→eq (h .used) 0 t₆),
       )
-  state-is (suc (suc (suc (suc n)))) o e = let z : _≡_ {A = ℕ} 0 1 = cc in absurd (omega arith)
+  state-is (suc (suc (suc (suc n)))) o e = impossible cc
 
 -- a run that is read, from any cells, is well typed
 pub runOf-good : (a : Agreement) (mains : List ℕ) (cells : List ℤ) (q : Run) → Fair a mains

@@ -18,7 +18,9 @@ use Rattle.csl.specs.Values.{Val, asNat, asTruth, valueOf, valuesOf}
 use Rattle.csl.specs.Rules.{Reading}
 use Rattle.csl.specs.Run.{Raw, rawReading, typedReading, valuesWanted}
 use Rattle.csl.specs.Demand3.{Bytes}
-use Rattle.soundness.proofs.Inversion.{T-left, T-right, from-bind, from-need, some-inj}
+use Rattle.laws.proofs.Bools.{T-left, T-right}
+use Rattle.laws.proofs.Options.{from-bind, from-need, some-inj}
+use Rattle.laws.proofs.Clash.{impossible}
 use Rattle.soundness.proofs.Evaluation.{HasTy, HaveTy}
 use Rattle.soundness.proofs.Following.{ReadingOk}
 use Rattle.soundness.proofs.Decoding.{decoded}
@@ -27,7 +29,7 @@ truths : (ps n : ℕ) (v : Val) → asTruth n ≡ some v → HasTy ps truth v
 unfolding asTruth HasTy
 truths ps zero v q = subst (λ w. HasTy ps truth w) (some-inj q) tt
 truths ps (suc zero) v q = subst (λ w. HasTy ps truth w) (some-inj q) tt
-truths ps (suc (suc n)) v q = let z : _≡_ {A = ℕ} 0 1 = cc in absurd (omega arith)
+truths ps (suc (suc n)) v q = impossible cc
 
 value-typed : (ps : ℕ) (t : Ty) (z : ℤ) (v : Val) → valueOf ps t z ≡ some v → HasTy ps t v
 unfolding valueOf HasTy
@@ -40,7 +42,7 @@ pub values-typed : (ps : ℕ) (ts : List Ty) (zs : List ℤ) (r : List Val × Li
     → HaveTy ps ts (r .0)
 unfolding valuesOf HaveTy
 values-typed ps [] zs r e = subst (λ z. HaveTy ps [] (z .0)) (some-inj e) tt
-values-typed ps (t ∷ ts) [] r e = let z : _≡_ {A = ℕ} 0 1 = cc in absurd (omega arith)
+values-typed ps (t ∷ ts) [] r e = impossible cc
 values-typed ps (t ∷ ts) (z ∷ zs) r e =
     from-bind (valueOf ps t z) _ r e λ v a₁ b₁.
     from-bind (valuesOf ps ts zs) _ r b₁ λ q a₂ b₂.
@@ -49,7 +51,7 @@ values-typed ps (t ∷ ts) (z ∷ zs) r e =
 wanted-same : (a : Agreement) (k : ℕ) (ts us : List Ty) → valuesWanted a k ≡ some ts
     → readingOfType (a .readings) k ≡ some us → ts ≡ us
 unfolding valuesWanted readingOfType
-wanted-same a zero ts us p q = let z : _≡_ {A = ℕ} 0 1 = cc in absurd (omega arith)
+wanted-same a zero ts us p q = impossible cc
 wanted-same a (suc k) ts us p q = some-inj (sym p ∙ q)
 
 -- a reading that 9 does not refuse has values of the types its clause will see

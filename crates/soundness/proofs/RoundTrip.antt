@@ -1,13 +1,13 @@
 -- A good run's table reads back as the run.
 use mathlib.Core.Bool.{_&&_, false, not, true}
-use mathlib.Core.List.{_++_, List, [], _∷_}
+use mathlib.Core.List.{_++_, List, [], _∷_, append-assoc}
 use mathlib.Core.Option.{some}
 use mathlib.Core.Path.{ap, refl, subst, sym, _∙_, _≡_}
 use Prim.Native.Nat.{_+_, _-_, _<_, _^_, suc, zero, ℕ, _≤_}
 use native.Mathlib.Omega.{arith}
 use lib.Dec.{T, eqb, eqb→eq, leb, leb→le, le→leb, ltb, lt→ltb, not-T}
 use lib.IntN.{pos, ℤ}
-use lib.ListN.{length, length-append, length-replicate, replicate}
+use lib.ListN.{length, length-append, replicate}
 use Rattle.csl.specs.Lists.{_>>=_, all, at, need, split}
 use Rattle.csl.specs.Numbers.{inRange}
 use Rattle.csl.specs.Parties.{bitsOf, members, subset}
@@ -22,18 +22,17 @@ use Rattle.csl.specs.Run.{fit}
 use Rattle.csl.specs.Table.{addUnit, asNats, cellOf, cellsOf, headCells, headNumbers, isSort, isZero, joinCells}
 use Rattle.csl.specs.Table.{joinNumber, natCells, padded, push, readState, residueCells, residueParties, runOf}
 use Rattle.csl.specs.Table.{single, sortNumber, standFor, tableOf, trees, unitCells, unitSort, waitingUnit}
-use Rattle.soundness.proofs.Inversion.{T-both, from-bind, from-need, passes, some-bind, true-need}
+use Rattle.laws.proofs.Cells.{length-padded, length-join}
+use Rattle.laws.proofs.Bools.{T-both}
+use Rattle.laws.proofs.Options.{from-bind, from-need, passes, some-bind, true-need}
+use Rattle.laws.proofs.PartyBits.{bits-lt}
 use Rattle.soundness.proofs.Members.{In, Sub, in-left, in-right, sub→subset}
 use Rattle.soundness.proofs.Evaluation.{HasTy, HaveTy}
 use Rattle.soundness.proofs.Good.{Ok, OkUnit}
-use Rattle.soundness.proofs.Bits.{bits-lt, bits-pos, members-in}
+use Rattle.soundness.proofs.Bits.{bits-pos, members-in}
 
 -- ---- lists
 module _ {A : Type 0} where
-  pub ++-assoc : (xs ys zs : List A) → (xs ++ ys) ++ zs ≡ xs ++ (ys ++ zs)
-  ++-assoc [] ys zs = refl
-  ++-assoc (x ∷ xs) ys zs = ap (λ l. x ∷ l) (++-assoc xs ys zs)
-
   pub split-++ : (n : ℕ) (xs ys : List A) → length xs ≡ n → split n (xs ++ ys) ≡ some (xs, ys)
   unfolding split
   split-++ zero [] ys e = refl
@@ -45,11 +44,6 @@ pub zeros-zero : (n : ℕ) → T (all isZero (replicate n (pos 0)))
 unfolding all isZero
 zeros-zero zero = tt
 zeros-zero (suc n) = zeros-zero n
-
-pub len-padded : (n : ℕ) (xs : List ℤ) → length xs ≤ n → length (padded n xs) ≡ n
-unfolding padded
-len-padded n xs h = length-append xs (replicate (n - length xs) (pos 0))
-    ∙ omega (arith, length-replicate (n - length xs) (pos 0))
 
 pub len-nats : (ns : List ℕ) → length (natCells ns) ≡ length ns
 unfolding natCells
@@ -135,7 +129,7 @@ module _ (ag : Agreement) (W : ℕ → Type 0) where
       ∙ some-bind (split 5 (padded 5 (natCells (e .params)) ++ padded 16 (cellsOf (e .values)))) _
       (padded 5 (natCells (e .params)), padded 16 (cellsOf (e .values)))
       (split-++ 5 (padded 5 (natCells (e .params))) (padded 16 (cellsOf (e .values)))
-      (len-padded 5 (natCells (e .params)) (omega
+      (length-padded 5 (natCells (e .params)) (omega
       (arith, len-nats (e .params), ok .sight .count, ok .sight .fewParams))))
       ∙ some-bind (split (ok .found .params) (padded 5 (natCells (e .params)))) _
       (natCells (e .params), replicate (5 - length (natCells (e .params))) (pos 0))
@@ -157,9 +151,9 @@ module _ (ag : Agreement) (W : ℕ → Type 0) where
       omega (
         arith,
         length-append (padded 5 (natCells (e .params))) (padded 16 (cellsOf (e .values))),
-        len-padded 5 (natCells (e .params)) (omega
+        length-padded 5 (natCells (e .params)) (omega
             (arith, len-nats (e .params), ok .sight .count, ok .sight .fewParams)),
-        len-padded 16 (cellsOf (e .values)) (omega (
+        length-padded 16 (cellsOf (e .values)) (omega (
           arith,
           len-cells (e .values),
           len-typed (ag .parties) (ok .found .sight) (e .values) (ok .sight .values),
@@ -173,10 +167,6 @@ module _ (ag : Agreement) (W : ℕ → Type 0) where
   unfolding addUnit joinCells padded unitSort joinNumber asNat need _>>=_ at all isZero push
   join-reads and l r rs = refl
   join-reads or l r rs = refl
-
-  pub join-length : (j : Join) → length (joinCells j) ≡ 24
-  unfolding joinCells padded
-  join-length j = refl
 
   adds-unit : (s : Sort) (p a : ℕ) (e : Sight) (ps : List ℕ) (rs : List Residue) → OkUnit ag W s p a e ps
       → addUnit ag (unitCells s p a e) rs ≡ some (unit s p a e ∷ rs)
@@ -204,10 +194,10 @@ module _ (ag : Agreement) (W : ℕ → Type 0) where
       (units-length s p a e ps ok) h (adds-unit s p a e ps rs ok)
   trees-read (both j l r) ps n rest rs ok h =
       subst (λ x. trees ag (1 + units l + units r + n) x ≡ some (both j l r ∷ rs))
-      (sym (++-assoc (joinCells j) (residueCells l ++ residueCells r) rest
-      ∙ ap (λ x. joinCells j ++ x) (++-assoc (residueCells l) (residueCells r) rest)))
+      (sym (append-assoc (joinCells j) (residueCells l ++ residueCells r) rest
+      ∙ ap (λ x. joinCells j ++ x) (append-assoc (residueCells l) (residueCells r) rest)))
       (trees-step (1 + units l + units r + n) (units l + (units r + n)) (joinCells j)
-      (residueCells l ++ (residueCells r ++ rest)) (l ∷ r ∷ rs) (both j l r ∷ rs) (omega arith) (join-length j)
+      (residueCells l ++ (residueCells r ++ rest)) (l ∷ r ∷ rs) (both j l r ∷ rs) (omega arith) (length-join j)
       (trees-read l (ok .0) (units r + n) (residueCells r ++ rest) (r ∷ rs) (ok .2)
       (trees-read r (ok .1) n rest rs (ok .3) h)) (join-reads j l r rs))
 

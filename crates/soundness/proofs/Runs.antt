@@ -23,15 +23,16 @@ use Rattle.csl.specs.Run.{typedReading, unfit}
 use Rattle.csl.specs.Table.{headCells, joinCells, natCells, padded, residueCells, runOf, tableLength, tableOf}
 use Rattle.csl.specs.Entries.{Answer, isTable, readingOf, refusal, startOf, written}
 use Rattle.csl.specs.Demand3.{Bytes, IsBreach, NotStuck, fitting, needed, reached}
-use Rattle.soundness.proofs.Inversion.{T-left, T-or, T-right, some-bind}
+use Rattle.laws.proofs.Bools.{T-left, T-or, T-right}
+use Rattle.laws.proofs.Options.{some-bind}
+use Rattle.laws.proofs.Cells.{length-join, length-padded}
 use Rattle.soundness.proofs.Members.{In, sub→subset}
 use Rattle.soundness.proofs.Good.{Good, Ok, good-sub}
 use Rattle.soundness.proofs.Walks.{Fair}
 use Rattle.soundness.proofs.Activation.{typed-blames}
 use Rattle.soundness.proofs.Following.{ReadingOk, follow-good}
 use Rattle.soundness.proofs.Bits.{bits-back}
-use Rattle.soundness.proofs.RoundTrip.{breach-reads, done-reads, join-length, len-padded, running-reads}
-use Rattle.soundness.proofs.RoundTrip.{units-length}
+use Rattle.soundness.proofs.RoundTrip.{breach-reads, done-reads, running-reads, units-length}
 use Rattle.soundness.proofs.Checked.{Passed, fair, passed}
 use Rattle.soundness.proofs.Readings.{raw-time, reading-ok}
 
@@ -165,7 +166,7 @@ cells-len a W (unit s p t e) ps ok = units-length a W s p t e ps ok
 cells-len a W (both j l r) ps ok = length-append (joinCells j) (residueCells l ++ residueCells r)
     ∙ omega (
       arith,
-      join-length a W j,
+      length-join j,
       length-append (residueCells l) (residueCells r),
       cells-len a W l (ok .0) (ok .2),
       cells-len a W r (ok .1) (ok .3),
@@ -178,10 +179,10 @@ head-len s n t b u = refl
 pub table-len : (a : Agreement) (mains : List ℕ) (now : ℕ) (o : Outcome) → Inv a mains now o
     → length (tableOf (runAt now o)) ≡ 3080
 unfolding tableOf
-table-len a mains now done i = len-padded 3080 (headCells 2 now 0 0 0) (omega (arith, head-len 2 now 0 0 0))
-table-len a mains now (breach t ps) i = len-padded 3080 (headCells 3 now t (bitsOf ps) 0)
+table-len a mains now done i = length-padded 3080 (headCells 2 now 0 0 0) (omega (arith, head-len 2 now 0 0 0))
+table-len a mains now (breach t ps) i = length-padded 3080 (headCells 3 now t (bitsOf ps) 0)
     (omega (arith, head-len 3 now t (bitsOf ps) 0))
-table-len a mains now (running r) i = len-padded 3080 (headCells 1 now 0 0 (units r) ++ residueCells r)
+table-len a mains now (running r) i = length-padded 3080 (headCells 1 now 0 0 (units r) ++ residueCells r)
     (unfold Good needed in omega (
       arith,
       head-len 1 now 0 0 (units r),

@@ -7,23 +7,12 @@ use lib.Dec.{T, leb→le, le→leb, ltb, ltb→lt, nltb→le}
 use lib.IntN.{_+ℤ_, _-ℤ_, negsuc, pos, pos-ne-negsuc, subℕ, ℤ}
 use lib.Signed.{ltZ}
 use Rattle.csl.specs.Numbers.{inRange, laterOf, limit}
-
-pub later-from : (a : ℕ) (l : ℤ) → a ≤ laterOf a l
-unfolding laterOf
-later-from a (pos n) = omega arith
-later-from a (negsuc n) = omega arith
+use Rattle.laws.proofs.Integers.{difference-below}
 
 pub later-to : (a t : ℕ) (l : ℤ) → a ≤ t → T (ltZ l (pos t)) → laterOf a l ≤ t
 unfolding laterOf
 later-to a t (pos n) h k = omega (arith, ltb→lt n t k)
 later-to a t (negsuc n) h k = h
-
-sub-le : (x y m : ℕ) → subℕ x y ≡ pos m → m ≤ x
-sub-le x y m e = go (ltb x y) e
-  where
-    go : (b : Bool) → _≡_ {A = ℤ} (cond b (negsuc (y - suc x)) (pos (x - y))) (pos m) → m ≤ x
-    go true p = absurd (pos-ne-negsuc m _ (sym p))
-    go false p = let q : x - y ≡ m = cc in omega arith
 
 sub-ge : (x y : ℕ) → y ≤ x → subℕ x y ≡ pos (x - y)
 sub-ge x y h = go (ltb x y) refl
@@ -40,8 +29,8 @@ minus-pos m (suc t) h = sub-ge m (suc t) h
 sum-le : (f y : ℤ) (t m : ℕ) → T (not (ltZ (pos t) f)) → T (inRange y) → f +ℤ y ≡ pos m → m ≤ t + limit
 unfolding inRange
 sum-le (pos a) (pos b) t m h k e = let q : a + b ≡ m = cc in omega (arith, nltb→le t a h, leb→le b limit k)
-sum-le (pos a) (negsuc b) t m h k e = omega (arith, nltb→le t a h, sub-le a (suc b) m e)
-sum-le (negsuc a) (pos b) t m h k e = omega (arith, leb→le b limit k, sub-le b (suc a) m e)
+sum-le (pos a) (negsuc b) t m h k e = omega (arith, nltb→le t a h, difference-below a (suc b) m e)
+sum-le (negsuc a) (pos b) t m h k e = omega (arith, leb→le b limit k, difference-below b (suc a) m e)
 sum-le (negsuc a) (negsuc b) t m h k e = absurd (pos-ne-negsuc m _ (sym e))
 
 pub remaining-range : (f y : ℤ) (t : ℕ) → T (not (ltZ (pos t) f)) → T (not (ltZ (f +ℤ y) (pos t))) → T (inRange y)

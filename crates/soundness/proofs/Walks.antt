@@ -20,8 +20,9 @@ use Rattle.csl.specs.Values.{Val, asBool, asNum, bool, eval, evalBool, evalNum,
 use Rattle.csl.specs.Outcomes.{Outcome, Sight, orStuck}
 use Rattle.csl.specs.Rules.{Step, blamed, blamedAll, walk}
 use Rattle.csl.specs.Table.{standFor, standsFor}
-use Rattle.soundness.proofs.Inversion.{T-both, T-left, T-or, T-right, from-bind, from-need, need-true}
-use Rattle.soundness.proofs.Inversion.{some-bind, some-inj}
+use Rattle.laws.proofs.Bools.{T-both, T-left, T-or, T-right}
+use Rattle.laws.proofs.Options.{from-bind, from-need, need-true, some-bind, some-inj}
+use Rattle.laws.proofs.Clash.{impossible}
 use Rattle.soundness.proofs.Members.{In, Sub, all-in, in-stand, stand-++, stand-joinOk, sub-both, sub-refl}
 use Rattle.soundness.proofs.Evaluation.{Applied, HaveTy, bool-of, eval-typed, num-of, sameTy→eq}
 use Rattle.soundness.proofs.Good.{Good, Placed, SightOk, good-sub, joined-good, left-good, right-good}
@@ -46,13 +47,13 @@ pub record Fair (ag : Agreement) (mains : List ℕ) : Type 0 where
 pub at-heads : {C : Type 0} (ts : List Template) (k : ℕ) (h : Head) → at (headsIn ts) k ≡ some h
     → ((t : Template) → at ts k ≡ some t → t .head ≡ h → C) → C
 unfolding at headsIn
-at-heads [] k h e f = let z : _≡_ {A = ℕ} 0 1 = cc in absurd (omega arith)
+at-heads [] k h e f = impossible cc
 at-heads (t ∷ ts) zero h e f = f t refl (some-inj e)
 at-heads (t ∷ ts) (suc k) h e f = at-heads ts k h e f
 
 pub at-lt : {A : Type 0} (xs : List A) (k : ℕ) (x : A) → at xs k ≡ some x → k < length xs
 unfolding at
-at-lt [] k x e = let z : _≡_ {A = ℕ} 0 1 = cc in absurd (omega arith)
+at-lt [] k x e = impossible cc
 at-lt (y ∷ ys) zero x e = omega arith
 at-lt (y ∷ ys) (suc k) x e = omega (arith, at-lt ys k x e)
 
@@ -64,7 +65,7 @@ lt-at (y ∷ ys) (suc k) h = lt-at ys k (omega arith)
 
 pub at-in : (xs : List ℕ) (k : ℕ) (x : ℕ) → at xs k ≡ some x → In x xs
 unfolding at In
-at-in [] k x e = let z : _≡_ {A = ℕ} 0 1 = cc in absurd (omega arith)
+at-in [] k x e = impossible cc
 at-in (y ∷ ys) zero x e = inl (sym (some-inj e))
 at-in (y ∷ ys) (suc k) x e = inr (at-in ys k x e)
 
@@ -151,8 +152,8 @@ module _ (ps : ℕ) (env : List Ty) (vs : List Val) (h : HaveTy ps env vs) where
       × (evals vs es ≡ some ws) × HaveTy ps ts ws
   unfolding haveTypes evals HaveTy
   evals-typed [] [] u e = ([], refl, tt)
-  evals-typed [] (t ∷ ts) u e = let z : _≡_ {A = ℕ} 0 1 = cc in absurd (omega arith)
-  evals-typed (x ∷ es) [] u e = let z : _≡_ {A = ℕ} 0 1 = cc in absurd (omega arith)
+  evals-typed [] (t ∷ ts) u e = impossible cc
+  evals-typed (x ∷ es) [] u e = impossible cc
   evals-typed (x ∷ es) (t ∷ ts) u e =
       from-bind (hasType ps env x t) _ u e λ u′ p q.
       from-type x t u′ p λ a.
@@ -244,4 +245,4 @@ module _ (ag : Agreement) (few : ag .parties ≤ 16)
         (stand-instance (e .params) (h .declared) cs (λ x i. omega (arith, hd k h p x i)))
         (ug k h (ev .0) (standFor (e .params) cs) a (ltb→lt k m gd) p (ev .2)
         (bl .2 ∙ eqb→eq (length cs) (h .params) (T-left (eqb (length cs) (h .params)) _ t)) (bl .1) wa))))
-    walk-good badClause n env e a bs gd ok wa ty pl = let z : _≡_ {A = ℕ} 0 1 = cc in absurd (omega arith)
+    walk-good badClause n env e a bs gd ok wa ty pl = impossible cc

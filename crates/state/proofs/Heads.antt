@@ -6,7 +6,7 @@ use mathlib.Core.Option.{some}
 use Prim.Native.Nat.{ℕ, zero, suc, _-_, _^_, _≤_, _<_}
 use native.Mathlib.Omega.{arith}
 use lib.Dec.{T, leb, ltb, leb→le, le→leb, ltb→lt, lt→ltb}
-use lib.IntN.{ℤ, pos, negsuc}
+use lib.IntN.{ℤ, pos}
 use lib.ListN.{length, getD, take, drop}
 use Rattle.csl.specs.Lists.{_>>=_, all, at, split}
 use Rattle.csl.specs.Bytes.{le32}
@@ -15,9 +15,10 @@ use Rattle.csl.specs.Values.{asNat}
 use Rattle.csl.specs.Outcomes.{Outcome}
 use Rattle.csl.specs.Run.{Run}
 use Rattle.csl.specs.Table.{isZero, asNats, HeadNumbers, headNumbers, readState, runOf}
-use Rattle.soundness.proofs.Inversion.{from-bind, from-need, some-bind, passes, some-inj, T-both, both-true}
+use Rattle.laws.proofs.Options.{from-bind, from-need, some-bind, passes, some-inj, none-some}
+use Rattle.laws.proofs.Bools.{T-both, both-true}
+use Rattle.laws.proofs.Cells.{nat-is}
 use Rattle.places.specs.Locate.{mainsOf}
-use Rattle.units.proofs.Waits.{none-is}
 use Rattle.state.specs.Shown.{runIn}
 
 -- ---- the eight cells of the head
@@ -33,14 +34,9 @@ eight P k (a ∷ b ∷ c ∷ d ∷ e ∷ f ∷ []) l = absurd (omega arith)
 eight P k (a ∷ b ∷ c ∷ d ∷ e ∷ f ∷ g ∷ []) l = absurd (omega arith)
 eight P k (a ∷ b ∷ c ∷ d ∷ e ∷ f ∷ g ∷ h ∷ zs) l = k a b c d e f g h zs
 
-nat-is : (z : ℤ) (n : ℕ) → asNat z ≡ some n → z ≡ pos n
-unfolding asNat
-nat-is (pos m) n e = ap pos (some-inj e)
-nat-is (negsuc m) n e = none-is e
-
 nats-at : (zs : List ℤ) (ns : List ℕ) (i n : ℕ) → asNats zs ≡ some ns → at ns i ≡ some n → getD zs i (pos 0) ≡ pos n
 unfolding asNats at
-nats-at [] ns i n e f = none-is (subst (λ (l : List ℕ). at l i ≡ some n) (sym (some-inj e)) f)
+nats-at [] ns i n e f = none-some (subst (λ (l : List ℕ). at l i ≡ some n) (sym (some-inj e)) f)
 nats-at (z ∷ zs) ns i n e f =
     from-bind (asNat z) _ ns e λ m a e₁.
     from-bind (asNats zs) _ ns e₁ λ ms b e₂.

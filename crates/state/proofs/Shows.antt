@@ -1,6 +1,6 @@
 -- The state that a table shows, by what the code read.
 use mathlib.Core.Path.{_≡_, refl, sym, ap, ap₂, subst, _∙_}
-use mathlib.Core.Bool.{Bool, true, false, not, _&&_, true≢false}
+use mathlib.Core.Bool.{Bool, true, false, not, _&&_}
 use mathlib.Core.List.{List, [], _∷_}
 use mathlib.Core.Option.{some}
 use Prim.Native.Nat.{ℕ, zero, suc, _+_, _-_, _*_, _^_, _≤_, _<_}
@@ -11,7 +11,7 @@ use lib.IntN.{ℤ, pos, negsuc}
 use lib.ListN.{length, getD, take, drop, length-drop}
 use lib.Seq.{take-all, drop-drop}
 use Rattle.arith.proofs.Lists.{take-drop}
-use borrow.Author.Tests.{ne-eqb}
+use borrow.Author.Tests.{ne-eqb, not-false, not-true}
 use Rattle.csl.specs.Lists.{all, at}
 use Rattle.csl.specs.Bytes.{le32}
 use Rattle.csl.specs.Parties.{bitsOf, members, subset}
@@ -19,14 +19,17 @@ use Rattle.csl.specs.Decode.{agreementOf}
 use Rattle.csl.specs.Outcomes.{Residue, units, Outcome, done, breach, running}
 use Rattle.csl.specs.Run.{Run}
 use Rattle.csl.specs.Table.{isZero, HeadNumbers, readState, trees, single, residueParties}
+use Rattle.laws.proofs.Options.{from-bind, from-need, some-bind, passes, none-some}
+use Rattle.laws.proofs.Bools.{T-both, both-true, T→true, true→T, true-not-false}
+use Rattle.laws.proofs.PartyBits.{members-within}
+use Rattle.laws.proofs.Integers.{pos-inj}
+use Rattle.laws.proofs.Residues.{single-is}
 use Rattle.parties.proofs.Masks.{within-subset, bits-members}
-use Rattle.parties.proofs.Members.{members-in}
-use Rattle.soundness.proofs.Inversion.{from-bind, from-need, some-bind, passes, some-inj, T-both, both-true}
 use Rattle.places.specs.Locate.{mainsOf}
 use Rattle.units.specs.Cells.{numberBelow}
 use Rattle.units.specs.Units.{sightNumbers}
-use Rattle.units.proofs.Cells.{below-is, below-not, yes-true, no-false}
-use Rattle.units.proofs.Waits.{none-is, option-none}
+use Rattle.units.proofs.Cells.{below-is, below-not}
+use Rattle.units.proofs.Waits.{option-none}
 use Rattle.state.specs.declared.State.the-variants.{Damaged, Running, Fulfilled, Breached}
 use Rattle.state.specs.declared.Walk.{Walk}
 use Rattle.state.specs.declared.Walk.the-variants.{Damaged as Torn, Tree}
@@ -34,19 +37,6 @@ use Rattle.state.specs.Tree.{ReadsAs, TreeAs, WalkIs}
 use Rattle.state.specs.Shown.{RunShows, Shows, runIn, HeadAt}
 use Rattle.state.proofs.Trees.{AllRead, trees-read, tree-first, reads-same}
 use Rattle.state.proofs.Heads.{RunFacts, run-facts, run-is, eight}
-
-pos-inj : {m n : ℕ} → pos m ≡ pos n → m ≡ n
-pos-inj e = cc
-
-T→true : (b : Bool) → T b → b ≡ true
-T→true true t = refl
-T→true false t = absurd t
-
-true→T : {b : Bool} → b ≡ true → T b
-true→T e = subst T (sym e) tt
-
-opposed : {C : Type 0} {b : Bool} → b ≡ true → b ≡ false → C
-opposed p q = absurd (true≢false (sym p ∙ q))
 
 -- ---- cells that are zero
 zero-is : (z : ℤ) → T (isZero z) → z ≡ pos 0
@@ -161,17 +151,17 @@ module _ (cells : List ℤ) (l : length cells ≡ 3080) (A : List ℕ) {time : �
   pub fulfilled-head : {b : Bool} → b ≡ all isZero (take 2 (drop 2 cells)) → not b ≡ true
       → Shows (runIn A cells) cells sights Damaged
   fulfilled-head {b} e g = shown-none cells l A sights λ q f. let d = done-facts f in
-      opposed (T→true (all isZero (take 2 (drop 2 cells))) (zeros-two cells l (d .timeless) (d .blameless)))
-      (sym e ∙ no-false b g)
+      true-not-false (T→true (all isZero (take 2 (drop 2 cells))) (zeros-two cells l (d .timeless) (d .blameless)))
+      (sym e ∙ not-true b g)
 
   pub fulfilled-used : {b : Bool} → b ≡ all isZero (take 1 (drop 4 cells)) → not b ≡ true
       → Shows (runIn A cells) cells sights Damaged
-  fulfilled-used {b} e g = shown-none cells l A sights λ q f. opposed
-      (T→true (all isZero (take 1 (drop 4 cells))) (zeros-one cells l (done-facts f .unused))) (sym e ∙ no-false b g)
+  fulfilled-used {b} e g = shown-none cells l A sights λ q f. true-not-false
+      (T→true (all isZero (take 1 (drop 4 cells))) (zeros-one cells l (done-facts f .unused))) (sym e ∙ not-true b g)
 
   pub fulfilled-rest : {b : Bool} → b ≡ all isZero (take 3072 (drop 8 cells)) → b ≡ false
       → Shows (runIn A cells) cells sights Damaged
-  fulfilled-rest {b} e g = shown-none cells l A sights λ q f. opposed
+  fulfilled-rest {b} e g = shown-none cells l A sights λ q f. true-not-false
       (T→true (all isZero (drop 8 cells)) (done-facts f .rest)) (ap (all isZero) (sym (unit-cells cells l)) ∙ sym e ∙ g)
 
   pub fulfilled-is : {a b c : Bool} → a ≡ all isZero (take 2 (drop 2 cells)) → not a ≡ false
@@ -179,8 +169,8 @@ module _ (cells : List ℤ) (l : length cells ≡ 3080) (A : List ℕ) {time : �
       → Shows (runIn A cells) cells sights Fulfilled
   unfolding Shows readState
   fulfilled-is {a} {b} e g i j k m =
-      let two = two-zeros cells l (true→T (sym e ∙ yes-true a g)) in
-      let one = one-zero cells l (true→T (sym i ∙ yes-true b j)) in
+      let two = two-zeros cells l (true→T (sym e ∙ not-false a g)) in
+      let one = one-zero cells l (true→T (sym i ∙ not-false b j)) in
       let rest : T (all isZero (drop 8 cells)) = true→T (ap (all isZero) (sym (unit-cells cells l)) ∙ sym k ∙ m) in
       shows cells l A h done (two .0) (two .1) one (passes (all isZero (drop 8 cells)) _ rest)
 
@@ -270,23 +260,23 @@ module _ (cells : List ℤ) (l : length cells ≡ 3080) (A : List ℕ) {time : �
     unfolding members
     in-mains m k = k ∙ rw m (ap (λ (n : ℕ). eqb (bitOr n (bitsOf (mainsOf A))) (bitsOf (mainsOf A)))
         (sym (bits-members bits narrow)) ∙ within-subset (members bits) (mainsOf A)
-        (λ q t. omega (arith, members-in 16 0 bits q t)))
+        (λ q t. omega (arith, members-within 16 0 bits q t)))
 
     pub breached-others : {mains : ℕ} {t : Bool} → mains ≡ bitsOf (mainsOf A) → t ≡ eqb (bitOr bits mains) mains
         → not t ≡ true → Shows (runIn A cells) cells sights Damaged
-    breached-others {t = t} m k n = broken-none λ b. opposed
+    breached-others {t = t} m k n = broken-none λ b. true-not-false
         (T→true (subset (members (b .bits)) (mainsOf A)) (b .within))
-        (ap (λ (y : ℕ). subset (members y) (mainsOf A)) (same-bits b) ∙ sym (in-mains m k) ∙ no-false t n)
+        (ap (λ (y : ℕ). subset (members y) (mainsOf A)) (same-bits b) ∙ sym (in-mains m k) ∙ not-true t n)
 
   pub breached-used : {b : Bool} → b ≡ all isZero (take 1 (drop 4 cells)) → not b ≡ true
       → Shows (runIn A cells) cells sights Damaged
-  breached-used {b} e g = broken-none λ f. opposed
-      (T→true (all isZero (take 1 (drop 4 cells))) (zeros-one cells l (f .unused))) (sym e ∙ no-false b g)
+  breached-used {b} e g = broken-none λ f. true-not-false
+      (T→true (all isZero (take 1 (drop 4 cells))) (zeros-one cells l (f .unused))) (sym e ∙ not-true b g)
 
   pub breached-rest : {b : Bool} → b ≡ all isZero (take 3072 (drop 8 cells)) → not b ≡ true
       → Shows (runIn A cells) cells sights Damaged
-  breached-rest {b} e g = broken-none λ f. opposed (T→true (all isZero (drop 8 cells)) (f .rest))
-      (ap (all isZero) (sym (unit-cells cells l)) ∙ sym e ∙ no-false b g)
+  breached-rest {b} e g = broken-none λ f. true-not-false (T→true (all isZero (drop 8 cells)) (f .rest))
+      (ap (all isZero) (sym (unit-cells cells l)) ∙ sym e ∙ not-true b g)
 
   module _ {when start bits mains : ℕ} {s v w : Bool} {t : ℤ} where
     pub breached-is : when ≡ numberBelow (time + 1) (getD cells 2 (pos 0)) → when ≤ time → start ≡ le32 A 4
@@ -297,18 +287,18 @@ module _ (cells : List ℤ) (l : length cells ≡ 3080) (A : List ℕ) {time : �
     unfolding Shows readState agreementOf
     breached-is e g a b c u d n m k s₁ p v₁ q w₁ z =
         let rest : T (all isZero (drop 8 cells)) = true→T
-        (ap (all isZero) (sym (unit-cells cells l)) ∙ sym q ∙ yes-true w w₁) in
+        (ap (all isZero) (sym (unit-cells cells l)) ∙ sym q ∙ not-false w w₁) in
         record {
           time = when;
           isTime = z ∙ is-when e g;
           small = narrow c u d;
           shows = shows cells l A h (breach when (members bits)) (is-when e g) (is-bits c u d)
-              (one-zero cells l (true→T (sym p ∙ yes-true v v₁)))
+              (one-zero cells l (true→T (sym p ∙ not-false v v₁)))
               (passes (leb (le32 A 4) when) _ (le→leb (le32 A 4) when (omega arith))
               ∙ passes (leb when time) _ (le→leb when time g)
               ∙ passes (ltb bits (2 ^ 16)) _ (lt→ltb bits (2 ^ 16) (narrow c u d))
               ∙ passes (not (eqb bits 0)) _ (subst (λ (y : Bool). T (not y)) (sym (ne-eqb bits 0 n)) tt)
-              ∙ passes (subset (members bits) (mainsOf A)) _ (true→T (sym (in-mains c u d m k) ∙ yes-true s s₁))
+              ∙ passes (subset (members bits) (mainsOf A)) _ (true→T (sym (in-mains c u d m k) ∙ not-false s s₁))
               ∙ passes (eqb 0 0) _ tt
               ∙ passes (all isZero (drop 8 cells)) _ rest);
         }
@@ -325,12 +315,6 @@ module _ (cells : List ℤ) (l : length cells ≡ 3080) (A : List ℕ) {time : �
     pub are : trees (agreementOf A) used (drop 8 cells) ≡ some (residue ∷ [])
     pub parties : List ℕ
     pub have : residueParties (agreementOf A) (mainsOf A) time residue ≡ some parties
-
-  single-is : (rs : List Residue) (r : Residue) → single rs ≡ some r → rs ≡ r ∷ []
-  unfolding single
-  single-is [] r e = none-is e
-  single-is (x ∷ []) r e = ap (λ (y : Residue). y ∷ []) (some-inj e)
-  single-is (x ∷ y ∷ rs) r e = none-is e
 
   waits-facts : {q : Run} → RunFacts A cells q → Waits
   unfolding readState
@@ -360,9 +344,9 @@ module _ (cells : List ℤ) (l : length cells ≡ 3080) (A : List ℕ) {time : �
 
   pub running-head : {b : Bool} (sights : List ℕ) → b ≡ all isZero (take 2 (drop 2 cells)) → not b ≡ true
       → Shows (runIn A cells) cells sights Damaged
-  running-head {b} sights e g = waits-none sights λ w. opposed
+  running-head {b} sights e g = waits-none sights λ w. true-not-false
       (T→true (all isZero (take 2 (drop 2 cells))) (zeros-two cells l (w .timeless) (w .blameless)))
-      (sym e ∙ no-false b g)
+      (sym e ∙ not-true b g)
 
   pub running-many : {n : ℕ} (sights : List ℕ) → n ≡ numberBelow 129 (getD cells 4 (pos 0)) → n ≡ 129
       → Shows (runIn A cells) cells sights Damaged
@@ -404,7 +388,7 @@ module _ (cells : List ℤ) (l : length cells ≡ 3080) (A : List ℕ) {time : �
       running-torn t = waits-none sights λ w.
           let none-there = rw t at k in
           let is = residue-read w in
-          none-is (sym (none-there (w .residue) (is .0) (omega (arith, is .1))) ∙ w .have)
+          none-some (sym (none-there (w .residue) (is .0) (omega (arith, is .1))) ∙ w .have)
 
       module _ {m x : ℕ} (t : r ≡ Tree m x) where
         tree-there : TreeAs A time n (take 3072 (drop 8 cells)) sights m x
@@ -421,7 +405,7 @@ module _ (cells : List ℤ) (l : length cells ≡ 3080) (A : List ℕ) {time : �
         module _ (f : m ≡ n) {z : Bool} (e₂ : z ≡ all isZero (take (3080 - (8 + 24 * n)) (drop (8 + 24 * n) cells)))
           where
             pub running-more : z ≡ false → Shows (runIn A cells) cells sights Damaged
-            running-more g = waits-none sights λ w. opposed ((residue-read w) .2)
+            running-more g = waits-none sights λ w. true-not-false ((residue-read w) .2)
                 (ap (all isZero) rest-cells ∙ sym e₂ ∙ g)
 
             pub running-is : {b : Bool} → b ≡ all isZero (take 2 (drop 2 cells)) → not b ≡ false → z ≡ true
@@ -429,7 +413,7 @@ module _ (cells : List ℤ) (l : length cells ≡ 3080) (A : List ℕ) {time : �
             unfolding Shows readState single trees
             running-is {b} p q g =
                 let x = tree-there .residue in
-                let two = two-zeros cells l (true→T (sym p ∙ yes-true b q)) in
+                let two = two-zeros cells l (true→T (sym p ∙ not-false b q)) in
                 let count : n ≡ units x = sym f ∙ tree-there .count in
                 let count₀ : n ≡ units x + 0 = omega (arith, count) in
                 let none-behind : trees (agreementOf A) 0 (drop (24 * units x) (take 3072 (drop 8 cells))) ≡ some
@@ -456,11 +440,11 @@ module _ (cells : List ℤ) (l : length cells ≡ 3080) (A : List ℕ) {time : �
 state-in : (A : List ℕ) (d : HeadNumbers) (cells : List ℤ) (n : ℕ) (o : Outcome)
     → readState (agreementOf A) (mainsOf A) d cells n ≡ some o → (1 ≤ n) × (n ≤ 3)
 unfolding readState
-state-in A d cells zero o e = none-is e
+state-in A d cells zero o e = none-some e
 state-in A d cells (suc zero) o e = (omega arith, omega arith)
 state-in A d cells (suc (suc zero)) o e = (omega arith, omega arith)
 state-in A d cells (suc (suc (suc zero))) o e = (omega arith, omega arith)
-state-in A d cells (suc (suc (suc (suc n)))) o e = none-is e
+state-in A d cells (suc (suc (suc (suc n)))) o e = none-some e
 
 module _ (cells : List ℤ) (l : length cells ≡ 3080) (A : List ℕ) (sights : List ℕ) where
   pub head-timeless : {time : ℕ} → time ≡ numberBelow 4_294_967_296 (getD cells 1 (pos 0)) → time ≡ 4_294_967_296
@@ -470,8 +454,8 @@ module _ (cells : List ℤ) (l : length cells ≡ 3080) (A : List ℕ) (sights :
 
   pub head-zeros : {b : Bool} → b ≡ all isZero (take 3 (drop 5 cells)) → not b ≡ true
       → Shows (runIn A cells) cells sights Damaged
-  head-zeros {b} e g = shown-none cells l A sights λ q f. opposed
-      (T→true (all isZero (take 3 (drop 5 cells))) (f .zeros)) (sym e ∙ no-false b g)
+  head-zeros {b} e g = shown-none cells l A sights λ q f. true-not-false
+      (T→true (all isZero (take 3 (drop 5 cells))) (f .zeros)) (sym e ∙ not-true b g)
 
   pub head-other : {r : ℕ} → r ≡ numberBelow 4 (getD cells 0 (pos 0)) → (r ≡ 1 → ⊥) → (r ≡ 2 → ⊥) → (r ≡ 3 → ⊥)
       → Shows (runIn A cells) cells sights Damaged
@@ -501,5 +485,5 @@ module _ (cells : List ℤ) (l : length cells ≡ 3080) (A : List ℕ) (sights :
       isNow = is-now;
       from = omega arith;
       to = before-end;
-      zeros = true→T (sym z ∙ yes-true b t);
+      zeros = true→T (sym z ∙ not-false b t);
     }

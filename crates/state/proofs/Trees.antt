@@ -8,17 +8,17 @@ use mathlib.Core.Option.{Option, none, some}
 use Prim.Native.Nat.{ℕ, zero, suc, _+_, _-_, _*_, _≤_, _<_}
 use native.Mathlib.Decide.{decLe}
 use native.Mathlib.Omega.{arith}
-use borrow.Author.Tests.{ne-eqb}
+use borrow.Author.Tests.{ne-eqb, not-false, not-true}
 use lib.Bits.{bitOr}
 use lib.Dec.{T, leb, ltb, eqb, leb→le}
 use lib.IntN.{ℤ, pos, negsuc}
 use lib.ListN.{length, getD, take, drop, set, length-drop, length-append}
 use borrow.Rule.Slice.PartMut.{putMid}
 use Rattle.arith.proofs.Lists.{tail-put, take-drop}
-use lib.Seq.{take-add, drop-append-le, take-all, take-at, drop-drop, drop-at, length-take-le}
+use lib.Seq.{take-add, drop-append-le, take-at, drop-drop, drop-at, length-take-le}
 use Rattle.csl.specs.Lists.{_>>=_, need, all, at, split}
 use Rattle.csl.specs.Syntax.{Join, and, or, Agreement}
-use Rattle.csl.specs.Parties.{member, memberCount, bitsFrom, bitsOf}
+use Rattle.csl.specs.Parties.{member, memberCount, bitsOf}
 use Rattle.csl.specs.Decode.{joinOf, agreementOf}
 use Rattle.csl.specs.Typing.{joinOk}
 use Rattle.csl.specs.Places.{clauseAt}
@@ -26,17 +26,19 @@ use Rattle.csl.specs.Values.{asNat, valuesOf}
 use Rattle.csl.specs.Outcomes.{Sort, anObligation, aChoice, Sight, Residue, unit, both, units}
 use Rattle.csl.specs.Table.{isZero, asNats, isSort, waitingUnit, push, UnitSort, waiting, joining, unitSort, addUnit}
 use Rattle.csl.specs.Table.{trees, residueParties, sortNumber, joinNumber}
+use Rattle.laws.proofs.Options.{from-bind, from-need, some-bind, passes, some-inj, none-some}
+use Rattle.laws.proofs.PartyBits.{member-append}
+use Rattle.laws.proofs.Residues.{some-units}
+use Rattle.laws.proofs.Bools.{T→true}
 use Rattle.parties.specs.Masks.{maskOf, ValidMembers}
-use Rattle.parties.proofs.Members.{bits-same, bits-nil, member-append}
-use Rattle.soundness.proofs.Inversion.{from-bind, from-need, some-bind, passes, some-inj}
+use Rattle.parties.proofs.Masks.{mask-bits, bits-small}
 use Rattle.places.specs.Locate.{mainsOf}
 use Rattle.units.specs.declared.Waiting.{Waiting}
 use Rattle.units.specs.declared.Waiting.the-variants.{Damaged as NoUnit, Of}
 use Rattle.units.specs.Cells.{numberBelow}
 use Rattle.units.specs.Units.{cellsIn, sightNumbers, PartiesOf, WaitingIs, sortOf}
-use Rattle.units.proofs.Cells.{below-is, yes-true, no-false}
-use Rattle.units.proofs.Blames.{at-past, joined-bits}
-use Rattle.parties.proofs.Masks.{bits-small}
+use Rattle.units.proofs.Cells.{below-is}
+use Rattle.units.proofs.Blames.{at-past, joined-bits, bits-small}
 use Rattle.units.proofs.Waits.{none-is, option-none, split-takes, split-is}
 use Rattle.state.specs.declared.Walk.{Walk}
 use Rattle.state.specs.declared.Walk.the-variants.{Damaged, Tree}
@@ -46,17 +48,6 @@ use Rattle.state.specs.Tree.{WaitsFirst, JoinsFirst, ReadsAs, FirstIs, T
 
 bits-below : {n : ℕ} (ps : List ℕ) → n ≡ bitsOf ps → n < 1_048_576
 bits-below ps e = omega (arith, bits-small ps)
-
-mask-bits : (ps : List ℕ) → ((q : ℕ) → member q ps ≡ true → q < 16) → maskOf ps ≡ bitsOf ps
-unfolding maskOf
-mask-bits ps f =
-    let e : bitsFrom 4 128 ps ≡ 0 = bits-same 4 128 ps [] (λ j l u. no-member j l (member j ps) refl)
-    ∙ bits-nil 4 128 in
-    omega (arith, e)
-  where
-    no-member : (j : ℕ) → 128 ≤ j → (b : Bool) → member j ps ≡ b → b ≡ member j []
-    no-member j l true e = absurd (omega (arith, f j e))
-    no-member j l false e = unfold member in refl
 
 -- ---- the rule for joins
 pub join-and : {sort bits : ℕ} → sort ≡ 20 → (ps : List ℕ) → ((q : ℕ) → member q ps ≡ true → q < 16)
@@ -158,12 +149,12 @@ sort-from n u e =
     inside m b = go (decLe 22 m)
       where
         go : Dec (22 ≤ m) → m < 22
-        go (yes h) = none-is (sym (at-past kinds (m - 17) (omega arith)) ∙ b)
+        go (yes h) = none-some (sym (at-past kinds (m - 17) (omega arith)) ∙ b)
         go (no h) = omega arith
 
     middle : (m : ℕ) (o : Option UnitSort) → at kinds (m - 17) ≡ some o → o ≡ some u → m ≡ 19 → ⊥
     middle m o b e h = let third : some none ≡ some o = ap (λ (y : ℕ). at kinds (y - 17)) (sym h) ∙ b in
-        none-is (some-inj third ∙ e)
+        none-some (some-inj third ∙ e)
 
 pub no-sort : {r : ℕ} (z : ℤ) → r ≡ numberBelow 22 z → (17 ≤ r → r < 19 → ⊥) → (20 ≤ r → r < 22 → ⊥) → unitSort z ≡ none
 unfolding unitSort asNat _>>=_ numberBelow
@@ -181,15 +172,10 @@ no-sort {r} z e f g = option-none (unitSort z) (λ u h. go z e u h)
           where
             above : (17 ≤ n) × (n < 22) × (n ≡ 19 → ⊥) → 20 ≤ r
             above s = omega arith
-    go (negsuc n) e u h = none-is h
+    go (negsuc n) e u h = none-some h
 
 -- ---- csl's `trees` and the tree in prefix order
 module _ (ag : Agreement) where
-  some-units : (r : Residue) → 1 ≤ units r
-  unfolding units
-  some-units (unit s p a e) = omega arith
-  some-units (both j l r) = omega arith
-
   -- what is read of a waiting unit is one unit
   waits-one : {C : Type 0} (s : Sort) (zs : List ℤ) (r : Residue) → waitingUnit ag s zs ≡ some r
       → ((p a : ℕ) (e : Sight) → r ≡ unit s p a e → C) → C
@@ -301,14 +287,10 @@ module _ (ag : Agreement) where
   AllRead [] n cells = (n ≡ 0) × (all isZero cells ≡ true)
   AllRead (r ∷ rs) n cells = ReadsAs ag r cells × (units r ≤ n) × AllRead rs (n - units r) (drop (24 * units r) cells)
 
-  T-true : (b : Bool) → T b → b ≡ true
-  T-true true t = refl
-  T-true false t = absurd t
-
   pub trees-read : (n : ℕ) (cells : List ℤ) (rs : List Residue) → trees ag n cells ≡ some rs → AllRead rs n cells
   unfolding trees AllRead split push addUnit ReadsAs units
   trees-read zero cells rs e = from-need (all isZero cells) _ rs e λ t f. subst
-      (λ (qs : List Residue). AllRead qs 0 cells) (some-inj f) (refl, T-true (all isZero cells) t)
+      (λ (qs : List Residue). AllRead qs 0 cells) (some-inj f) (refl, T→true (all isZero cells) t)
   trees-read (suc n) cells rs e =
       from-bind (split 24 cells) _ rs e λ s a e₁.
       from-bind (trees ag n (s .1)) _ rs e₁ λ qs b e₂.
@@ -323,14 +305,14 @@ module _ (ag : Agreement) where
         where
           long : (m : ℕ) (xs : List ℤ) (s : List ℤ × List ℤ) → split m xs ≡ some s → m ≤ length xs
           long zero xs s a = omega arith
-          long (suc m) [] s a = none-is a
+          long (suc m) [] s a = none-some a
           long (suc m) (x ∷ xs) s a = from-bind (split m xs) _ s a λ q b _. let i = long m xs q b in omega arith
 
       behind : (j : Join) (qs : List Residue) → 24 ≤ length cells → unitSort (getD cells 0 (pos 0)) ≡ some (joining j)
           → T (all isZero (cellsIn cells 1 24)) → AllRead qs n (drop 24 cells) → push j qs ≡ some rs
           → AllRead rs (suc n) cells
-      behind j [] room is z all-are e = none-is e
-      behind j (l ∷ []) room is z all-are e = none-is e
+      behind j [] room is z all-are e = none-some e
+      behind j (l ∷ []) room is z all-are e = none-some e
       behind j (l ∷ r ∷ qs) room is z all-are e = subst (λ (qs : List Residue). AllRead qs (suc n) cells) (some-inj e)
           (joined-read j l r qs room is z all-are)
         where
@@ -346,7 +328,7 @@ module _ (ag : Agreement) where
                   record {
                     room = room;
                     isSort = is;
-                    zeros = T-true (all isZero (cellsIn cells 1 24)) z;
+                    zeros = T→true (all isZero (cellsIn cells 1 24)) z;
                   },
                   v .0,
                   subst (ReadsAs ag r) right-at (v .2 .0),
@@ -418,7 +400,7 @@ module _ (a : List ℕ) (now n : ℕ) (cells : List ℤ) where
 
   pub no-units : (sights : List ℕ) → n ≡ 0 → WalkIs a now n cells sights Damaged
   unfolding WalkIs
-  no-units sights e r w few = absurd (omega (arith, some-units ag r))
+  no-units sights e r w few = absurd (omega (arith, some-units r))
 
   pub no-first : (sights : List ℕ) → FirstIs cells Nothing → WalkIs a now n cells sights Damaged
   unfolding WalkIs FirstIs
@@ -472,7 +454,7 @@ module _ (a : List ℕ) (now n : ℕ) (cells : List ℤ) where
   unfolding residueParties
   right-none j l r e = option-none (residueParties ag (mainsOf a) now (both j l r)) λ ps f.
       from-bind (residueParties ag (mainsOf a) now l) _ ps f λ qs _ f₁.
-      from-bind (residueParties ag (mainsOf a) now r) _ ps f₁ λ rs g _. none-is (sym e ∙ g)
+      from-bind (residueParties ag (mainsOf a) now r) _ ps f₁ λ rs g _. none-some (sym e ∙ g)
 
   module _ {j : Join} (first : JoinsFirst j cells) where
     pub left-damaged : (sights sights₂ : List ℕ) {w : Walk} → WalkIs a now (n - 1) (drop 24 cells) sights w
@@ -480,7 +462,7 @@ module _ (a : List ℕ) (now n : ℕ) (cells : List ℤ) where
     unfolding WalkIs ReadsAs units
     left-damaged sights sights₂ h e (unit s p u v) q few = sort-not ag (q .isSort) (first .isSort)
     left-damaged sights sights₂ h e (both i l r) q few = let none-there = rw e at h in
-        left-none i l r (none-there l (q .1) (omega (arith, some-units ag r)))
+        left-none i l r (none-there l (q .1) (omega (arith, some-units r)))
 
     pub right-damaged : (sights₂ sights₃ : List ℕ) {sights : List ℕ} {k x : ℕ} {w : Walk}
         → TreeAs a now (n - 1) (drop 24 cells) sights k x
@@ -529,7 +511,7 @@ module _ (a : List ℕ) (now n sort : ℕ) (cells : List ℤ) {sights : List ℕ
     unfolding WalkIs
     joins-not g sights₂ q w few = subst (λ (z : Residue). residueParties (agreementOf a) (mainsOf a) now z ≡ none)
         (reads-same (agreementOf a) (both (joinOf sort) l r) q cells whole-reads w)
-        (both-none a now (joinOf sort) (t .of-left .parties) (t .of-right .parties) u allowed (no-false ok g))
+        (both-none a now (joinOf sort) (t .of-left .parties) (t .of-right .parties) u allowed (not-true ok g))
 
     pub joins-both : not ok ≡ false → 2 ≤ length sights
         → WalkIs a now n cells (set (set sights 0 k) 1 0) (Tree (1 + k + m) bits)
@@ -543,17 +525,13 @@ module _ (a : List ℕ) (now n sort : ℕ) (cells : List ℤ) {sights : List ℕ
           count = omega (arith, t .of-left .count, t .of-right .count);
           few = omega (arith, t .some-units, t .of-left .few, t .of-right .few);
           parties = both-parties a now (joinOf sort) (t .of-left .parties) (t .of-right .parties) u allowed
-              (yes-true ok g);
+              (not-false ok g);
           sighted = ap (λ (i : ℕ). take (2 * i) (set (set sights 0 k) 1 0)) more ∙ sights-put k 0 (k + m) sights two
               ∙ ap₂ (λ (i : ℕ) (z : List ℕ). i ∷ 0 ∷ z) (t .of-left .count)
               (ap (λ (i : ℕ). take i (drop 2 sights)) twice ∙ take-add (2 * k) (2 * m) (drop 2 sights)
               ∙ ap₂ _++_ (t .of-left .sighted) (ap (take (2 * m)) (drop-drop (2 * k) 2 sights)
               ∙ t .of-right .sighted));
         }
-
--- what `&l[k..]` is
-pub part-from : {A : Type 0} (k : ℕ) (l : List A) → take (length l - k) (drop k l) ≡ drop k l
-part-from k l = take-all (length l - k) (drop k l) (rw (length-drop k l) (omega arith))
 
 -- ---- the sights, lent from i on
 abbrev pub lent : ℕ → List ℕ → List ℕ → List ℕ

@@ -10,6 +10,7 @@ use lib.Dec.{leb}
 use lib.ListN.{length, take, drop, length-append, length-drop, drop-of-length-le, List·getD-append}
 use lib.Seq.{take-all, take-length, drop-length, take-append-le, drop-append-le}
 use Rattle.csl.specs.Bytes.{le16}
+use Rattle.laws.proofs.Clash.{impossible}
 use Rattle.stream.specs.Records.{sizeOf, isWhole, recordsIn, recordsOf}
 use Rattle.stream.specs.Next.{nextBy, nextOf}
 use Rattle.stream.specs.declared.Next.{Next}
@@ -113,29 +114,24 @@ known s ended = go (isWhole s) refl ended (length s) refl
     go true h e n l = record {
       cut = λ k q. let z : sizeOf s ≡ k = cc in
           subst (Cut s e) z (whole-cut s e h);
-      wait = λ q. let z : _≡_ {A = ℕ} 0 1 = cc in
-          absurd (omega arith);
-      end = λ q. let z : _≡_ {A = ℕ} 0 1 = cc in absurd (omega arith);
+      wait = λ q. impossible cc;
+      end = λ q. impossible cc;
     }
     go false h false n l = record {
-      cut = λ k q. let z : _≡_ {A = ℕ} 0 1 = cc in
-          absurd (omega arith);
+      cut = λ k q. impossible cc;
       wait = λ q. (h, refl);
-      end = λ q. let z : _≡_ {A = ℕ} 0 1 = cc in absurd (omega arith);
+      end = λ q. impossible cc;
     }
     go false h true zero l = record {
-      cut = λ k q. let z : _≡_ {A = ℕ} 0 1 = cc in
-          absurd (omega arith);
-      wait = λ q. let z : _≡_ {A = ℕ} 0 1 = cc in
-          absurd (omega arith);
+      cut = λ k q. impossible cc;
+      wait = λ q. impossible cc;
       end = λ q. (nil s l, refl);
     }
     go false h true (suc j) l = record {
       cut = λ k q. let z : suc j ≡ k = cc in
           subst (Cut s true) z (last-cut s j h l);
-      wait = λ q. let z : _≡_ {A = ℕ} 0 1 = cc in
-          absurd (omega arith);
-      end = λ q. let z : _≡_ {A = ℕ} 0 1 = cc in absurd (omega arith);
+      wait = λ q. impossible cc;
+      end = λ q. impossible cc;
     }
 
 -- ---- the answers that `next_record` gives, by its tests

@@ -1,6 +1,6 @@
 -- Instances: arguments, blame bytes, and the parties of both.
 use mathlib.Core.Path.{_≡_, refl, sym, ap, _∙_}
-use mathlib.Core.Bool.{Bool, true, false, cond, _&&_, not}
+use mathlib.Core.Bool.{Bool, true, false, cond, _&&_, not, Bool·not-not}
 use mathlib.Core.List.{List, [], _∷_, _++_}
 use mathlib.Core.Option.{Option, none, some}
 use Prim.Native.Nat.{ℕ, zero, suc, _+_, _-_, _<_, _≤_}
@@ -16,10 +16,13 @@ use Rattle.csl.specs.Parties.{members}
 use Rattle.csl.specs.Syntax.{Ty, Expr, instance, badClause}
 use Rattle.csl.specs.Decode.{tyOf, tysOf, arguments, recordsEnd, instanceOf, headsOf, templateHead}
 use Rattle.csl.specs.Typing.{namesOf, blameOk, typeExpr, haveTypes, typeClause}
+use Rattle.laws.proofs.Clash.{impossible}
+use Rattle.laws.proofs.RecordEnds.{record-end-from}
+use Rattle.laws.proofs.Types.{types-length}
 use Rattle.arith.proofs.Lists.{length-part, part-part}
 use Rattle.arith.proofs.Bytes.{record-end-within}
 use Rattle.records.specs.Index.{Indexed, headAt, pieceAt, templatePlace}
-use Rattle.records.proofs.Index.{end-from, heads-in, heads-at, heads-past, template-facts}
+use Rattle.records.proofs.Index.{heads-in, heads-at, heads-past, template-facts}
 use Rattle.parties.specs.Masks.{maskOf, mayBlame, BlameMask}
 use Rattle.parties.proofs.Masks.{mask-lt, mask-nil, mask-append, mask-members}
 use Rattle.typing.specs.Types.{byteType, tyNumber, typeNumber}
@@ -27,7 +30,7 @@ use Rattle.typing.specs.Clauses.{namesIn, isTyped, argumentsAs, argument
 use Rattle.typing.specs.declared.Typed.{Typed}
 use Rattle.typing.specs.declared.Typed.the-variants.{Parties, Untyped}
 use Rattle.typing.proofs.Exprs.{byte-type}
-use Rattle.typing.proofs.Sights.{has-is, parties-is, twice, tys-length}
+use Rattle.typing.proofs.Sights.{has-is, parties-is, namesIn}
 
 -- what stands behind the first
 rest-is : (v : ℕ) (vs : List ℕ) → part (v ∷ vs) 1 (length (v ∷ vs)) ≡ vs
@@ -93,7 +96,7 @@ pub ruleset args = (rest-less, arguments-none, arguments-other, arguments-more)
 -- ---- blame bytes
 pub small-typed : {t : Typed} (o : Option (List ℕ)) → t ≡ typedAs o → Small t
 unfolding typedAs
-small-typed none e = record { small = λ m h. let z : _≡_ {A = ℕ} 0 1 = cc in absurd (omega arith) }
+small-typed none e = record { small = λ m h. impossible cc }
 small-typed (some ps) e = record { small = λ m h. let q : m ≡ maskOf ps = cc in omega (arith, mask-lt ps) }
 
 both : (x y : Bool) (b : ℕ) (bs : List ℕ)
@@ -122,7 +125,7 @@ module _ (ps params : ℕ) where
     blames-refused z = sym (first-blamed bs h ∙ rw (← p, may z))
       where
         may : v ≡ 0 → mayBlame ps params b ≡ false
-        may z = twice (mayBlame ps params b) ∙ ap not (sym (j .refused) ∙ eq-eqb v 0 z)
+        may z = sym (Bool·not-not (mayBlame ps params b)) ∙ ap not (sym (j .refused) ∙ eq-eqb v 0 z)
 
     pub blames-more : {t r : Typed} → (v ≡ 0 → ⊥) → t ≡ typedAs (blamesOf ps params (part bs 1 (length bs)))
         → r ≡ blamedAs v t → r ≡ typedAs (blamesOf ps params bs)
@@ -130,14 +133,14 @@ module _ (ps params : ℕ) where
         ∙ rw (← p, may z, ← e) (ap (λ (m : ℕ). blamedAs m t) (sym (j .is ∙ rw (may z)))))
       where
         may : (v ≡ 0 → ⊥) → mayBlame ps params b ≡ true
-        may z = twice (mayBlame ps params b) ∙ ap not (sym (j .refused) ∙ ne-eqb v 0 z)
+        may z = sym (Bool·not-not (mayBlame ps params b)) ∙ ap not (sym (j .refused) ∙ ne-eqb v 0 z)
 
 pub ruleset blames = (rest-less, small-typed, blames-none, blames-refused, blames-more)
 
 -- ---- the value types of template k, as code cuts their bytes out of the agreement
 module _ {places g : List ℕ} (x : Indexed places g) {k a n : ℕ} (l : k < byte g 10) (p : a ≡ templatePlace g k)
     (q : n ≡ byte (pieceAt g (templatePlace g k)) 4) where
-  template-long : templatePlace g k + 8 + byte (pieceAt g (templatePlace g k)) 4 ≤ recordEnd g (templatePlace g k)
+  pub template-long : templatePlace g k + 8 + byte (pieceAt g (templatePlace g k)) 4 ≤ recordEnd g (templatePlace g k)
   template-long =
       let t = templatePlace g k in
       omega (arith, template-facts x k l .long, length-part g t (recordEnd g t) (record-end-within g t))
@@ -157,13 +160,13 @@ module _ {places g : List ℕ} (x : Indexed places g) {k a n : ℕ} (l : k < byt
       → r ≡ argumentsAs (haveTypes ps env (arguments f (length (part g (a + 5) (a + 5 + n))) s 5)
       (tysOf (part g (a + 5) (a + 5 + n)))) (recordsEnd (length (part g (a + 5) (a + 5 + n))) s 5)
       → r ≡ argumentsOf (headAt g k) (byte g 8) env f s
-  arguments-template env f s h e = rw (values-part, tys-length (part g (a + 5) (a + 5 + n)), ← h) e
+  arguments-template env f s h e = rw (values-part, types-length (part g (a + 5) (a + 5 + n)), ← h) e
 
 -- ---- an instance
 arguments-from : (n : ℕ) (s : List ℕ) (i : ℕ) → 4 ≤ length s → 4 ≤ i → 4 ≤ recordsEnd n s i
 unfolding recordsEnd
 arguments-from zero s i l m = m
-arguments-from (suc n) s i l m = arguments-from n s (recordEnd s i) l (omega (arith, end-from s i))
+arguments-from (suc n) s i l m = arguments-from n s (recordEnd s i) l (omega (arith, record-end-from s i))
 
 as-none : (o : Option (Unit {0})) (i : ℕ) → 4 ≤ i → argumentsAs o i ≡ 0 → o ≡ none
 unfolding argumentsAs

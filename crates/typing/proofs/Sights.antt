@@ -1,27 +1,30 @@
 -- The types in sight: what is written into their bytes, and what csl's typing of a wait says of them.
 use mathlib.Core.Path.{_≡_, refl, sym, ap, _∙_}
-use mathlib.Core.Bool.{Bool, true, false, cond, _&&_, not}
-use mathlib.Core.List.{List, [], _∷_, _++_, append-assoc, append-nil}
+use mathlib.Core.Bool.{Bool, true, false, cond, _&&_, not, Bool·not-not}
+use mathlib.Core.List.{List, [], _∷_, _++_}
 use mathlib.Core.Option.{Option, none, some}
 use Prim.Native.Nat.{ℕ, zero, suc, _+_, _-_, _<_, _≤_}
 use native.Mathlib.Numerals.{sub-one, add-one}
 use native.Mathlib.Omega.{arith}
 use borrow.Author.Tests.{lt-ltb, le-ltb, ne-eqb, eq-eqb, leb-true, leb-false}
 use lib.Dec.{eqb, leb}
-use lib.ListN.{length, getD, set, take, drop, length-map, length-append}
-use lib.Seq.{take-suc, take-suc-set, take-all, take-take, take-at, length-take-le}
+use lib.ListN.{length, set, take, length-map, length-append}
+use lib.Seq.{take-suc-set, take-take, take-at, length-take-le}
 use Rattle.csl.specs.Lists.{_>>=_, need, at}
 use Rattle.csl.specs.Bytes.{byte, part, isRecord, recordEnd}
 use Rattle.csl.specs.Syntax.{Ty, number, truth, party, Expr, badExpr}
-use Rattle.csl.specs.Decode.{expr, exprHead, exprBody, tyOf, tysOf, waitAt, readingType, agreementOf}
-use Rattle.csl.specs.Typing.{Names, namesOf, blameOk, typeExpr, hasType, sameTy, readingOfType, thenSight, typeWait}
-use Rattle.arith.proofs.Ints.{by}
-use Rattle.arith.proofs.Lists.{length-part, part-part}
-use Rattle.arith.proofs.Bytes.{record-end-within, record-end-after}
-use Rattle.records.specs.Index.{Indexed, readingPlace, pieceAt}
-use Rattle.records.proofs.Index.{readings-at, readings-past, reading-facts, reading-within}
+use Rattle.csl.specs.Decode.{expr, exprHead, exprBody, tyOf, tysOf, waitAt, agreementOf}
+use Rattle.csl.specs.Typing.{namesOf, blameOk, typeExpr, hasType, sameTy, readingOfType, thenSight, typeWait}
+use Rattle.laws.proofs.Types.{types-append, types-length}
+use Rattle.laws.proofs.Clash.{impossible}
+use Rattle.laws.proofs.Bools.{by}
+use Rattle.arith.proofs.Lists.{length-part}
+use Rattle.arith.proofs.Bytes.{record-end-within}
+use Rattle.records.specs.Index.{Indexed, readingPlace}
+use Rattle.records.proofs.Index.{readings-at, readings-past, reading-facts, reading-end, reading-types}
 use Rattle.typing.specs.Types.{tyNumber, typeNumber}
-use Rattle.typing.specs.Clauses.{namesIn, seenAs, thenOf, isTyped, waitTyped, waitSight, firstSight, JoinedSight}
+use Rattle.typing.specs.Clauses.{namesIn, seenAs, thenOf, isTyped, waitTyped, waitSight, firstSight}
+use Rattle.typing.specs.Clauses.{JoinedSight}
 use Rattle.parties.specs.Masks.{BlameMask, mayBlame}
 use Rattle.typing.proofs.Exprs.{same-number}
 
@@ -82,18 +85,13 @@ sight-length : (bs vs : List ℕ) → length (thenSight (tysOf bs) (tysOf vs)) �
 unfolding thenSight tysOf
 sight-length bs vs = simp (length-append, length-map)
 
-map-append : (bs vs : List ℕ) → tysOf (bs ++ vs) ≡ tysOf bs ++ tysOf vs
-unfolding tysOf
-map-append [] vs = refl
-map-append (b ∷ bs) vs = ap (λ (ts : List Ty). tyOf b ∷ ts) (map-append bs vs)
-
 one-type : tysOf (1 ∷ []) ≡ number ∷ []
 unfolding tysOf tyOf
 one-type = refl
 
 sight-bytes : (bs vs : List ℕ) → tysOf ((bs ++ vs) ++ (1 ∷ [])) ≡ thenSight (tysOf bs) (tysOf vs)
 unfolding thenSight
-sight-bytes bs vs = rw (map-append (bs ++ vs) (1 ∷ []), map-append bs vs, one-type)
+sight-bytes bs vs = rw (types-append (bs ++ vs) (1 ∷ []), types-append bs vs, one-type)
 
 pub seen-some : (n : ℕ) (out : List ℕ) → n ≤ 16 → seenAs n out ≡ some (tysOf (take n out))
 unfolding seenAs
@@ -125,43 +123,26 @@ then-some rs bs vs k r out e j = rw (e, sight-length bs vs)
 -- the reading type's bytes, as code cuts them out of the agreement
 module _ {places s : List ℕ} (x : Indexed places s) {w n a e : ℕ} (h : w ≡ 0 → ⊥) (b : n ≡ byte s 9) (m : w ≤ n)
     (p : a ≡ readingPlace s (w - 1)) (q : e ≡ recordEnd s a) where
-  reading-long : recordEnd s (readingPlace s (w - 1)) ≡ readingPlace s (w - 1) + 5 + byte
-      (pieceAt s (readingPlace s (w - 1))) 4
-  reading-long =
-      let t = readingPlace s (w - 1) in
-      omega (
-        arith,
-        reading-facts x (w - 1) (omega arith) .long,
-        length-part s t (recordEnd s t) (record-end-within s t),
-        record-end-after s t (reading-within x (w - 1)),
-      )
+  listed : w - 1 < byte s 9
+  listed = omega arith
 
   pub reading-start : a + 5 ≤ e
-  reading-start = rw (q, p) (omega (arith, reading-long))
+  reading-start = omega (arith, reading-end x listed p q)
 
   pub reading-few : length (part s (a + 5) e) ≤ 16
   reading-few =
-      let z : e ≡ recordEnd s (readingPlace s (w - 1)) = q ∙ ap (recordEnd s) p in
       omega (
         arith,
         length-part s (a + 5) e (rw q (record-end-within s a)),
-        reading-long,
-        reading-facts x (w - 1) (omega arith) .few,
+        reading-end x listed p q,
+        reading-facts x (w - 1) listed .few,
       )
-
-  values-are : readingType (pieceAt s (readingPlace s (w - 1))) ≡ tysOf (part s (a + 5) e)
-  unfolding readingType
-  values-are =
-      let t = readingPlace s (w - 1) in
-      let z = recordEnd s t in
-      let n : t + (z - t) ≡ z = omega (arith, reading-long) in
-      rw (q, p) (ap tysOf (ap (λ (m : ℕ). take (m - 5) (drop 5 (pieceAt s t)))
-      (length-part s t z (record-end-within s t)) ∙ part-part s t z 5 (z - t) (omega arith) ∙ rw n))
 
   pub then-reading : (bs : List ℕ) {r : ℕ} {out : List ℕ} → JoinedSight bs (part s (a + 5) e) r out
       → thenOf (agreementOf s .readings) (tysOf bs) w ≡ seenAs r out
   then-reading bs {r} {out} j = then-some (agreementOf s .readings) bs (part s (a + 5) e) w r out
-      (reading-suc (agreementOf s .readings) w h ∙ readings-at s (w - 1) (omega arith) ∙ ap some values-are) j
+      (reading-suc (agreementOf s .readings) w h ∙ readings-at s (w - 1) listed
+      ∙ ap some (reading-types x listed p q)) j
 
 -- ---- a wait's expressions
 module _ (ps : ℕ) (inner env : List Ty) (d p : ℕ) (s : List ℕ) (i : ℕ) {a x : ℕ} (f : a ≡ recordEnd s (i + 1))
@@ -202,14 +183,10 @@ map-take zero bs = refl
 map-take (suc n) [] = refl
 map-take (suc n) (b ∷ bs) = ap (λ (ts : List Ty). tyOf b ∷ ts) (map-take n bs)
 
-pub tys-length : (bs : List ℕ) → length (tysOf bs) ≡ length bs
-unfolding tysOf
-tys-length bs = length-map bs tyOf
-
 init : (n : ℕ) (out : List ℕ) (xs : List Ty) (x : Ty) → 1 ≤ n → n ≤ length out → xs ++ (x ∷ []) ≡ tysOf (take n out)
     → xs ≡ tysOf (take (n - 1) out)
 init n out xs x l m e =
-    let a : length (xs ++ (x ∷ [])) ≡ n = ap length e ∙ tys-length (take n out) ∙ length-take-le n out m in
+    let a : length (xs ++ (x ∷ [])) ≡ n = ap length e ∙ types-length (take n out) ∙ length-take-le n out m in
     let b : length xs ≡ n - 1 = omega (arith, length-append xs (x ∷ [])) in
     sym (ap tysOf (sym (take-take (n - 1) n out (omega arith))) ∙ map-take (n - 1) (take n out)
     ∙ ap (take (n - 1)) (sym e) ∙ take-at xs (x ∷ []) (n - 1) b)
@@ -238,7 +215,7 @@ module _ (ps : ℕ) (env : List Ty) (c a t : Expr) where
       → ((vs : List Ty) → thenSight env vs ≡ ts → env ++ vs ≡ inner)
       → (ofWait o >>= λ vs. some (thenSight env vs)) ≡ cond (allTyped inner) (some ts) none
   unfolding _>>=_ need
-  wait-some none ts inner e f = let z : _≡_ {A = ℕ} 0 1 = cc in absurd (omega arith)
+  wait-some none ts inner e f = impossible cc
   wait-some (some vs) ts inner e f = by (λ b. (need b >>= λ _. some (thenSight env vs)) ≡ some ts
       → ((need b >>= λ _. hasType ps (env ++ vs) c truth >>= λ _. hasType ps env a number >>= λ _. hasType ps env t
       number >>= λ _. some vs) >>= λ ws. some (thenSight env ws)) ≡ cond (allTyped inner) (some ts) none)
@@ -246,7 +223,7 @@ module _ (ps : ℕ) (env : List Ty) (c a t : Expr) where
       (λ _ h. let q : thenSight env vs ≡ ts = cc in
       rw (has-is ps (env ++ vs) c truth, has-is ps env a number, has-is ps env t number, f vs q)
       (checks (isTyped ps inner c truth) (isTyped ps env a number) (isTyped ps env t number) vs ∙ rw q))
-      (λ _ h. let z : _≡_ {A = ℕ} 0 1 = cc in absurd (omega arith)) e
+      (λ _ h. impossible cc) e
 
   wait-none : (o : Option (List Ty)) → ofThen o ≡ none → (ofWait o >>= λ vs. some (thenSight env vs)) ≡ none
   unfolding _>>=_ need
@@ -254,7 +231,7 @@ module _ (ps : ℕ) (env : List Ty) (c a t : Expr) where
   wait-none (some vs) e = by (λ b. (need b >>= λ _. some (thenSight env vs)) ≡ none
       → ((need b >>= λ _. hasType ps (env ++ vs) c truth >>= λ _. hasType ps env a number >>= λ _. hasType ps env t
       number >>= λ _. some vs) >>= λ ws. some (thenSight env ws)) ≡ none) (leb (length (thenSight env vs)) 16)
-      (λ _ h. let z : _≡_ {A = ℕ} 0 1 = cc in absurd (omega arith)) (λ _ h. refl) e
+      (λ _ h. impossible cc) (λ _ h. refl) e
 
 pub parties-is : (s : List ℕ) → agreementOf s .parties ≡ byte s 8
 unfolding agreementOf
@@ -295,16 +272,12 @@ same-seen bs old out l e =
     let z : 0 + length bs ≡ length bs = omega arith in
     sym (seen-some (length bs) out l ∙ ap (λ (t : List ℕ). some (tysOf t)) (rw z at e))
 
-pub twice : (b : Bool) → b ≡ not (not b)
-twice true = refl
-twice false = refl
-
 -- ---- what the first clause part sees
 module _ (g : List ℕ) (m : ℕ) (env : List Ty) (f : List ℕ → Expr) (k : ℕ) (s : List ℕ) where
   module _ {b ps v : ℕ} (e : k ≡ 17) (h : ps ≡ byte g 8) (p : b ≡ byte s 4) (j : BlameMask ps m b v) where
     blame-is : blameOk (namesIn g m) (byte s 4) ≡ not (eqb v 0)
     unfolding blameOk namesOf
-    blame-is = rw (parties-is g, ← h, ← p, j .refused) (twice (mayBlame ps m b))
+    blame-is = rw (parties-is g, ← h, ← p, j .refused) (sym (Bool·not-not (mayBlame ps m b)))
 
     pub first-refused : (out : List ℕ) → v ≡ 0 → firstSight (namesIn g m) env f k s ≡ seenAs 17 out
     unfolding firstSight _>>=_ need

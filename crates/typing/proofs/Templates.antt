@@ -18,6 +18,7 @@ use Rattle.csl.specs.Typing.{Names, namesOf, isConstant, typeClause, typeTempla
 use Rattle.csl.specs.Typing as typing
 use Rattle.records.specs.Index.{Indexed, Spans, headAt, pieceAt, templatePlace, templatePiece, valueCount}
 use Rattle.records.proofs.Index.{heads-in, few-params, pieces-more, body-is}
+use Rattle.laws.proofs.Clash.{impossible}
 use Rattle.parties.specs.Masks.{maskOf}
 use Rattle.parties.proofs.Masks as masks
 use Rattle.typing.specs.Clauses.{namesIn, typedAs, holds, bodyTyped, templateTyped, templatesTyped}
@@ -63,13 +64,13 @@ holds-is false = refl
 from-typed : {C : Type 0} (o : Option (List ℕ)) {t : Typed} {m : ℕ} → t ≡ typedAs o → t ≡ Parties m
     → ((ps : List ℕ) → o ≡ some ps → m ≡ maskOf ps → C) → C
 unfolding typedAs
-from-typed none e f c = let z : _≡_ {A = ℕ} 0 1 = cc in absurd (omega arith)
+from-typed none e f c = impossible cc
 from-typed (some ps) e f c = c ps refl (cc)
 
 from-untyped : (o : Option (List ℕ)) {t : Typed} → t ≡ typedAs o → t ≡ Untyped → o ≡ none
 unfolding typedAs
 from-untyped none e f = refl
-from-untyped (some ps) e f = let z : _≡_ {A = ℕ} 0 1 = cc in absurd (omega arith)
+from-untyped (some ps) e f = impossible cc
 
 module _ {places g : List ℕ} (x : Indexed places g) (k : ℕ) {d : ℕ} (l : k < byte g 10) (p : d ≡ declaredAt g k) where
   module _ {ps : ℕ} {b : Bool} (h : ps ≡ byte g 8) (q : b ≡ all (λ p. ltb p ps) (members d)) where

@@ -19,6 +19,8 @@ use Rattle.csl.specs.Decode.{expr, tysOf, ClauseKind, fulfilledKind, obligation
 use Rattle.csl.specs.Decode.{instanceKind, noClause, joinOf, clauseKind, waitEnd, waitAt, instanceOf, clauseBody}
 use Rattle.csl.specs.Decode.{clauseHead, clause, headsOf, agreementOf}
 use Rattle.csl.specs.Typing.{Names, namesOf, blameOk, hasType, joinOk, thenSight, typeWait, typeClause}
+use Rattle.laws.proofs.Options.{some-bind}
+use Rattle.laws.proofs.Clash.{impossible}
 use Rattle.records.specs.Index.{Indexed, firstClause}
 use Rattle.records.proofs.Trees.{kind-fulfilled, kind-instance, kind-no-clause-low, kind-no-clause-high, sided}
 use Rattle.records.proofs.Trees.{sided-choice, sided-if, sided-join, body-wait, body-two}
@@ -27,8 +29,8 @@ use Rattle.parties.specs.Masks.{maskOf, BlameMask, ValidMembers}
 use Rattle.parties.proofs.Masks.{mask-nil, mask-append, mask-count, valid-append}
 use Rattle.parties.proofs.Typed.{valid-typed, declared-valid}
 use Rattle.typing.specs.Types.{recordKind}
-use Rattle.typing.specs.Clauses.{namesIn, seenAs, waitSight, firstSight, firstEnd, typedAs, fulfilledAs, blamedAs}
-use Rattle.typing.specs.Clauses.{sidesAs, joinedAs}
+use Rattle.typing.specs.Clauses.{namesIn, seenAs, waitSight, firstSight, firstEnd, typedAs, fulfilledAs}
+use Rattle.typing.specs.Clauses.{blamedAs, sidesAs, joinedAs}
 use Rattle.typing.specs.declared.Typed.{Typed}
 use Rattle.typing.specs.declared.Typed.the-variants.{Parties, Untyped}
 use Rattle.typing.proofs.Sights.{seen-some, seen-none}
@@ -40,10 +42,6 @@ module _ {A B : Type 0} where
   unfolding _>>=_
   bind-same none f g h = refl
   bind-same (some x) f g h = h x
-
-  bind-at : (m : Option A) (f : A → Option B) (x : A) → m ≡ some x → m >>= f ≡ f x
-  unfolding _>>=_
-  bind-at m f x e = rw e
 
 module _ (n : Names) where
   body-place : (hs : List Head) (e : List ℕ → Expr) (inner : ℕ → List ℕ → Clause)
@@ -241,7 +239,7 @@ four n env false = refl
 allowed : (b : Bool) (o : Option (List Ty)) (ts : List Ty) → (need b >>= λ _. o) ≡ some ts → b ≡ true
 unfolding need _>>=_
 allowed true o ts e = refl
-allowed false o ts e = let z : _≡_ {A = ℕ} 0 1 = cc in absurd (omega arith)
+allowed false o ts e = impossible cc
 
 blame-allowed : (n : Names) (env : List Ty) (e : List ℕ → Expr) (s : List ℕ) (ts : List Ty)
     → firstSight n env e 17 s ≡ some ts → blameOk n (byte s 4) ≡ true
@@ -304,7 +302,7 @@ module _ {places g : List ℕ} (x : Indexed places g) (params : ℕ) (few : para
             (blame-allowed (namesIn g params) (tysOf bs) (expr (d - 1)) s (tysOf (take r out)) (rw h at first)) in
             let end : a ≡ length s = j ∙ rw (eq-eqb k 17 h) in
             let typed = typed-wait (namesIn g params) (tysOf bs) (headsOf g) d s e h i
-            ∙ bind-at (firstSight (namesIn g params) (tysOf bs) (expr (d - 1)) k s)
+            ∙ some-bind (firstSight (namesIn g params) (tysOf bs) (expr (d - 1)) k s)
             (afterFirst (namesIn g params) part-then (byte s 4)) (tysOf (take r out)) first in
             z ∙ rw (f, end, bit) (blamed-typed (byte s 4)
             (typeClause (namesIn g params) (tysOf (take r out)) part-then) ∙ ap typedAs (sym typed))
@@ -320,7 +318,7 @@ module _ {places g : List ℕ} (x : Indexed places g) (params : ℕ) (few : para
             let first = q ∙ seen-some r out m in
             let end : a ≡ recordEnd s c = j ∙ rw (ne-eqb k 17 h) in
             let typed = typed-two (namesIn g params) (tysOf bs) (headsOf g) d s e (omega arith) u i end
-            ∙ bind-at (firstSight (namesIn g params) (tysOf bs) (expr (d - 1)) k s)
+            ∙ some-bind (firstSight (namesIn g params) (tysOf bs) (expr (d - 1)) k s)
             (λ ts. bothSides k (typeClause (namesIn g params) ts left)
             (typeClause (namesIn g params) (tysOf bs) right)) (tysOf (take r out)) first in
             z ∙ rw (f, w) (joined-typed k (typeClause (namesIn g params) (tysOf (take r out)) left)

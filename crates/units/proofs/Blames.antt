@@ -3,7 +3,7 @@ use mathlib.Core.Path.{_≡_, refl, sym, ap, ap₂, subst, _∙_}
 use mathlib.Core.Bool.{Bool, true, false, cond, _&&_}
 use mathlib.Core.List.{List, [], _∷_, _++_}
 use mathlib.Core.Option.{Option, none, some}
-use Prim.Native.Nat.{ℕ, zero, suc, _+_, _-_, _*_, _^_, _%_, _≤_, _<_}
+use Prim.Native.Nat.{ℕ, zero, suc, _+_, _-_, _≤_, _<_}
 use native.Mathlib.Decide.{decLe}
 use native.Mathlib.Nat.{le-of-suc-le-suc}
 use native.Mathlib.Numerals.{add-one}
@@ -23,12 +23,15 @@ use Rattle.csl.specs.Decode.{templateHead, clauseKind, clauseBody, clause, head
 use Rattle.csl.specs.Typing.{Names, blameOk, hasType, haveTypes, joinOk, thenSight, typeWait, typeClause}
 use Rattle.csl.specs.Rules.{blamed}
 use Rattle.csl.specs.Table.{standsFor, standFor}
+use Rattle.laws.proofs.Clash.{impossible}
+use Rattle.laws.proofs.Options.{from-bind, from-need, some-inj}
+use Rattle.laws.proofs.PartyBits.{member-self, bits-append, members-within}
+use Rattle.laws.proofs.Bools.{both-true}
 use Rattle.records.specs.Index.{firstClause, headAt, pieceAt, templatePlace}
-use Rattle.records.proofs.Trees.{clause-zero, clause-none, clause-at, clause-wait, clause-two, sided, kind-fulfilled}
-use Rattle.records.proofs.Trees.{kind-instance, kind-no-clause-low, kind-no-clause-high}
-use Rattle.records.proofs.Index.{T-both, heads-at, heads-past}
-use Rattle.parties.proofs.Members.{member-self, member-tail, bits-lt, bits-nil, bits-append, bits-new, bits-skip}
-use Rattle.parties.proofs.Members.{members-in}
+use Rattle.records.proofs.Trees.{clause-at, clause-wait, clause-two, sided, kind-fulfilled, kind-instance}
+use Rattle.records.proofs.Trees.{kind-no-clause-low, kind-no-clause-high, whole-deep, whole-record}
+use Rattle.records.proofs.Index.{heads-at, heads-past}
+use Rattle.parties.proofs.Members.{member-self, member-tail, bits-nil, bits-append}
 use Rattle.parties.proofs.Masks.{bits-members, bits-small}
 use Rattle.soundness.proofs.Inversion.{from-bind, from-need, some-inj}
 use Rattle.soundness.proofs.Members.{stand-++}
@@ -104,17 +107,10 @@ module _ (s params : List ℕ) where
 -- ---- a whole clause is a record
 module _ (A : List ℕ) (d p : ℕ) (s : List ℕ) (t : T (whole (clauseIn A d p s))) where
   deep : d ≡ 0 → ⊥
-  unfolding whole
-  deep e = subst (λ (c : Clause). T (whole c)) (sym (clause-zero (λ (c : Clause). c) (headsOf A) d p s e refl)) t
+  deep = whole-deep (headsOf A) d p s t
 
   is-record : isRecord s ≡ true
-  unfolding whole
-  is-record = go (isRecord s) refl
-    where
-      go : (b : Bool) → isRecord s ≡ b → b ≡ true
-      go true e = refl
-      go false e = absurd (subst (λ (c : Clause). T (whole c))
-          (sym (clause-none (λ (c : Clause). c) (headsOf A) d p s deep (sym e) refl refl)) t)
+  is-record = whole-record (headsOf A) d p s t
 
   abbrev Inner : ℕ → ℕ → Clause
   Inner x z = clauseIn A (d - 1) (p + x) (part s x z)
@@ -136,7 +132,7 @@ module _ (A : List ℕ) (d p : ℕ) (s : List ℕ) (t : T (whole (clauseIn A d p
     unfolding whole blamesOf
     then-whole {x} e i =
         let o = clause-wait (λ (c : Clause). c) (headsOf A) d p s deep refl is-record k e i refl in
-        T-both (wholeWait (waitAt (expr (d - 1)) p s 5)) _ (subst (λ (c : Clause). T (whole c)) (sym o) t) λ _ h.
+        both-true (wholeWait (waitAt (expr (d - 1)) p s 5)) _ (subst (λ (c : Clause). T (whole c)) (sym o) t) λ _ h.
         record { inner = h; blames = sym (ap (blamesOf (headsOf A)) o) }
 
     sides-whole : {x z : ℕ} → 18 ≤ m → m < 22 → x ≡ firstClause m s → z ≡ recordEnd s x → Sides x z
@@ -152,20 +148,20 @@ module _ (A : List ℕ) (d p : ℕ) (s : List ℕ) (t : T (whole (clauseIn A d p
             (cond b (if (expr (d - 1) (part s 4 (recordEnd s 4))) (Inner x z) (Inner z (length s)))
             (join (joinOf m) (Inner x z) (Inner z (length s)))))) → Sides x z
         go true b o h = unfold whole blamesOf in
-            T-both (wholeWait (waitAt (expr (d - 1)) p s 4) && whole (Inner x z)) _ h λ h₁ g. T-both
+            both-true (wholeWait (waitAt (expr (d - 1)) p s 4) && whole (Inner x z)) _ h λ h₁ g. both-true
             (wholeWait (waitAt (expr (d - 1)) p s 4)) _ h₁ λ _ f. record {
               left = f;
               right = g;
               blames = sym (ap (blamesOf (headsOf A)) o);
             }
         go false true o h = unfold whole blamesOf in
-            T-both (wholeExpr (expr (d - 1) (part s 4 (recordEnd s 4))) && whole (Inner x z)) _ h λ h₁ g. T-both
+            both-true (wholeExpr (expr (d - 1) (part s 4 (recordEnd s 4))) && whole (Inner x z)) _ h λ h₁ g. both-true
             (wholeExpr (expr (d - 1) (part s 4 (recordEnd s 4)))) _ h₁ λ _ f. record {
               left = f;
               right = g;
               blames = sym (ap (blamesOf (headsOf A)) o);
             }
-        go false false o h = unfold whole blamesOf in T-both (whole (Inner x z)) _ h λ f g. record {
+        go false false o h = unfold whole blamesOf in both-true (whole (Inner x z)) _ h λ f g. record {
           left = f;
           right = g;
           blames = sym (ap (blamesOf (headsOf A)) o);
@@ -264,7 +260,7 @@ stand-constants params (p ∷ ps) f = ap₂ (λ (x : ℕ) (l : List ℕ). x ∷ 
 declared-stand : (params : List ℕ) (n : ℕ) → n < 65_536 → bitsOf (standFor params (members n)) ≡ n
 unfolding members
 declared-stand params n l = ap bitsOf (stand-constants params (members n)
-    (λ q h. omega (arith, members-in 16 0 n q h))) ∙ bits-members n l
+    (λ q h. omega (arith, members-within 16 0 n q h))) ∙ bits-members n l
 
 -- the template named, and the blames at the end
 record Named (A s : List ℕ) (bs : List ℕ) : Type 0 where
@@ -364,4 +360,4 @@ module _ (n : Names) where
       from-bind (haveTypes (n .parties) env es (h .values)) _ ps e₁ λ _ _ e₂.
       from-need (eqb (length bs) (h .params) && all (blameOk n) bs) _ ps e₂ λ _ e₃.
       sym (some-inj e₃) ∙ ap (λ (o : Option Head). declaredBy o ++ bs) (sym a)
-  typed-blames badClause env ps e = let z : _≡_ {A = ℕ} 0 1 = cc in absurd (omega arith)
+  typed-blames badClause env ps e = impossible cc

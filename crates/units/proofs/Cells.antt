@@ -1,39 +1,26 @@
 -- Cells read as numbers, parties and values.
 use mathlib.Core.Path.{_≡_, refl, sym, ap, _∙_}
-use mathlib.Core.Bool.{Bool, true, false, not, _&&_, and-true}
+use mathlib.Core.Bool.{true, false, _&&_, and-true, and-assoc}
 use mathlib.Core.List.{List, [], _∷_, _++_, append-nil, append-assoc}
 use mathlib.Core.Option.{Option, none, some}
 use Prim.Native.Nat.{ℕ, zero, suc, _+_, _-_, _^_, _≤_, _<_}
-use native.Mathlib.Decide.{decLe}
 use native.Mathlib.Numerals.{add-one}
 use native.Mathlib.Omega.{arith}
-use borrow.Author.Tests.{lt-ltb, le-ltb, le-leb, lt-leb, ne-eqb, ltb-true}
-use lib.Dec.{T, leb, ltb, eqb}
+use borrow.Author.Tests.{lt-ltb, le-ltb, ne-eqb, ltb-true}
+use lib.Dec.{T, eqb}
 use lib.IntN.{ℤ, pos, negsuc, natAbs}
 use lib.ListN.{length, getD, take, drop, set}
 use lib.Seq.{drop-cons, take-suc-set, drop-length}
 use lib.Bits.{bitOr, or-zero-l, or-add-and, and-le-r}
-use lib.Signed.{mag, ltZ, nonNeg, _≤ℤ_}
+use lib.Signed.{mag, ltZ, nonNeg}
 use mir.Syntax.{w64}
 use mir.Val.{Fits, SFits, ofZ}
-use Rattle.arith.proofs.Ints.{seen, read, index-asked, index-given}
-use Rattle.arith.proofs.Linear.{ints, parts, up, dn}
+use Rattle.arith.proofs.Ints.{seen, index-asked, index-given}
+use Rattle.arith.proofs.Linear.{not-negative}
 use Rattle.csl.specs.Lists.{_>>=_, need, all}
-use Rattle.csl.specs.Numbers.{inRange, limit}
-use Rattle.csl.specs.Syntax.{truth, party}
-use Rattle.csl.specs.Decode.{tyOf, tysOf}
 use Rattle.csl.specs.Values.{asNat}
 use Rattle.csl.specs.Table.{isZero}
 use Rattle.units.specs.Cells.{numberBelow, partiesIn}
-
--- ---- a test turned round
-pub yes-true : (b : Bool) → not b ≡ false → b ≡ true
-yes-true true e = refl
-yes-true false e = sym e
-
-pub no-false : (b : Bool) → not b ≡ true → b ≡ false
-no-false true e = sym e
-no-false false e = refl
 
 -- ---- a number below end
 pub below-negative : (end : ℕ) (z : ℤ) → ltZ z (pos 0) ≡ true → (end ≡ numberBelow end z) × (end ≤ end)
@@ -41,23 +28,17 @@ unfolding numberBelow
 below-negative end (pos n) h = absurd (omega (arith, ltb-true n 0 h))
 below-negative end (negsuc n) h = (refl, omega arith)
 
-not-negative : {z : ℤ} → ltZ z (pos 0) ≡ false → pos 0 ≤ℤ z
-not-negative {z} h = omega ints
-
 module _ {z : ℤ} (f : SFits w64 z) (h : ltZ (seen z) (pos 0) ≡ false) where
-  at-least : pos 0 ≤ℤ z
-  at-least = not-negative (rw (read f) at h)
-
   pub below-asked : T (nonNeg (seen z)) × Fits w64 (natAbs (seen z))
-  below-asked = index-asked f at-least
+  below-asked = index-asked f (not-negative f h)
 
   pub below-small : (end : ℕ) → natAbs (seen z) < end → (natAbs (seen z) ≡ numberBelow end z) × (natAbs (seen z) ≤ end)
   unfolding numberBelow
-  below-small end l = (omega arith ∙ ap (numberBelow end) (index-given f at-least), omega arith)
+  below-small end l = (omega arith ∙ ap (numberBelow end) (index-given f (not-negative f h)), omega arith)
 
   pub below-large : (end : ℕ) → end ≤ natAbs (seen z) → (end ≡ numberBelow end z) × (end ≤ end)
   unfolding numberBelow
-  below-large end l = (omega arith ∙ ap (numberBelow end) (index-given f at-least), omega arith)
+  below-large end l = (omega arith ∙ ap (numberBelow end) (index-given f (not-negative f h)), omega arith)
 
 -- what it says of the cell
 pub below-is : (end : ℕ) (z : ℤ) → numberBelow end z < end → z ≡ pos (numberBelow end z)
@@ -80,10 +61,6 @@ or-none : (a b : ℕ) → eqb (bitOr a b) 0 ≡ (eqb a 0 && eqb b 0)
 or-none zero b = ap (λ (n : ℕ). eqb n 0) (or-zero-l b)
 or-none (suc a) b = rw (ne-eqb (suc a) 0 (λ e. omega arith))
     (ne-eqb (bitOr (suc a) b) 0 (λ e. omega (arith, or-add-and (suc a) b, and-le-r (suc a) b)))
-
-and-assoc : (a b c : Bool) → ((a && b) && c) ≡ (a && (b && c))
-and-assoc true b c = refl
-and-assoc false b c = refl
 
 module _ (zs : List ℤ) where
   abbrev From : ℕ → ℕ → Type 0

@@ -1,32 +1,35 @@
 -- Waiting units: what the code read of their cells, and csl's reader.
 use mathlib.Core.Path.{_≡_, refl, sym, ap, ap₂, subst, _∙_}
-use mathlib.Core.Bool.{Bool, true, false, not, _&&_, true≢false}
+use mathlib.Core.Bool.{Bool, true, false, not, _&&_}
 use mathlib.Core.List.{List, [], _∷_}
 use mathlib.Core.Logic.{inl, inr}
-use mathlib.Core.Option.{Option, none, some}
+use mathlib.Core.Option.{none, some}
 use Prim.Native.Nat.{ℕ, zero, suc, _+_, _-_, _≤_, _<_}
 use native.Mathlib.Decide.{decLe}
 use native.Mathlib.Nat.{le-of-suc-le-suc}
 use native.Mathlib.Omega.{arith}
+use borrow.Author.Tests.{not-false, not-true}
 use lib.Bits.{bitOr}
 use lib.Dec.{T, ltb, eqb, ltb→lt}
 use lib.IntN.{ℤ}
-use lib.ListN.{length, getD, take, drop, length-map}
+use lib.ListN.{length, getD, take, drop}
 use Rattle.csl.specs.Lists.{all, at}
 use Rattle.csl.specs.Bytes.{byte, part, recordEnd}
 use Rattle.csl.specs.Parties.{member, bitsOf, subset}
-use Rattle.csl.specs.Decode.{tyOf, tysOf, agreementOf}
+use Rattle.csl.specs.Decode.{tysOf, agreementOf}
 use Rattle.csl.specs.Typing.{typeClause, namesOf}
 use Rattle.csl.specs.Places.{Found, clauseAt}
 use Rattle.csl.specs.Values.{asNat}
 use Rattle.csl.specs.Table.{isZero, standsFor, standFor, asNats}
+use Rattle.laws.proofs.Options.{from-bind, from-need, some-bind, passes, some-inj, some-none}
+use Rattle.laws.proofs.Bools.{T-both, both-true, true-not-false, T→true}
+use Rattle.laws.proofs.Types.{types-length}
 use Rattle.arith.proofs.Lists.{length-part}
 use Rattle.arith.proofs.Bytes.{record-end-within}
 use Rattle.records.proofs.Index.{heads-in}
 use Rattle.parties.specs.Masks.{HasBit, ValidMembers}
 use Rattle.parties.proofs.Masks.{within-subset}
 use Rattle.parties.proofs.Typed.{valid-typed, declared-valid}
-use Rattle.soundness.proofs.Inversion.{from-bind, from-need, some-bind, passes, some-inj, T-both, both-true}
 use Rattle.soundness.proofs.Members.{member→in, in→member, stand-in}
 use Rattle.soundness.proofs.ReadBack.{found-placed}
 use Rattle.arith.specs.Values.{valuesOk}
@@ -36,24 +39,9 @@ use Rattle.units.specs.declared.Waiting.the-variants.{Damaged, Of}
 use Rattle.units.specs.Blames.{blamesOf, WholeIn, PartiesAre}
 use Rattle.units.specs.Cells.{partiesIn}
 use Rattle.units.specs.Units.{cellsIn, CellsShow, FoundThere, LocatedIs, recorded}
-use Rattle.units.proofs.Cells.{yes-true, no-false}
 use Rattle.units.proofs.Blames.{typed-blames, stands-itself, stands-param, stands-none, whole-room}
 
 -- ---- what the code found in a unit's cells
-pub some-none : {A C : Type 0} {o : Option A} {x : A} → o ≡ none → o ≡ some x → C
-some-none p q = let z : _≡_ {A = ℕ} 0 1 = cc in absurd (omega arith)
-
-true-false : {C : Type 0} {b : Bool} → b ≡ true → b ≡ false → C
-true-false p q = absurd (true≢false (sym p ∙ q))
-
-T→true : (b : Bool) → T b → b ≡ true
-T→true true t = refl
-T→true false t = absurd t
-
-pub types-length : (ts : List ℕ) → length (tysOf ts) ≡ length ts
-unfolding tysOf
-types-length ts = length-map ts tyOf
-
 module _ {parties n : ℕ} (types : List ℕ) (zs : List ℤ) where
   pub no-parties : partiesIn parties (cellsIn zs 2 (2 + n)) ≡ none → (params : List ℕ)
       → CellsShow parties n (tysOf types) zs params → ⊥
@@ -61,15 +49,15 @@ module _ {parties n : ℕ} (types : List ℕ) (zs : List ℤ) where
 
   pub no-zeros : {b : Bool} → b ≡ all isZero (cellsIn zs (2 + n) 7) → not b ≡ true → (params : List ℕ)
       → CellsShow parties n (tysOf types) zs params → ⊥
-  no-zeros {b} e f params h = true-false (h .noParams) (sym e ∙ no-false b f)
+  no-zeros {b} e f params h = true-not-false (h .noParams) (sym e ∙ not-true b f)
 
   pub no-values : {b : Bool} → b ≡ valuesOk parties (tysOf types) (cellsIn zs 7 23) → not b ≡ true → (params : List ℕ)
       → CellsShow parties n (tysOf types) zs params → ⊥
-  no-values {b} e f params h = true-false (h .areValues) (sym e ∙ no-false b f)
+  no-values {b} e f params h = true-not-false (h .areValues) (sym e ∙ not-true b f)
 
   pub no-rest : {b : Bool} → b ≡ all isZero (cellsIn zs (7 + length types) 23) → b ≡ false → (params : List ℕ)
       → CellsShow parties n (tysOf types) zs params → ⊥
-  no-rest {b} e f params h = true-false (h .noValues)
+  no-rest {b} e f params h = true-not-false (h .noValues)
       (ap (λ (y : ℕ). all isZero (cellsIn zs (7 + y) 23)) (types-length types) ∙ sym e ∙ f)
 
   pub cells-show : {a b c : Bool} {params : List ℕ} → partiesIn parties (cellsIn zs 2 (2 + n)) ≡ some params
@@ -78,15 +66,12 @@ module _ {parties n : ℕ} (types : List ℕ) (zs : List ℤ) where
       → CellsShow parties n (tysOf types) zs params
   cells-show {a} {b} e f g h i j k = record {
     areParams = e;
-    noParams = sym f ∙ yes-true a g;
-    areValues = sym h ∙ yes-true b i;
+    noParams = sym f ∙ not-false a g;
+    areValues = sym h ∙ not-false b i;
     noValues = ap (λ (y : ℕ). all isZero (cellsIn zs (7 + y) 23)) (types-length types) ∙ sym j ∙ k;
   }
 
 -- ---- cells that are parties
-nothing : {A C : Type 0} {x : A} → none ≡ some x → C
-nothing e = let z : _≡_ {A = ℕ} 0 1 = cc in absurd (omega arith)
-
 pub parties-nats : (ps : ℕ) (zs : List ℤ) (ns : List ℕ) → partiesIn ps zs ≡ some ns → (asNats zs ≡ some ns)
     × T (all (λ x. ltb x ps) ns) × (length ns ≡ length zs)
 unfolding partiesIn asNats all
@@ -221,7 +206,7 @@ module _ {A : List ℕ} {place n : ℕ} {types : List ℕ} (acc : Accepted A) (h
         unfolding LocatedIs
         located-out f params u =
             let same : params ≡ take n own = some-inj (sym (u .cells .areParams) ∙ (rw p at (cells .areParams))) in
-            true-false (u .among) (ap (λ (l : List ℕ). subset (standFor l (recorded A place)) (mainsOf A)) same
+            true-not-false (u .among) (ap (λ (l : List ℕ). subset (standFor l (recorded A place)) (mainsOf A)) same
             ∙ sym in-mains ∙ f)
 
         pub located-in : b ≡ true → LocatedIs A place n types zs (Of bits n (length types))

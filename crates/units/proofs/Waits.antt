@@ -1,6 +1,6 @@
 -- csl's reader of a waiting unit, and its parties: what they need, and what they give where it is there.
 use mathlib.Core.Path.{_≡_, refl, sym, ap, ap₂, subst, _∙_}
-use mathlib.Core.Bool.{Bool, true, false, _&&_, true≢false}
+use mathlib.Core.Bool.{true, _&&_, true≢false}
 use mathlib.Core.List.{List, [], _∷_}
 use mathlib.Core.Option.{Option, none, some}
 use Prim.Native.Nat.{ℕ, zero, suc, _+_, _-_, _^_, _≤_, _<_}
@@ -23,7 +23,10 @@ use Rattle.csl.specs.Values.{Val, asNat, asTruth, valueOf, valuesOf}
 use Rattle.csl.specs.Outcomes.{Sight, Sort, anObligation, aChoice, Residue, unit, units}
 use Rattle.csl.specs.Places.{Found, clauseAt}
 use Rattle.csl.specs.Table.{isZero, isSort, sortNumber, asNats, waitingUnit, standFor, residueParties}
-use Rattle.soundness.proofs.Inversion.{from-bind, from-need, some-bind, passes, some-inj, T-both, both-true}
+use Rattle.laws.proofs.Options.{from-bind, from-need, some-bind, passes, some-inj, none-some, some-none}
+use Rattle.laws.proofs.Bools.{T-both, both-true, T→true, true→T, and-left, and-right}
+use Rattle.laws.proofs.Integers.{pos-inj}
+use Rattle.laws.proofs.Types.{types-length}
 use Rattle.places.specs.declared.Located.{Located}
 use Rattle.places.specs.declared.Located.the-variants.{Nothing, At}
 use Rattle.arith.specs.Values.{valueOk, valuesOk}
@@ -34,18 +37,7 @@ use Rattle.units.specs.Cells.{numberBelow}
 use Rattle.units.specs.Units.{cellsIn, UnitHas, sightNumbers, UnitShows, recorded, FoundThere, LocatedIs}
 use Rattle.units.specs.Units.{WaitingIs, sortOf}
 use Rattle.units.proofs.Cells.{below-is, below-not}
-use Rattle.units.proofs.Units.{some-none, types-length, parties-nats, nats-parties, found-few, found-parties}
-use Rattle.units.proofs.Units.{stand-small}
-
-pub none-is : {A C : Type 0} {x : A} → none ≡ some x → C
-none-is e = let z : _≡_ {A = ℕ} 0 1 = cc in absurd (omega arith)
-
-T→true : (b : Bool) → T b → b ≡ true
-T→true true t = refl
-T→true false t = absurd t
-
-true→T : {b : Bool} → b ≡ true → T b
-true→T e = subst T (sym e) tt
+use Rattle.units.proofs.Units.{parties-nats, nats-parties, found-few, found-parties, stand-small}
 
 -- ---- a list split
 module _ {A : Type 0} where
@@ -56,7 +48,7 @@ module _ {A : Type 0} where
     ap (λ (q : List A × List A). q .0) (sym (some-inj e)),
     ap (λ (q : List A × List A). q .1) (sym (some-inj e)),
   )
-  split-takes (suc n) [] s e = none-is e
+  split-takes (suc n) [] s e = none-some e
   split-takes (suc n) (x ∷ xs) s e = from-bind (split n xs) _ s e λ q a b.
       let i = split-takes n xs q a in
       let same = some-inj b in (
@@ -74,16 +66,16 @@ module _ {A : Type 0} where
 two-from : (zs : List ℤ) (ns : List ℕ) (p w : ℕ) → asNats (take 2 zs) ≡ some ns → at ns 0 ≡ some p → at ns 1 ≡ some w
     → (getD zs 0 (pos 0) ≡ pos p) × (getD zs 1 (pos 0) ≡ pos w)
 unfolding asNats at asNat _>>=_
-two-from [] ns p w e f g = none-is (subst (λ (l : List ℕ). at l 0 ≡ some p) (sym (some-inj e)) f)
-two-from (pos a ∷ []) ns p w e f g = none-is (subst (λ (l : List ℕ). at l 1 ≡ some w) (sym (some-inj e)) g)
-two-from (negsuc a ∷ []) ns p w e f g = none-is e
+two-from [] ns p w e f g = none-some (subst (λ (l : List ℕ). at l 0 ≡ some p) (sym (some-inj e)) f)
+two-from (pos a ∷ []) ns p w e f g = none-some (subst (λ (l : List ℕ). at l 1 ≡ some w) (sym (some-inj e)) g)
+two-from (negsuc a ∷ []) ns p w e f g = none-some e
 two-from (pos a ∷ pos b ∷ zs) ns p w e f
     g = (
       ap pos (some-inj (subst (λ (l : List ℕ). at l 0 ≡ some p) (sym (some-inj e)) f)),
       ap pos (some-inj (subst (λ (l : List ℕ). at l 1 ≡ some w) (sym (some-inj e)) g)),
     )
-two-from (pos a ∷ negsuc b ∷ zs) ns p w e f g = none-is e
-two-from (negsuc a ∷ b ∷ zs) ns p w e f g = none-is e
+two-from (pos a ∷ negsuc b ∷ zs) ns p w e f g = none-some e
+two-from (negsuc a ∷ b ∷ zs) ns p w e f g = none-some e
 
 two-is : (zs : List ℤ) (p w : ℕ) → 2 ≤ length zs → getD zs 0 (pos 0) ≡ pos p → getD zs 1 (pos 0) ≡ pos w
     → asNats (take 2 zs) ≡ some (p ∷ w ∷ [])
@@ -98,10 +90,10 @@ unfolding valueOf valueOk asNat asTruth _>>=_
 value-from ps number z v e = from-need (inRange z) _ v e λ t _. T→true (inRange z) t
 value-from ps truth (pos zero) v e = refl
 value-from ps truth (pos (suc zero)) v e = refl
-value-from ps truth (pos (suc (suc n))) v e = none-is e
-value-from ps truth (negsuc n) v e = none-is e
+value-from ps truth (pos (suc (suc n))) v e = none-some e
+value-from ps truth (negsuc n) v e = none-some e
 value-from ps party (pos n) v e = from-need (ltb n ps) _ v e λ t _. T→true (ltb n ps) t
-value-from ps party (negsuc n) v e = none-is e
+value-from ps party (negsuc n) v e = none-some e
 
 value-is : (ps : ℕ) (t : Ty) (z : ℤ) → valueOk ps t z ≡ true → (v : Val) × (valueOf ps t z ≡ some v)
 unfolding valueOf valueOk asNat asTruth _>>=_
@@ -117,7 +109,7 @@ values-from : (ps : ℕ) (ts : List Ty) (zs : List ℤ) (r : List Val × List �
     → (valuesOk ps ts zs ≡ true) × (r .1 ≡ drop (length ts) zs) × (length ts ≤ length zs)
 unfolding valuesOf valuesOk
 values-from ps [] zs r e = (refl, ap (λ (q : List Val × List ℤ). q .1) (sym (some-inj e)), omega arith)
-values-from ps (t ∷ ts) [] r e = none-is e
+values-from ps (t ∷ ts) [] r e = none-some e
 values-from ps (t ∷ ts) (z ∷ zs) r e =
     from-bind (valueOf ps t z) _ r e λ v a e₁.
     from-bind (valuesOf ps ts zs) _ r e₁ λ q b e₂.
@@ -126,14 +118,6 @@ values-from ps (t ∷ ts) (z ∷ zs) r e =
       ap (λ (q : List Val × List ℤ). q .1) (sym (some-inj e₂)) ∙ i .1,
       omega (arith, i .2),
     )
-
-and-left : (a b : Bool) → (a && b) ≡ true → a ≡ true
-and-left true b e = refl
-and-left false b e = e
-
-and-right : (a b : Bool) → (a && b) ≡ true → b ≡ true
-and-right true b e = e
-and-right false b e = absurd (true≢false (sym e))
 
 record ValuesAre (ps : ℕ) (ts : List Ty) (zs : List ℤ) : Type 0 where
   pub values : List Val
@@ -349,9 +333,6 @@ number-sorted s badClause e = not-nought s e
 pub option-none : {A : Type 0} (o : Option A) → ((x : A) → o ≡ some x → ⊥) → o ≡ none
 option-none none f = refl
 option-none (some x) f = absurd (f x refl)
-
-pos-inj : {m n : ℕ} → pos m ≡ pos n → m ≡ n
-pos-inj e = cc
 
 lt-of : (m n : ℕ) → m ≤ n → (m ≡ n → ⊥) → m < n
 lt-of m n l f = omega arith

@@ -5,7 +5,6 @@ use mathlib.Core.Path.{_≡_, refl, sym, ap, ap₂, _∙_, subst}
 use mathlib.Core.Bool.{Bool, true, false}
 use mathlib.Core.List.{List, [], _∷_, _++_, append-assoc, append-nil}
 use Prim.Native.Nat.{ℕ}
-use native.Mathlib.Omega.{arith}
 use borrow.Fn.Kinds.{Dens, endedOf}
 use contract.Lifetimes.{Lfts}
 use denote.Triple.Clauses.{AtExit}
@@ -13,6 +12,7 @@ use lib.IntN.{ℤ}
 use lib.Dec.{eqb}
 use lib.ListN.{take, drop}
 use Rattle.csl.specs.Entries.{startOf}
+use Rattle.laws.proofs.Clash.{impossible}
 use Rattle.stream.specs.Records.{recordsOf}
 use Rattle.lines.specs.Lines.{startLine, readingLines, linesOf}
 use Rattle.watch.specs.declared.Stage.the-variants.{Ready, Waiting, Over}
@@ -103,7 +103,7 @@ session-is s {more = more} (full {cells₂ = vs} {input = input} {out₂ = out�
     ∙ sym (drained c more h ∙ ap (λ g. take (t .at) out₂ ++ left g s vs (t .line) (drop (t .from) input ++ more)) e)
 session-is s {more = more} (reads {cells₂ = vs} {input = input} {out₂ = out₂} {t} bytes later c e m rest w) h =
     w
-    ∙ ap (λ l. take (t .at) out₂ ++ l) (session-is s rest (λ q. let z : _≡_ {A = ℕ} 0 1 = cc in absurd (omega arith))
+    ∙ ap (λ l. take (t .at) out₂ ++ l) (session-is s rest (λ q. impossible cc)
     ∙ ap (λ l. readingLines s vs (t .line) (recordsOf l))
     (append-assoc (drop (t .from) input) bytes later ∙ ap (λ l. drop (t .from) input ++ l) (sym m)))
     ∙ sym (drained c more h ∙ ap (λ g. take (t .at) out₂ ++ left g s vs (t .line) (drop (t .from) input ++ more)) e)

@@ -10,6 +10,7 @@ use lib.ListN.{length, take, drop, length-drop}
 use lib.Seq.{take-all, drop-drop}
 use Rattle.csl.specs.Bytes.{part}
 use Rattle.csl.specs.Entries.{Answer, readingOf}
+use Rattle.laws.proofs.Clash.{impossible}
 use Rattle.stream.specs.Records.{isWhole, recordsOf}
 use Rattle.stream.specs.Next.{nextOf}
 use Rattle.stream.specs.declared.Next.{Next}
@@ -102,8 +103,8 @@ module _ (input : List ℕ) (ended : Bool) (from : ℕ) {r : Next}
         }
           where
             never : (b : Bool) → stageAfter b ≡ Waiting → ⊥
-            never true q = let z : _≡_ {A = ℕ} 0 1 = cc in omega arith
-            never false q = let z : _≡_ {A = ℕ} 0 1 = cc in omega arith
+            never true q = impossible cc
+            never false q = impossible cc
 
     module _ (s : List ℕ) (cells : List ℤ) (n : ℕ) (out : List ℕ) (at : ℕ) (room : at ≤ length out) where
       -- more input is needed
@@ -139,7 +140,7 @@ module _ (input : List ℕ) (ended : Bool) (from : ℕ) {r : Next}
           record {
             same = λ more c. ap (λ rs. take at out ++ readingLines s cells n rs)
                 (ap₂ (λ l m. recordsOf (l ++ m)) (sym (rest-is input from) ∙ w .0) (c (w .1)) ∙ no-records);
-            waits = λ q. let z : _≡_ {A = ℕ} 0 1 = cc in absurd (omega arith);
+            waits = λ q. impossible cc;
             within = (omega arith, h);
             numbered = omega arith;
             fits = room;
@@ -158,7 +159,7 @@ pub ready-turns : {s : List ℕ} {cells cells₂ : List ℤ} {n : ℕ} {input : 
 ready-turns {s} {cells} {cells₂} {n} {input} {ended} {from} {out} {at} {out₂} t e p = record {
   same = λ more c. p .same more c ∙ ap (λ g. take (t .at) out₂
       ++ left g s cells₂ (t .line) (drop (t .from) input ++ more)) e;
-  waits = λ q. let z : _≡_ {A = ℕ} 0 1 = cc in absurd (omega arith);
+  waits = λ q. impossible cc;
   within = p .within;
   numbered = p .numbered;
   fits = p .fits;
@@ -189,7 +190,7 @@ pub turns-none : (s : List ℕ) (cells : List ℤ) (n : ℕ) (input : List ℕ) 
     })
 turns-none s cells n input ended out = record {
   same = λ more c. refl;
-  waits = λ e. let z : _≡_ {A = ℕ} 0 1 = cc in absurd (omega arith);
+  waits = λ e. impossible cc;
   within = (omega arith, omega arith);
   numbered = omega arith;
   fits = omega arith;

@@ -1,10 +1,10 @@
 -- Each arm asks what the form of its kind asks; a part is nested less deep than its clause.
 use Rattle.formed.proofs.Clauses.{clauses, obligation-formed, sides-formed}
-use Rattle.formed.proofs.Exprs.{both-on, both-off}
 use borrow.Author.Tests.{not-true, not-false}
 use Prim.Native.Nat.{ℕ, _<_}
 use borrow.Fn.Kinds.{In}
 use borrow.Fn.PlainCycle.{Measures, is, falls, and}
+use Rattle.laws.proofs.Bools.{true-first, false-first}
 use Rattle.formed.proofs.clause_formed.Reads as clause-formed
 use Rattle.formed.proofs.clause_formed.Kinds as clause-formed-kinds
 use Rattle.formed.proofs.+clause_formed.Lts-clause_formed as clause-formed-lts
@@ -58,10 +58,10 @@ pub +clause-formed-spec : {M : Type 1} → statement M
     (λ c κs. search clauses) (λ c κs. search clauses) (λ c κs. search clauses) (λ c. search clauses)
     (λ c. search clauses) (λ c. search clauses) (λ c κs. search clauses) (λ c κs. search clauses)
     (λ c κs. search clauses) (λ c κs. search clauses) (λ c κs. search clauses)
-    (λ c. search (sides-formed, both-off, not-true, not-false))
+    (λ c. search (sides-formed, false-first, not-true, not-false))
     (λ c. search clauses) (λ c. search clauses) (λ c. search clauses) (λ c κs. search clauses)
     (λ c. search clauses) (λ c. search clauses) (λ c. search clauses) (λ c κs. search clauses)
-    (λ c. search clauses) (λ c. search (obligation-formed, both-on, not-false)) (λ c. search clauses)
+    (λ c. search clauses) (λ c. search (obligation-formed, true-first, not-false)) (λ c. search clauses)
     (λ c. search clauses)
-    (λ c. search (sides-formed, both-on, not-false)) (λ c. search (sides-formed, both-on, both-off, not-false))
+    (λ c. search (sides-formed, true-first, not-false)) (λ c. search (sides-formed, true-first, false-first, not-false))
     (λ c. search clauses) (λ c. search clauses)

@@ -5,7 +5,8 @@ use Prim.Native.Nat.{_+_, _-_, _≤_}
 use native.Mathlib.Omega.{arith}
 use borrow.Author.Needs.{needs}
 use lib.ListN.{length, take, length-set}
-use Rattle.lines.proofs.Puts.{one-more, none-yet, all-put}
+use Rattle.laws.proofs.Lists.{append-more, append-none}
+use Rattle.lines.proofs.Puts.{all-put}
 use Rattle.lines.proofs.put_bytes.Statement.{statement}
 use Rattle.lines.proofs.put_bytes.Tie as tie
 use Rattle.lines.proofs.put_bytes.Reads as reads
@@ -19,7 +20,8 @@ abbrev μ-loop : tie.MeasureT-loop
 μ-loop out₀ at s i₀ i-end out i = i-end - i
 
 loop-holds : tie.Need-loop-holds Inv-loop μ-loop
-loop-holds c = (search needs, search needs, search needs, none-yet (c .args .s .now) (c .args .out .now) (c .args .at))
+loop-holds c =
+    (search needs, search needs, search needs, append-none (c .args .out .now) (c .args .s .now) (c .args .at))
 
 shared-slice-read-out : tie.Need-shared-slice-read-out Inv-loop μ-loop
 shared-slice-read-out c = search needs
@@ -44,8 +46,8 @@ loop-again c =
       search needs,
       search needs,
       simp length-set (search needs),
-      one-more (begun .s .now) (begun .out .now)
-          (turn .out) (begun .at) (turn .i) (search needs) (search needs) (turn .inv .3),
+      append-more (begun .out .now) (turn .out)
+          (begun .s .now) (begun .at) (turn .i) (search needs) (search needs) (turn .inv .3),
     )
 
 add-result : tie.Need-add-result Inv-loop μ-loop

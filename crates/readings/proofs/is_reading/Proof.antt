@@ -3,7 +3,7 @@ use borrow.Author.Needs.{needs}
 use mathlib.Core.Path.{sym, _∙_}
 use mathlib.Core.Bool.{false≢true}
 use native.Mathlib.Omega.{arith}
-use Rattle.readings.proofs.Options.{told-yes, told-no}
+use Rattle.laws.proofs.Bools.{told-yes, told-no}
 use Rattle.readings.proofs.Reading.{raw-no, raw-last}
 use Rattle.readings.proofs.is_reading.Statement.{statement}
 use Rattle.readings.proofs.is_reading.Tie as tie

@@ -3,10 +3,11 @@ use borrow.Author.Needs.{needs}
 use mathlib.Core.Path.{_≡_, refl}
 use mathlib.Core.List.{_++_}
 use Prim.Native.Nat.{_+_, _-_, _≤_}
+use native.Mathlib.Omega.{arith}
 use lib.ListN.{length, take, length-set}
-use Rattle.records.proofs.Appended.{append-first, append-more, append-last}
 use Rattle.records.proofs.append.Statement.{statement}
 use Rattle.records.proofs.append.Tie as tie
+use Rattle.laws.proofs.Lists.{append-none, append-more, append-done}
 
 abbrev Inv-loop : tie.InvT-loop
 Inv-loop out₀ n from i₀ out i = (i ≤ length from) × (length out ≡ length out₀)
@@ -16,7 +17,7 @@ abbrev μ-loop : tie.MeasureT-loop
 μ-loop out₀ n from i₀ out i = length from - i
 
 loop-holds : tie.Need-loop-holds Inv-loop μ-loop
-loop-holds c = (search needs, refl, append-first (c .args .out .now) (c .args .n) (c .args .from .now))
+loop-holds c = (search needs, refl, append-none (c .args .out .now) (c .args .from .now) (c .args .n))
 
 loop-again : tie.Need-loop-again Inv-loop μ-loop
 loop-again c =
@@ -24,14 +25,14 @@ loop-again c =
       search needs,
       simp length-set (l .loop .inv .1),
       append-more
-          (l .before .args .out .now) (l .before .args .n) (l .before .args .from .now) (l .loop .i) (l .loop .out)
-          (c .before .loop-test .taken) (search needs) (l .loop .inv .2),
+          (l .before .args .out .now) (l .loop .out) (l .before .args .from .now) (l .before .args .n) (l .loop .i)
+          (search needs) (c .before .loop-test .taken) (l .loop .inv .2),
     )
 
 returns : tie.Need-returns Inv-loop μ-loop
 returns c =
-    let l = c .before in append-last (l .before .args .out .now) (l .before .args .n) (l .before .args .from .now)
-    (l .loop .i) (l .loop .out) (l .loop .inv .0) (c .loop-test .left) (l .loop .inv .2)
+    let l = c .before in append-done (l .before .args .out .now) (l .loop .out) (l .before .args .from .now)
+    (l .before .args .n) (l .loop .i) (omega arith) (l .loop .inv .2)
 
 pub append-spec : {M : Type 1} → statement M
 append-spec = tie.close (tie.spec Inv-loop μ-loop

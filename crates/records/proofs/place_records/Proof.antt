@@ -6,8 +6,9 @@ use native.Mathlib.Omega.{arith}
 use lib.ListN.{length, getD, length-set}
 use Rattle.csl.specs.Bytes.{recordEnd}
 use Rattle.csl.specs.Decode.{recordsEnd}
+use Rattle.laws.proofs.RecordEnds.{pieces-within}
 use borrow.Author.Count.{below-none}
-use Rattle.records.proofs.Index.{pieces-within, pieces-more, pieces-none}
+use Rattle.records.proofs.Index.{pieces-more, pieces-none}
 use Rattle.records.proofs.Listed.{stored-more, others-more}
 use Rattle.records.proofs.place_records.Statement.{statement}
 use Rattle.records.proofs.place_records.Tie as tie

@@ -2,8 +2,8 @@
 use borrow.Author.Needs.{needs}
 use mathlib.Core.Path.{sym, _∙_}
 use native.Mathlib.Omega.{arith}
-use Rattle.records.proofs.Index.{true-T}
-use Rattle.records.proofs.Listed.{untold, told-yes, reading-no, reading-last}
+use Rattle.laws.proofs.Bools.{true→T, told-yes}
+use Rattle.records.proofs.Listed.{untold, reading-no, reading-last}
 use Rattle.records.proofs.reading_ok.Statement.{statement}
 use Rattle.records.proofs.reading_ok.Tie as tie
 
@@ -11,7 +11,7 @@ returns : tie.Need-returns
 returns c =
     let at-start = c .before .before .before in
     reading-no (at-start .args .piece .now) λ h. untold (c .before .is-record .ensures) (c .if1 .taken)
-    (true-T (h .isOne))
+    (true→T (h .isOne))
 
 returns-2 : tie.Need-returns-2
 returns-2 c =

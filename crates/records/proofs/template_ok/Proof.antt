@@ -7,8 +7,8 @@ use lib.Dec.{leb}
 use Rattle.csl.specs.Lists.{all}
 use Rattle.csl.specs.Bytes.{byte, part}
 use Rattle.csl.specs.Decode.{isType}
-use Rattle.records.proofs.Index.{true-T}
-use Rattle.records.proofs.Listed.{untold, told-yes, template-no, template-last}
+use Rattle.laws.proofs.Bools.{true→T, told-yes}
+use Rattle.records.proofs.Listed.{untold, template-no, template-last}
 use Rattle.records.proofs.template_ok.Statement.{statement}
 use Rattle.records.proofs.template_ok.Tie as tie
 
@@ -16,7 +16,7 @@ returns : tie.Need-returns
 returns c =
     let at-start = c .before .before .before in
     template-no (at-start .args .piece .now) λ h. untold (c .before .is-record .ensures) (c .if1 .taken)
-    (true-T (h .isOne))
+    (true→T (h .isOne))
 
 returns-2 : tie.Need-returns-2
 returns-2 c =

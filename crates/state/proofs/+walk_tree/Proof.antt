@@ -8,9 +8,10 @@ use native.Mathlib.Omega.{arith}
 use lib.ListN.{length, drop}
 use Rattle.arith.proofs.Lists.{length-part}
 use Rattle.csl.specs.Decode.{joinOf}
-use Rattle.state.specs.Tree.{JoinsFirst, TreeAs, FirstIs}
+use Rattle.state.specs.Tree.{JoinsFirst, TreeAs}
 use Rattle.state.proofs.Trees.{no-units, no-first, is-waits, is-joins, left-damaged, right-damaged, tree-of}
 use Rattle.state.proofs.Trees.{tree-bits, part-from, lent, lent-length, lent-room, sides-read}
+use Rattle.laws.proofs.Lists.{part-from}
 use borrow.Fn.Kinds.{In}
 use borrow.Fn.PlainCycle.{Measures, is, falls, and}
 use Rattle.state.proofs.walk_tree.Reads as walk-tree

@@ -1,10 +1,9 @@
 -- `next_record` is right: its tests are those of `nextOf`.
-use mathlib.Core.Path.{_≡_}
-use Prim.Native.Nat.{ℕ}
 use native.Mathlib.Omega.{arith}
 use borrow.Author.Tests.{not-true, not-false}
 use Rattle.stream.proofs.Cuts.{next-whole, next-wait, next-end, next-cut}
 use borrow.Author.Needs.{needs}
+use Rattle.laws.proofs.Clash.{impossible}
 use Rattle.stream.proofs.next_record.Statement.{statement}
 use Rattle.stream.proofs.next_record.Tie as tie
 use Rattle.stream.proofs.next_record.Reads as reads
@@ -21,7 +20,7 @@ returns c =
     let at-start = c .before .before .before in (
       next-whole (at-start .args .s .now) (at-start .args .ended) (c .before .record-size .ensures .0)
           (c .if1 .taken),
-      λ w. let z : _≡_ {A = ℕ} 0 1 = cc in absurd (omega arith),
+      λ w. impossible cc,
     )
 
 -- src/lib.rt:87:9
@@ -41,8 +40,7 @@ returns-3 c =
     let at-start = at-record-size .before .before in (
       next-end (at-start .args .s .now) (at-start .args .ended) (at-record-size .record-size .ensures .0)
           (c .before .before .if1 .left) (not-false _ (c .before .if2 .left)) (c .if3 .taken),
-      λ w. let z : _≡_
-          {A = ℕ} 0 1 = cc in absurd (omega arith),
+      λ w. impossible cc,
     )
 
 -- src/lib.rt:79:1
@@ -52,8 +50,7 @@ returns-4 c =
     let at-start = at-record-size .before .before in (
       next-cut (at-start .args .s .now) (at-start .args .ended) (at-record-size .record-size .ensures .0)
           (c .before .before .if1 .left) (not-false _ (c .before .if2 .left)) (c .if3 .left),
-      λ w. let z : _≡_ {A = ℕ}
-          0 1 = cc in absurd (omega arith),
+      λ w. impossible cc,
     )
 
 pub next-record-spec : {M : Type 1} → statement M

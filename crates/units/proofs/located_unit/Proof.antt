@@ -1,9 +1,9 @@
 -- The cells hold to what is in sight at the place, and the parties are then compared with the main clause's.
 use Rattle.units.proofs.Units.{there-few, there-whole, there-room, located-not, located-in, located-out}
-use Rattle.units.proofs.Cells.{yes-true, no-false}
 use native.Mathlib.Omega.{arith}
 use mathlib.Core.Path.{refl}
 use borrow.Author.Needs.{needs}
+use borrow.Author.Tests.{not-false, not-true}
 use Rattle.units.proofs.located_unit.Statement.{statement}
 use Rattle.units.proofs.located_unit.Tie as tie
 
@@ -22,7 +22,7 @@ returns c =
     let at-byte = c .before .before .before .before in
     let at-start = at-byte .before .before .before .before in
     located-not (at-start .pre .0 .isAccepted) (at-start .pre .1) (at-start .args .cells .now) (at-byte .byte .ensures .0)
-    (unit-cells .ensures .1 (no-false (unit-cells .result) (c .if1 .taken)))
+    (unit-cells .ensures .1 (not-true (unit-cells .result) (c .if1 .taken)))
 
 part-clause-parties-end-2 : tie.Need-part-clause-parties-end-2
 part-clause-parties-end-2 c =
@@ -51,7 +51,7 @@ returns-2 c =
     located-in (at-start .pre .0 .isAccepted) (at-start .pre .1) (at-start .args .cells .now)
     (at-unit-cells .before .before .byte .ensures .0) (at-unit-cells .unit-cells .last .1 .1 .1 .1 .0)
     (at-unit-cells .unit-cells .ensures .0
-    (yes-true (at-unit-cells .unit-cells .result) (at-record-end .before .if1 .left)))
+    (not-false (at-unit-cells .unit-cells .result) (at-record-end .before .if1 .left)))
     (at-record-end .record-end .ensures .0) (c .before .before .clause-parties .ensures) (at-start .pre .0 .areMains)
     (c .before .is-subset .ensures) (c .if2 .taken)
 
@@ -63,7 +63,7 @@ returns-3 c =
     located-out (at-start .pre .0 .isAccepted) (at-start .pre .1) (at-start .args .cells .now)
     (at-unit-cells .before .before .byte .ensures .0) (at-unit-cells .unit-cells .last .1 .1 .1 .1 .0)
     (at-unit-cells .unit-cells .ensures .0
-    (yes-true (at-unit-cells .unit-cells .result) (at-record-end .before .if1 .left)))
+    (not-false (at-unit-cells .unit-cells .result) (at-record-end .before .if1 .left)))
     (at-record-end .record-end .ensures .0) (c .before .before .clause-parties .ensures) (at-start .pre .0 .areMains)
     (c .before .is-subset .ensures) (c .if2 .left)
 

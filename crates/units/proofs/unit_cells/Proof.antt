@@ -1,6 +1,5 @@
 -- The four tests ask in turn what the layout of a waiting unit asks, and the first that fails shows why none fits.
 use Rattle.units.proofs.Units.{no-parties, no-zeros, no-values, no-rest, cells-show}
-use Rattle.units.proofs.Cells.{yes-true, no-false}
 use Rattle.arith.proofs.Lists.{length-part}
 use lib.ListN.{length}
 use native.Mathlib.Omega.{arith}
@@ -9,6 +8,7 @@ use Prim.Native.Nat.{_+_}
 use Rattle.units.specs.Units.{cellsIn}
 use mathlib.Core.Bool.{false≢true}
 use borrow.Author.Needs.{needs}
+use borrow.Author.Tests.{not-false, not-true}
 use Rattle.units.proofs.unit_cells.Statement.{statement}
 use Rattle.units.proofs.unit_cells.Tie as tie
 
@@ -18,7 +18,7 @@ returns c =
     let at-start = at-party-cells .before .before .before .before .before in (
       λ e. absurd (false≢true e),
       λ _. no-parties (at-start .args .types .now) (at-start .args .cells .now)
-          (at-party-cells .party-cells .ensures .1 (no-false (at-party-cells .party-cells .result) (c .if1 .taken))),
+          (at-party-cells .party-cells .ensures .1 (not-true (at-party-cells .party-cells .result) (c .if1 .taken))),
     )
 
 returns-2 : tie.Need-returns-2
@@ -48,7 +48,7 @@ returns-4 c =
     c .before .before .before .before .before .before .before .before .before .before .before .before .before
     .before .before .before in let n : length (cellsIn (s .args .cells .now) 2 (2 + s .args .n)) ≡ s .args .n =
     omega (arith, length-part (s .args .cells .now) 2 (2 + s .args .n) (omega (arith, s .pre))) in let e =
-    p .ensures .0 (yes-true (p .result) (at-zeros .before .before .if1 .left)) in (
+    p .ensures .0 (not-false (p .result) (at-zeros .before .before .if1 .left)) in (
       λ k. cells-show (at-start .args .types .now) (at-start .args .cells .now) (rw n at e)
           (at-zeros .zeros .ensures) (at-values-ok .before .before .if2 .left) (at-values-ok .values-ok .ensures)
           (c .before .before .if3 .left) (c .zeros2 .ensures) k,

@@ -1,9 +1,8 @@
 -- `step` is right, case by case of what is next in the input.
-use mathlib.Core.Path.{_≡_}
-use Prim.Native.Nat.{ℕ}
 use native.Mathlib.Omega.{arith}
 use Rattle.watch.proofs.Taking.{some, ends, record-turns, wait-turns, end-turns}
 use borrow.Author.Needs.{needs}
+use Rattle.laws.proofs.Clash.{impossible}
 use Rattle.watch.proofs.step.Statement.{statement}
 use Rattle.watch.proofs.step.Tie as tie
 use Rattle.watch.proofs.step.Reads as reads
@@ -88,8 +87,7 @@ returns c =
       wait-turns (given .input .now) (given .ended) (given .from) (next .0) (begun .pre .0)
           (given .agreement .now) (given .table .now) (given .line) (given .out .now) (given .at)
           (omega (arith, begun .pre .1)) (c .enum-told .given .1) (next .1),
-      λ e. let z : _≡_ {A = ℕ} 0 1 = cc in
-          absurd (omega arith),
+      λ e. impossible cc,
     )
 
 returns-2 : tie.Need-returns-2
@@ -99,8 +97,7 @@ returns-2 c =
       end-turns (given .input .now) (given .ended) (given .from) (next .0) (begun .pre .0)
           (given .agreement .now) (given .table .now) (given .line) (given .out .now) (given .at)
           (omega (arith, begun .pre .1)) (c .enum-told2 .given .1),
-      λ e. let z : _≡_ {A = ℕ} 0 1 = cc in absurd
-          (omega arith),
+      λ e. impossible cc,
     )
 
 same-length : tie.Need-same-length

@@ -1,0 +1,11 @@
+pub mod Clash
+pub mod Bools
+pub mod Options
+pub mod Integers
+pub mod Lists
+pub mod PartyBits
+pub mod RecordEnds
+pub mod Cells
+pub mod Residues
+pub mod Types
+pub mod Templates
