@@ -8,8 +8,8 @@ use borrow.Author.Tests.{not-true, not-false}
 use borrow.Author.Needs.{needs}
 use lib.ListN.{length}
 use Rattle.csl.specs.Lists.{all}
-use Rattle.csl.specs.Bytes.{byte, part, recordEnd}
-use Rattle.csl.specs.Decode.{Piece, pieces, piecesEnd, templatesPlace, templatePieces, bodyPlace, bodyOf, mainPlace}
+use Rattle.csl.specs.Bytes.{byte, part}
+use Rattle.csl.specs.Decode.{Piece, pieces, piecesEnd, templatesPlace, templatePieces, bodyOf, mainPlace}
 use Rattle.csl.specs.Decode.{mainOf, clause, whole, headsOf, listed, wellFormed}
 use Rattle.records.specs.Index.{templatePlace, templatePiece, Spans}
 use Rattle.records.proofs.Index.{piece, pieces-more, pieces-none, body-is}

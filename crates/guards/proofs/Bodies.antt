@@ -9,8 +9,8 @@ use lib.ListN.{length}
 use Rattle.csl.specs.Lists.{all}
 use Rattle.csl.specs.Bytes.{byte, part}
 use Rattle.csl.specs.Syntax.{Clause, Template}
-use Rattle.csl.specs.Decode.{whole, clause, pieces, piecesEnd, templatesPlace, mainPlace, templatePieces, headsOf, mainOf}
-use Rattle.csl.specs.Decode.{bodyOf, templateOf, agreementOf, listed, wellFormed}
+use Rattle.csl.specs.Decode.{whole, clause, pieces, piecesEnd, templatesPlace, mainPlace, templatePieces, headsOf}
+use Rattle.csl.specs.Decode.{mainOf, bodyOf, templateOf, agreementOf, listed, wellFormed}
 use Rattle.csl.specs.Guards.{guardedIn, guardedFrom}
 use Rattle.csl.specs.Widths.{width, widthsFrom}
 use Rattle.records.specs.Index.{templatePlace, Spans}

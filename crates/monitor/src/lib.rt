@@ -256,7 +256,10 @@ fn step(
             table[1] = event.time as i64;
             Taken::Accepted
         }
-        State::Breached { time: _, parties: _ } => Taken::Accepted,
+        State::Breached {
+            time: _,
+            parties: _,
+        } => Taken::Accepted,
     }
 }
 
@@ -267,7 +270,10 @@ fn is_damaged(state: State) -> bool
         State::Damaged => true,
         State::Running(_) => false,
         State::Fulfilled => false,
-        State::Breached { time: _, parties: _ } => false,
+        State::Breached {
+            time: _,
+            parties: _,
+        } => false,
     }
 }
 
@@ -393,7 +399,10 @@ fn foretell(
         State::Damaged => Foretold::Refused(Refusal::TableContent),
         State::Running(used) => breach_ahead(agreement, places, sights, table, used),
         State::Fulfilled => Foretold::Nothing,
-        State::Breached { time: t, parties: b } => {
+        State::Breached {
+            time: t,
+            parties: b,
+        } => {
             let time = minutes(t);
             Foretold::Breach { time, parties: b }
         }

@@ -13,7 +13,7 @@ use Rattle.csl.specs.Lists.{orElse, orNil, at}
 use Rattle.csl.specs.Bytes.{byte, part, recordEnd}
 use Rattle.csl.specs.Syntax.{Ty, Template, Agreement, Clause, fulfilled, obligation, choice, if, join, instance}
 use Rattle.csl.specs.Syntax.{badClause}
-use Rattle.csl.specs.Decode.{pieces, piecesEnd, clause, tysOf, headsOf, whole, bodyOf, mainOf, mainPlace}
+use Rattle.csl.specs.Decode.{pieces, piecesEnd, clause, tysOf, headsOf, whole, mainOf, mainPlace}
 use Rattle.csl.specs.Decode.{templatesPlace, templatePieces, templateHead, templateOf, agreementOf}
 use Rattle.csl.specs.Typing.{typeClause, namesOf, thenSight}
 use Rattle.csl.specs.Places.{Found, find, findIn, clauseAt}

@@ -1,12 +1,12 @@
 -- Type bytes put behind one another, and the types that they are.
 use mathlib.Core.Path.{_≡_, refl, sym, ap, _∙_}
-use mathlib.Core.List.{List, [], _∷_, _++_, append-nil, append-assoc}
+use mathlib.Core.List.{List, [], _∷_, _++_}
 use Prim.Native.Nat.{ℕ, zero, suc, _+_, _-_, _≤_, _<_}
 use native.Mathlib.Decide.{decLe}
 use native.Mathlib.Numerals.{add-one}
 use native.Mathlib.Omega.{arith}
-use lib.ListN.{length, getD, take, set, length-append, length-take, length-map}
-use lib.Seq.{take-suc, take-suc-set, take-length}
+use lib.ListN.{length, take, set, length-append, length-take, length-map}
+use lib.Seq.{take-suc-set}
 use Rattle.arith.proofs.Lists.{length-part, part-part}
 use Rattle.arith.proofs.Bytes.{record-end-within, record-end-after}
 use Rattle.csl.specs.Lists.{orNil, at}

@@ -16,8 +16,8 @@ use Rattle.csl.specs.Lists.{all, at}
 use Rattle.csl.specs.Bytes.{byte, le16, part, isRecord, kindNumber, recordEnd}
 use Rattle.csl.specs.Syntax.{Head}
 use Rattle.csl.specs.Decode.{Piece, piecesEnd, pieces, templatesPlace, mainPlace, readingPieces, templatePieces}
-use Rattle.csl.specs.Decode.{headsOf, bodyPlace, bodyOf, clause, templateOf, agreementOf, isType, tyOf, tysOf, readingTypeOk}
-use Rattle.csl.specs.Decode.{readingType, templateOk, templateHead, waitEnd}
+use Rattle.csl.specs.Decode.{headsOf, bodyPlace, bodyOf, clause, templateOf, agreementOf, isType, tyOf, tysOf}
+use Rattle.csl.specs.Decode.{readingTypeOk, readingType, templateOk, templateHead, waitEnd}
 use Rattle.csl.specs.Typing.{headsIn}
 use Rattle.records.specs.Index.{Indexed, readingPlace, templatePlace, pieceAt, headAt, templatePiece, valueCount}
 use Rattle.records.specs.Index.{bodyFrom, bodyTo, Spans, firstClause}

@@ -7,13 +7,13 @@ use Prim.Native.Nat.{ℕ, zero, suc, _-_, _<_, _≤_, _^_, min}
 use native.Mathlib.Numerals.{sub-one}
 use native.Mathlib.Omega.{arith}
 use native.Mathlib.Nat.{not-suc-le-zero, le-of-suc-le-suc}
-use borrow.Author.Tests.{ne-eqb, eq-eqb, eqb-false, ltb-true, le-leb, lt-leb}
+use borrow.Author.Tests.{ne-eqb, eq-eqb, eqb-false, ltb-true}
 use lib.Dec.{ltb, eqb, leb}
 use lib.ListN.{length, getD}
 use Rattle.csl.specs.Lists.{_>>=_, need, at}
-use lib.IntN.{ℤ, natAbs}
-use lib.Signed.{ltZ, mag}
-use Rattle.csl.specs.Numbers.{limit, top, bottom, inRange, Arithmetic}
+use lib.IntN.{ℤ}
+use lib.Signed.{mag}
+use Rattle.csl.specs.Numbers.{inRange, Arithmetic}
 use Rattle.csl.specs.Bytes.{byte, signed32, part, isRecord, kindNumber, recordEnd}
 use Rattle.csl.specs.Syntax.{Ty, number, truth, party, Op, arithmetic, conj, less, equal, Expr, numberLit, truthLit}
 use Rattle.csl.specs.Syntax.{partyLit, variable, negation, binary, badExpr}
@@ -21,7 +21,6 @@ use Rattle.csl.specs.Decode.{numberKind, truthKind, partyKind, variableKind, le
 use Rattle.csl.specs.Decode.{exprKind, exprHead, noExpr, ofLength, expr, tyOf, tysOf}
 use Rattle.csl.specs.Typing.{typeExpr, sameTy, operand, result}
 use Rattle.arith.proofs.Ints.{by, some-bits, seen, read! }
-use Rattle.arith.proofs.Linear.{ints, parts, up-pos, dn-pos, up-neg, dn-neg}
 use Rattle.arith.proofs.Bytes.{whole-from}
 use Rattle.records.proofs.Trees.{kind-leaf, kind-not, kind-binary, kind-no-expr-low, kind-no-expr-high}
 use Rattle.typing.specs.Types.{byteType, recordKind, tyNumber, typeNumber, sightType, literalType, leafType}

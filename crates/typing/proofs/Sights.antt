@@ -1,20 +1,20 @@
 -- The types in sight: what is written into their bytes, and what csl's typing of a wait says of them.
 use mathlib.Core.Path.{_≡_, refl, sym, ap, _∙_}
 use mathlib.Core.Bool.{Bool, true, false, cond, _&&_, not}
-use mathlib.Core.List.{List, [], _∷_, _++_, append-assoc, append-nil}
+use mathlib.Core.List.{List, [], _∷_, _++_}
 use mathlib.Core.Option.{Option, none, some}
 use Prim.Native.Nat.{ℕ, zero, suc, _+_, _-_, _<_, _≤_}
 use native.Mathlib.Numerals.{sub-one, add-one}
 use native.Mathlib.Omega.{arith}
 use borrow.Author.Tests.{lt-ltb, le-ltb, ne-eqb, eq-eqb, leb-true, leb-false}
 use lib.Dec.{eqb, leb}
-use lib.ListN.{length, getD, set, take, drop, length-map, length-append}
-use lib.Seq.{take-suc, take-suc-set, take-all, take-take, take-at, length-take-le}
+use lib.ListN.{length, set, take, drop, length-map, length-append}
+use lib.Seq.{take-suc-set, take-take, take-at, length-take-le}
 use Rattle.csl.specs.Lists.{_>>=_, need, at}
 use Rattle.csl.specs.Bytes.{byte, part, isRecord, recordEnd}
 use Rattle.csl.specs.Syntax.{Ty, number, truth, party, Expr, badExpr}
 use Rattle.csl.specs.Decode.{expr, exprHead, exprBody, tyOf, tysOf, waitAt, readingType, agreementOf}
-use Rattle.csl.specs.Typing.{Names, namesOf, blameOk, typeExpr, hasType, sameTy, readingOfType, thenSight, typeWait}
+use Rattle.csl.specs.Typing.{namesOf, blameOk, typeExpr, hasType, sameTy, readingOfType, thenSight, typeWait}
 use Rattle.arith.proofs.Ints.{by}
 use Rattle.arith.proofs.Lists.{length-part, part-part}
 use Rattle.arith.proofs.Bytes.{record-end-within, record-end-after}

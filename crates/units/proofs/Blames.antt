@@ -3,7 +3,7 @@ use mathlib.Core.Path.{_≡_, refl, sym, ap, ap₂, subst, _∙_}
 use mathlib.Core.Bool.{Bool, true, false, cond, _&&_}
 use mathlib.Core.List.{List, [], _∷_, _++_}
 use mathlib.Core.Option.{Option, none, some}
-use Prim.Native.Nat.{ℕ, zero, suc, _+_, _-_, _*_, _^_, _%_, _≤_, _<_}
+use Prim.Native.Nat.{ℕ, zero, suc, _+_, _-_, _≤_, _<_}
 use native.Mathlib.Decide.{decLe}
 use native.Mathlib.Nat.{le-of-suc-le-suc}
 use native.Mathlib.Numerals.{add-one}
@@ -27,7 +27,7 @@ use Rattle.records.specs.Index.{firstClause, headAt, pieceAt, templatePlace}
 use Rattle.records.proofs.Trees.{clause-zero, clause-none, clause-at, clause-wait, clause-two, sided, kind-fulfilled}
 use Rattle.records.proofs.Trees.{kind-instance, kind-no-clause-low, kind-no-clause-high}
 use Rattle.records.proofs.Index.{T-both, heads-at, heads-past}
-use Rattle.parties.proofs.Members.{member-self, member-tail, bits-lt, bits-nil, bits-append, bits-new, bits-skip}
+use Rattle.parties.proofs.Members.{member-self, member-tail, bits-nil, bits-append}
 use Rattle.parties.proofs.Members.{members-in}
 use Rattle.parties.proofs.Masks.{bits-members, bits-small}
 use Rattle.soundness.proofs.Inversion.{from-bind, from-need, some-inj}

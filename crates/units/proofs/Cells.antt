@@ -4,11 +4,10 @@ use mathlib.Core.Bool.{Bool, true, false, not, _&&_, and-true}
 use mathlib.Core.List.{List, [], _∷_, _++_, append-nil, append-assoc}
 use mathlib.Core.Option.{Option, none, some}
 use Prim.Native.Nat.{ℕ, zero, suc, _+_, _-_, _^_, _≤_, _<_}
-use native.Mathlib.Decide.{decLe}
 use native.Mathlib.Numerals.{add-one}
 use native.Mathlib.Omega.{arith}
-use borrow.Author.Tests.{lt-ltb, le-ltb, le-leb, lt-leb, ne-eqb, ltb-true}
-use lib.Dec.{T, leb, ltb, eqb}
+use borrow.Author.Tests.{lt-ltb, le-ltb, ne-eqb, ltb-true}
+use lib.Dec.{T, eqb}
 use lib.IntN.{ℤ, pos, negsuc, natAbs}
 use lib.ListN.{length, getD, take, drop, set}
 use lib.Seq.{drop-cons, take-suc-set, drop-length}
@@ -17,11 +16,8 @@ use lib.Signed.{mag, ltZ, nonNeg, _≤ℤ_}
 use mir.Syntax.{w64}
 use mir.Val.{Fits, SFits, ofZ}
 use Rattle.arith.proofs.Ints.{seen, read, index-asked, index-given}
-use Rattle.arith.proofs.Linear.{ints, parts, up, dn}
+use Rattle.arith.proofs.Linear.{ints}
 use Rattle.csl.specs.Lists.{_>>=_, need, all}
-use Rattle.csl.specs.Numbers.{inRange, limit}
-use Rattle.csl.specs.Syntax.{truth, party}
-use Rattle.csl.specs.Decode.{tyOf, tysOf}
 use Rattle.csl.specs.Values.{asNat}
 use Rattle.csl.specs.Table.{isZero}
 use Rattle.units.specs.Cells.{numberBelow, partiesIn}
