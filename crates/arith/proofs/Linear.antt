@@ -33,14 +33,6 @@ unfolding up dn
 parts (pos n) = record { one = omega arith; abs = omega arith; size = omega arith }
 parts (negsuc n) = record { one = omega arith; abs = omega arith; size = omega arith }
 
-pub up-pos : (n : ℕ) → up (pos n) ≡ n
-unfolding up
-up-pos n = refl
-
-pub dn-pos : (n : ℕ) → dn (pos n) ≡ 0
-unfolding dn
-dn-pos n = refl
-
 diff : (a b : ℕ) → up (subℕ a b) + b ≡ dn (subℕ a b) + a
 unfolding up dn
 diff a b = by (λ t. up (cond t (negsuc (b - suc a)) (pos (a - b))) + b ≡ dn

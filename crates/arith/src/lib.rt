@@ -102,7 +102,7 @@ pub fn in_range(x: i64) -> bool
 }
 
 // The value is of the type with this number, in its range.
-pub fn value_ok(ty: usize, value: i64, parties: usize) -> bool
+fn value_ok(ty: usize, value: i64, parties: usize) -> bool
     ensures { λ r. ⌜ r ≡ valueOk parties (tyOf ty) value ⌝ }
 {
     if ty == 1 {

@@ -146,7 +146,8 @@ module _ {places s : List ℕ} (x : Indexed places s) {k b a e : ℕ} (f : k ≡
             ∙ sym (length-take-le n vs m) ∙ ap length z in
             let ts = tysOf (part s (a + 5) e) in
             v ∙ ap (λ j. valuesOk j ts (take n vs)) u ∙ ap (valuesOk (byte s 8) ts) z
-            ∙ all-given (byte s 8) ts (w .numbers) ∙ sym (typed-some (agreementOf s) w (tysOf (part s (a + 5) e)) (wanted w y)
+            ∙ all-given (byte s 8) ts (w .numbers)
+            ∙ sym (typed-some (agreementOf s) w (tysOf (part s (a + 5) e)) (wanted w y)
             ∙ rw (eq-eqb (length (tysOf (part s (a + 5) e))) (length (w .numbers)) c) refl);
       }
 

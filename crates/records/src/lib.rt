@@ -157,7 +157,7 @@ pub fn append(out: &mut [u8], n: usize, from: &[u8])
     }
 }
 
-fn in_range(low: usize, high: usize, n: usize) -> bool
+fn between(low: usize, high: usize, n: usize) -> bool
     ensures { λ r. ⌜ r ≡ between low high n ⌝ }
 {
     low <= n && n <= high
@@ -167,7 +167,7 @@ fn in_range(low: usize, high: usize, n: usize) -> bool
 pub fn sized(agreement: &[u8]) -> bool
     ensures { λ r. ⌜ r ≡ decode.sized (now (agreement .entry)) ⌝ }
 {
-    if !in_range(4, MOST_BYTES, agreement.len()) {
+    if !between(4, MOST_BYTES, agreement.len()) {
         return false;
     }
     unsigned16(agreement, 0) == agreement.len()
@@ -178,7 +178,7 @@ fn types_ok(types: &[u8]) -> bool
 {
     let mut i = 0;
     while i < types.len() {
-        if !in_range(1, 3, byte(types, i)) {
+        if !between(1, 3, byte(types, i)) {
             return false;
         }
         i += 1;
@@ -287,10 +287,10 @@ fn counts_ok(agreement: &[u8]) -> bool
     if kind(agreement) != 1 {
         return false;
     }
-    if !in_range(1, MOST_PARTIES, byte(agreement, 8)) {
+    if !between(1, MOST_PARTIES, byte(agreement, 8)) {
         return false;
     }
-    if !in_range(1, MOST_READINGS, byte(agreement, 9)) {
+    if !between(1, MOST_READINGS, byte(agreement, 9)) {
         return false;
     }
     byte(agreement, 10) <= MOST_TEMPLATES

@@ -253,15 +253,8 @@ fn running(
     if n == NO_COUNT {
         return State::Damaged;
     }
-    match walk_tree(
-        agreement,
-        places,
-        mains,
-        time,
-        &table[HEAD..TABLE],
-        n,
-        sights,
-    ) {
+    let units = &table[HEAD..TABLE];
+    match walk_tree(agreement, places, mains, time, units, n, sights) {
         Walk::Damaged => State::Damaged,
         Walk::Tree { units: k, bits: _ } => {
             if k != n {

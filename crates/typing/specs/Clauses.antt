@@ -11,8 +11,8 @@ use lib.ListN.{length, take}
 use Rattle.csl.specs.Lists.{_>>=_, need, all, at}
 use Rattle.csl.specs.Bytes.{byte, part, recordEnd}
 use Rattle.csl.specs.Syntax.{Ty, number, truth, Expr, Wait, Head, Clause}
-use Rattle.csl.specs.Decode.{expr, tysOf, waitAt, arguments, recordsEnd, instanceOf, pieces, headsOf, bodyOf, templateOf}
-use Rattle.csl.specs.Decode.{agreementOf}
+use Rattle.csl.specs.Decode.{expr, tysOf, waitAt, arguments, recordsEnd, instanceOf, pieces, headsOf, bodyOf}
+use Rattle.csl.specs.Decode.{templateOf, agreementOf, clause}
 use Rattle.csl.specs.Typing.{Names, blameOk, typeExpr, hasType, haveTypes, readingOfType, thenSight, typeWait}
 use Rattle.csl.specs.Typing.{typeClause, typeTemplate, typeTemplates, namesOf}
 use Rattle.records.specs.Index.{templatePlace, templatePiece, headAt}
@@ -122,6 +122,10 @@ argumentsIn ps types values d s i =
 -- of an instance of template k
 abbrev pub argumentsAt : List ℕ → ℕ → List ℕ → ℕ → List ℕ → ℕ
 argumentsAt g k types d s = argumentsOf (headAt g k) (byte g 8) (tysOf types) (expr d) s
+
+-- the clause that a record is, d depths being left
+abbrev pub clauseOf : List ℕ → ℕ → List ℕ → Clause
+clauseOf g d s = clause (headsOf g) d 0 s
 
 -- the clause that an instance is
 abbrev pub instanceIn : List ℕ → ℕ → List ℕ → Clause

@@ -1,15 +1,15 @@
 // Refusal 3: types of expressions, typing and parties of clauses.
 ghost use mathlib.Core.Path.{_≡_};
-ghost use Prim.Native.Nat.{ℕ, _+_, _≤_, _<_};
+ghost use Prim.Native.Nat.{_+_, _≤_, _<_};
 ghost use mathlib.Core.Option.{some};
 ghost use lib.ListN.{length};
 ghost use Rattle.csl.specs.Bytes as bytes;
 ghost use Rattle.csl.specs.Bytes.{part};
-ghost use Rattle.csl.specs.Decode.{expr, tysOf, waitAt, agreementOf, headsOf, clause};
+ghost use Rattle.csl.specs.Decode.{expr, tysOf, waitAt, agreementOf};
 ghost use Rattle.csl.specs.Typing as typing;
 ghost use Rattle.csl.specs.Typing.{typeExpr};
 ghost use Rattle.typing.specs.Types.{byteType, typeNumber, sightType, recordKind, literalType, leafType, notType, operandType, resultType, operationType};
-ghost use Rattle.typing.specs.Clauses.{seenAs, thenIn, waitTyped, waitIn, firstIn, firstEnd, JoinedSight, argumentsIn, argumentsAt, blamesOf, typedIn, instanceIn, bodyTyped, templateTyped, templatesTyped, holds, typedAs, fulfilledAs, Small, blamedAs, sidesAs, joinedAs};
+ghost use Rattle.typing.specs.Clauses.{seenAs, thenIn, waitTyped, waitIn, firstIn, firstEnd, JoinedSight, argumentsIn, argumentsAt, blamesOf, typedIn, clauseOf, instanceIn, bodyTyped, templateTyped, templatesTyped, holds, typedAs, fulfilledAs, Small, blamedAs, sidesAs, joinedAs};
 ghost use Rattle.records.specs.Index.{Indexed};
 ghost use Rattle.parties.specs.Masks.{maskEnd};
 use arith::byte;
@@ -464,7 +464,7 @@ fn clause_parties(
     depth: usize,
 ) -> Typed
     requires { ⌜ Indexed (now places) (now agreement) × (length (now types) ≤ 16) × (params ≤ 4) ⌝ }
-    ensures { λ r. ⌜ r ≡ typedAs (typedIn (now (agreement .entry)) params (now (types .entry)) (clause (headsOf (now (agreement .entry))) depth 0 (now (s .entry)))) ⌝ }
+    ensures { λ r. ⌜ r ≡ typedAs (typedIn (now (agreement .entry)) params (now (types .entry)) (clauseOf (now (agreement .entry)) depth (now (s .entry)))) ⌝ }
 {
     let kind = record_kind(s, depth);
     match kind {

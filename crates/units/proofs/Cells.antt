@@ -15,7 +15,7 @@ use lib.Bits.{bitOr, or-zero-l, or-add-and, and-le-r}
 use lib.Signed.{mag, ltZ, nonNeg}
 use mir.Syntax.{w64}
 use mir.Val.{Fits, SFits, ofZ}
-use Rattle.arith.proofs.Ints.{seen, index-asked, index-given}
+use Rattle.arith.proofs.Ints.{seen, index-asked, index-given, read}
 use Rattle.arith.proofs.Linear.{not-negative}
 use Rattle.csl.specs.Lists.{_>>=_, need, all}
 use Rattle.csl.specs.Values.{asNat}

@@ -1,10 +1,9 @@
 // The units of a table: what their cells hold to, and the parties of a waiting unit.
 ghost use mathlib.Core.Path.{_≡_};
 ghost use mathlib.Core.Bool.{true, false};
-ghost use mathlib.Core.List.{List, [], _∷_};
+ghost use mathlib.Core.List.{List};
 ghost use mathlib.Core.Option.{none, some};
 ghost use Prim.Native.Nat.{ℕ, _+_, _≤_, _<_};
-ghost use lib.IntN.{pos};
 ghost use lib.ListN.{length, take};
 ghost use Rattle.csl.specs.Lists.{all};
 ghost use Rattle.csl.specs.Decode.{tysOf};
@@ -241,15 +240,8 @@ pub fn waiting_unit(
             if k != kind {
                 return Waiting::Damaged;
             }
-            located_unit(
-                agreement,
-                places,
-                mains,
-                place,
-                params,
-                &types[0..count],
-                cells,
-            )
+            let sight = &types[0..count];
+            located_unit(agreement, places, mains, place, params, sight, cells)
         }
     }
 }

@@ -44,7 +44,8 @@ descend-descend-requires t c κs =
     let at-step-down = at-from .before .before .before .before in
     let at-start = at-step-down .before .before .before .before .before .before in
     let r = into-room (at-step-down .step-down .ensures) (at-from .from .given .1) (at-start .pre .1 .1 .typed) in
-    let l = length-part (at-start .args .s .now) (at-from .from .given .0 .0) (at-from .from .given .0 .1 .0) (r .2) in (
+    let part = at-from .from .given .0 in
+    let l = length-part (at-start .args .s .now) (part .0) (part .1 .0) (r .2) in (
       omega (arith, at-start .pre .0, typed-room (at-start .pre .1 .1 .typed)),
       (
         at-start .pre .1 .0,
@@ -83,12 +84,15 @@ pub +descend-spec : {M : Type 1} → statement M
     (λ c κs. search needs) (λ c. search needs) (λ c. search needs) (λ c. search needs)
     (λ c. let at-step-down = c .before .before .before .before .before in
     let at-start = at-step-down .before .before .before .before .before .before in
-    omega (arith, into-room (at-step-down .step-down .ensures) (c .before .from .given .1) (at-start .pre .1 .1 .typed)))
+    let typed = at-start .pre .1 .1 .typed in
+    omega (arith, into-room (at-step-down .step-down .ensures) (c .before .from .given .1) typed))
     (λ c. let at-step-down = c .before .before .before .before .before in
     let at-start = at-step-down .before .before .before .before .before .before in
-    omega (arith, into-room (at-step-down .step-down .ensures) (c .before .from .given .1) (at-start .pre .1 .1 .typed)))
+    let typed = at-start .pre .1 .1 .typed in
+    omega (arith, into-room (at-step-down .step-down .ensures) (c .before .from .given .1) typed))
     (λ c. let at-step-down = c .before .before .before .before .before in
     let at-start = at-step-down .before .before .before .before .before .before in
-    omega (arith, into-room (at-step-down .step-down .ensures) (c .before .from .given .1) (at-start .pre .1 .1 .typed)))
+    let typed = at-start .pre .1 .1 .typed in
+    omega (arith, into-room (at-step-down .step-down .ensures) (c .before .from .given .1) typed))
     (descend-add-descend t) (descend-descend-requires t) (λ c. search needs) (descend-returns t)
     (λ c. search needs) (descend-returns-2 t) (λ c. search needs) (descend-returns-3 t)

@@ -3,7 +3,6 @@ use borrow.Author.Needs.{needs}
 use mathlib.Core.Path.{refl, sym}
 use Rattle.places.proofs.Steps.{typed-room, choice-here, choice-sees, choice-then, choice-else}
 use Rattle.places.specs.Locate.{StepAt}
-use native.Mathlib.Omega.{arith}
 use Rattle.places.proofs.from_choice.Statement.{statement}
 use Rattle.places.proofs.from_choice.Tie as tie
 
@@ -62,6 +61,7 @@ returns-3 c =
     }
 
 pub from-choice-spec : {M : Type 1} → statement M
-from-choice-spec = tie.close (tie.spec returns (λ c κs. typed-room (c .before .before .before .before .before .pre .0 .1 .typed))
-    (λ c κs. search needs) (λ c. search needs) (λ c κs. search needs) then-sight-requires (λ c. search needs) returns-2
+from-choice-spec = tie.close (tie.spec
+    returns (λ c κs. typed-room (c .before .before .before .before .before .pre .0 .1 .typed)) (λ c κs. search needs)
+    (λ c. search needs) (λ c κs. search needs) then-sight-requires (λ c. search needs) returns-2
     returns-3)

@@ -44,5 +44,6 @@ returns-2 c =
     }
 
 pub from-obligation-spec : {M : Type 1} → statement M
-from-obligation-spec = tie.close (tie.spec returns (λ c κs. typed-room (c .before .before .before .before .before .pre .0 .1 .typed))
-    (λ c κs. search needs) then-sight-requires (λ c. search needs) returns-2)
+from-obligation-spec = tie.close (tie.spec
+    returns (λ c κs. typed-room (c .before .before .before .before .before .pre .0 .1 .typed)) (λ c κs. search needs)
+    then-sight-requires (λ c. search needs) returns-2)

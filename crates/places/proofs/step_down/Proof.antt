@@ -39,12 +39,25 @@ returns-5 c =
           (at-kind .kind .ensures) (c .if2 .left);
     }
 
+from-obligation-requires : tie.Need-from-obligation-requires
+from-obligation-requires c κs =
+    let at-kind = c .before .before in
+    (at-kind .before .before .before .before .before .pre, sym (at-kind .kind .ensures) ∙ c .before .match .keys1)
+
+from-choice-requires : tie.Need-from-choice-requires
+from-choice-requires c κs =
+    let at-kind = c .before .before in
+    (at-kind .before .before .before .before .before .pre, sym (at-kind .kind .ensures) ∙ c .before .match .keys2)
+
+returns-3 : tie.Need-returns-3
+returns-3 c =
+    let at-start = c .before .before .before .before .before .before .before .before .before in
+    c .from-sides .ensures (at-start .args .agreement .now) (at-start .args .types .now)
+
 pub step-down-spec : {M : Type 1} → statement M
 step-down-spec = tie.close (tie.spec
     (λ c κs. search needs)
-    (λ c κs. (c .before .before .before .before .before .before .before .pre, sym (c .before .before .kind .ensures) ∙ c .before .match .keys1))
-    (λ c κs. (c .before .before .before .before .before .before .before .pre, sym (c .before .before .kind .ensures) ∙ c .before .match .keys2))
-    from-sides-requires
+    from-obligation-requires from-choice-requires from-sides-requires
     (λ c. search needs) (λ c. c .before .before .from-obligation .ensures)
     (λ c. search needs) (λ c. c .before .before .from-choice .ensures)
-    (λ c. c .from-sides .ensures (c .before .before .before .before .before .before .before .before .before .args .agreement .now) (c .before .before .before .before .before .before .before .before .before .args .types .now)) returns-4 returns-5)
+    returns-3 returns-4 returns-5)

@@ -7,11 +7,11 @@ use Rattle.records.proofs.sized.Tie as tie
 returns : tie.Need-returns
 returns c =
     let at-start = c .before .before .before in
-    sized-no (at-start .args .agreement .now) (c .before .in-range .ensures) (c .if1 .taken)
+    sized-no (at-start .args .agreement .now) (c .before .between .ensures) (c .if1 .taken)
 
 returns-2 : tie.Need-returns-2
 returns-2 c =
-    let b = c .before .before in sized-yes (b .before .before .args .agreement .now) (b .in-range .ensures)
+    let b = c .before .before in sized-yes (b .before .before .args .agreement .now) (b .between .ensures)
     (c .before .if1 .left) (c .unsigned16 .ensures .0)
 
 pub sized-spec : {M : Type 1} → statement M

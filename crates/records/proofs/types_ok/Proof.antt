@@ -24,14 +24,14 @@ returns : tie.Need-returns Inv-loop μ-loop
 returns c =
     let b = c .before .before in let l = b .before .before in types-no (l .before .before .args .types .now)
     (l .loop .i) (l .loop .inv .1) (b .before .loop-test .taken) (b .byte .ensures .0)
-    (c .before .in-range .ensures) (c .if1 .taken)
+    (c .before .between .ensures) (c .if1 .taken)
 
 loop-again : tie.Need-loop-again Inv-loop μ-loop
 loop-again c =
     let b = c .before .before in let l = b .before .before in (
       omega arith,
       types-more (l .before .before .args .types .now) (l .loop .i) (l .loop .inv .1)
-          (b .before .loop-test .taken) (b .byte .ensures .0) (c .before .in-range .ensures) (c .if1 .left),
+          (b .before .loop-test .taken) (b .byte .ensures .0) (c .before .between .ensures) (c .if1 .left),
     )
 
 returns-2 : tie.Need-returns-2 Inv-loop μ-loop

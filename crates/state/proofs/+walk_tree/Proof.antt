@@ -86,7 +86,9 @@ module _ (t : ℕ) where
   join-kind c = c .before .kind2 .given .0 .0
 
   join-first : (c : Joins) → JoinsFirst (joinOf (join-kind c)) (begun c .args .cells .now)
-  join-first c = is-joins (begun c .args .cells .now) (c .before .before .before .first-unit .ensures) (c .before .kind2 .given .1)
+  join-first c =
+      let first-unit = c .before .before .before .first-unit in
+      is-joins (begun c .args .cells .now) (first-unit .ensures) (c .before .kind2 .given .1)
 
   -- ---- the left side: its tree, the sights after it, and the room that it leaves
   abbrev left-units : LeftRead → ℕ
@@ -149,7 +151,8 @@ module _ (t : ℕ) where
   read-unit-requires c κs =
       let s = c .before .before .before .before .before .before .before .before .before in
       let f = front s (c .before .before .before .before .before .if1 .left) in
-      let w = is-waits (s .args .cells .now) (c .before .before .before .before .first-unit .ensures) (c .before .before .kind .given .1) in (
+      let first-unit = c .before .before .before .before .first-unit in
+      let w = is-waits (s .args .cells .now) (first-unit .ensures) (c .before .before .kind .given .1) in (
         s .pre .1 .0,
         record { soon = s .pre .1 .1 .soon; isKind = w .0; long = f .0; first = w .1; room = f .1 },
       )
@@ -217,7 +220,8 @@ module _ (t : ℕ) where
       let s = begun j .args in
       left-damaged (s .agreement .now) (s .time) (s .n) (s .cells .now) (join-first j)
       (c .before .before .before .before .walk-tree .last .1 .1 .1 .1 .1 .1 .0) _
-      (rw (part-from 24 (s .cells .now)) at (c .before .before .before .before .walk-tree .ensures)) (c .enum-told2 .given .1)
+      (rw (part-from 24 (s .cells .now)) at (c .before .before .before .before .walk-tree .ensures))
+      (c .enum-told2 .given .1)
 
   -- the right side is damaged
   returns-3 : walk-tree-lts.Need-returns-3 (claims t) (walk-tree-at t) walk-tree.Post
@@ -226,7 +230,8 @@ module _ (t : ℕ) where
       let s = begun (joins l) .args in
       right-damaged (s .agreement .now) (s .time) (s .n) (s .cells .now) (join-first (joins l))
       (c .before .before .before .before .walk-tree2 .last .1 .1 .1 .1 .1 .1 .0) _ (left-tree l)
-      (rw (part-from (24 + 24 * left-units l) (s .cells .now)) at (c .before .before .before .before .walk-tree2 .ensures))
+      (rw (part-from (24 + 24 * left-units l) (s .cells .now)) at
+      (c .before .before .before .before .walk-tree2 .ensures))
       (c .enum-told3 .given .1)
 
   -- no unit
@@ -237,7 +242,10 @@ module _ (t : ℕ) where
 
   -- a unit that waits
   returns-5 : walk-tree-lts.Need-returns-5 (claims t) (walk-tree-at t) walk-tree.Post
-  returns-5 c = c .before .before .read-unit .ensures (c .before .before .before .before .before .before .before .before .before .before .before .before .args .n) (omega (arith, c .before .before .before .before .before .before .before .before .if1 .left))
+  returns-5 c =
+      let at-if1 = c .before .before .before .before .before .before .before .before in
+      let at-start = at-if1 .before .before .before .before in
+      c .before .before .read-unit .ensures (at-start .args .n) (omega (arith, at-if1 .if1 .left))
 
   -- a join
   returns-6 : walk-tree-lts.Need-returns-6 (claims t) (walk-tree-at t) walk-tree.Post

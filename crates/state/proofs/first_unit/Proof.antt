@@ -43,7 +43,7 @@ returns-4 c =
     (λ l u. omega (arith, c .if4 .taken)))
 
 -- a join's kind
-join-kind : (c : tie.Else4) → let k = c .before .before .before .before in (20 ≤ k .number-below .result) × (k .number-below .result < 22)
+join-kind : (c : tie.Else4) → let k = c .before .before .before .before .number-below .result in (20 ≤ k) × (k < 22)
 join-kind c = (
   omega (arith, c .before .if3 .left, c .before .before .if2 .left),
   omega (arith, c .if4 .left, c .before .before .before .before .number-below .ensures .1),

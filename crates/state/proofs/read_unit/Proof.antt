@@ -14,8 +14,8 @@ waiting-unit-requires c κs =
 returns : tie.Need-returns
 returns c =
     let s = c .before .before .before .before .before .before .before in λ n some-units. waits-not
-    (s .args .agreement .now) (s .args .time) n (s .args .cells .now) (s .args .kind) (s .pre .1 .first) (s .pre .1 .isKind)
-    (s .args .sights .now) (c .before .before .waiting-unit .ensures) (c .enum-told .given .1)
+    (s .args .agreement .now) (s .args .time) n (s .args .cells .now) (s .args .kind) (s .pre .1 .first)
+    (s .pre .1 .isKind) (s .args .sights .now) (c .before .before .waiting-unit .ensures) (c .enum-told .given .1)
 
 returns-2 : tie.Need-returns-2
 returns-2 c =

@@ -21,8 +21,8 @@ returns c =
     let unit-cells = c .before .before .unit-cells in
     let at-byte = c .before .before .before .before in
     let at-start = at-byte .before .before .before .before in
-    located-not (at-start .pre .0 .isAccepted) (at-start .pre .1) (at-start .args .cells .now) (at-byte .byte .ensures .0)
-    (unit-cells .ensures .1 (not-true (unit-cells .result) (c .if1 .taken)))
+    located-not (at-start .pre .0 .isAccepted) (at-start .pre .1) (at-start .args .cells .now)
+    (at-byte .byte .ensures .0) (unit-cells .ensures .1 (not-true (unit-cells .result) (c .if1 .taken)))
 
 part-clause-parties-end-2 : tie.Need-part-clause-parties-end-2
 part-clause-parties-end-2 c =

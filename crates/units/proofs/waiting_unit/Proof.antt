@@ -14,8 +14,8 @@ returns : tie.Need-returns
 returns c =
     let number-below-arg = c .before .before .number-below-arg in
     let at-start = c .before .before .before .before .before in
-    wait-negative (at-start .pre .0 .isAccepted) (at-start .args .time) (at-start .args .kind) (at-start .args .cells .now)
-    (at-start .pre .3) (number-below-arg .given)
+    wait-negative (at-start .pre .0 .isAccepted) (at-start .args .time) (at-start .args .kind)
+    (at-start .args .cells .now) (at-start .pre .3) (number-below-arg .given)
     (c .before .number-below .ensures .0 ∙ ap (numberBelow 9_223_372_036_854_775_808)
     (read! (number-below-arg .given))) (c .if1 .taken)
 
@@ -50,8 +50,8 @@ returns-4 c =
     (at-locate .locate .last .1 .1 .1 .0) (at-locate .locate .ensures) (c .before .before .k .given .1)
     (at-start .pre .2) (c .if4 .taken)
 
-part-located-unit-end : tie.Need-part-located-unit-end
-part-located-unit-end c =
+part-sight-end : tie.Need-part-sight-end
+part-sight-end c =
     let at-k = c .before .before .before in
     let at-locate = at-k .before .before .before in
     let at-if2 = at-locate .before .before .before .before in
@@ -97,8 +97,9 @@ returns-5 c =
     let at-if1 = at-if2 .before .before .before in
     let number-below = at-if1 .before .number-below in
     let at-start = at-if1 .before .before .before .before .before in
-    wait-nowhere (at-start .pre .0 .isAccepted) (at-start .args .time) (at-start .args .kind) (at-start .args .cells .now)
-    (at-start .pre .3) (at-if2 .before .number-below2 .ensures .0 ∙ ap (numberBelow (at-start .args .time + 1))
+    wait-nowhere (at-start .pre .0 .isAccepted) (at-start .args .time) (at-start .args .kind)
+    (at-start .args .cells .now) (at-start .pre .3)
+    (at-if2 .before .number-below2 .ensures .0 ∙ ap (numberBelow (at-start .args .time + 1))
     (read! (at-if2 .before .before .number-below-arg2 .given))) (at-if2 .if2 .left)
     (number-below .ensures .0 ∙ ap (numberBelow 9_223_372_036_854_775_808)
     (read! (at-if1 .before .before .number-below-arg .given))) (number-below .ensures .1) (at-if1 .if1 .left)
@@ -113,8 +114,8 @@ returns-6 c =
     let number-below = at-number-below-arg2 .before .before .number-below in
     let at-number-below-arg = at-number-below-arg2 .before .before .before in
     let at-start = at-number-below-arg .before .before .before in
-    wait-located (at-start .pre .0 .isAccepted) (at-start .args .time) (at-start .args .kind) (at-start .args .cells .now)
-    (at-start .pre .3) (at-unsigned32 .before .before .number-below2 .ensures .0 ∙ ap
+    wait-located (at-start .pre .0 .isAccepted) (at-start .args .time) (at-start .args .kind)
+    (at-start .args .cells .now) (at-start .pre .3) (at-unsigned32 .before .before .number-below2 .ensures .0 ∙ ap
     (numberBelow (at-start .args .time + 1)) (read! (at-number-below-arg2 .number-below-arg2 .given)))
     (at-unsigned32 .before .if2 .left) (number-below .ensures .0 ∙ ap (numberBelow 9_223_372_036_854_775_808)
     (read! (at-number-below-arg .number-below-arg .given))) (number-below .ensures .1)
@@ -128,4 +129,4 @@ waiting-unit-spec = tie.close (tie.spec
     (λ c. search needs) (λ c κs. search needs) returns (λ c. search needs) (λ c. search needs)
     (λ c κs. search needs) returns-2 (λ c κs. search needs) returns-3 (λ c. search needs)
     (λ c κs. search needs) (λ c. search needs) (λ c. search needs) returns-4 (λ c. search needs)
-    (λ c. search needs) part-located-unit-end located-unit-requires returns-5 returns-6)
+    (λ c. search needs) part-sight-end located-unit-requires returns-5 returns-6)

@@ -1,7 +1,7 @@
 -- Both tests together are the definition's.
 use Rattle.records.proofs.Listed.{range-on, range-off}
-use Rattle.records.proofs.in_range.Statement.{statement}
-use Rattle.records.proofs.in_range.Tie as tie
+use Rattle.records.proofs.between.Statement.{statement}
+use Rattle.records.proofs.between.Tie as tie
 
 returns : tie.Need-returns
 returns c =
@@ -13,5 +13,5 @@ returns-2 c =
     let at-start = c .before in
     range-off (at-start .args .low) (at-start .args .high) (at-start .args .n) (c .if1 .left)
 
-pub in-range-spec : {M : Type 1} → statement M
-in-range-spec = tie.close (tie.spec returns returns-2)
+pub between-spec : {M : Type 1} → statement M
+between-spec = tie.close (tie.spec returns returns-2)
