@@ -41,7 +41,7 @@ unfolding natOf
 time-cell {t = t} h = rw (toZ-pos w64 t (omega arith)) (refl, refl)
 
 -- the cells behind the head
-behind-head : (us : List ℤ) → take (length us - 8) (drop 8 us) ≡ drop 8 us
+pub behind-head : (us : List ℤ) → take (length us - 8) (drop 8 us) ≡ drop 8 us
 behind-head us = take-all (length us - 8) (drop 8 us) (rw (length-drop 8 us) (omega arith))
 
 -- ---- the units that an answer counts

@@ -1,17 +1,17 @@
 -- Laws for a forecast.
 use mathlib.Core.Path.{_≡_, sym, ap, ap₂, subst, _∙_}
 use mathlib.Core.List.{List, [], _∷_}
-use Prim.Native.Nat.{ℕ, _*_, _^_, _<_}
+use Prim.Native.Nat.{ℕ, _-_, _*_, _^_, _<_}
 use native.Mathlib.Omega.{arith}
 use lib.Dec.{le→leb}
 use lib.IntN.{ℤ, pos}
 use lib.Signed.{mag, _≤ℤ_}
-use lib.ListN.{length, drop}
+use lib.ListN.{length, take, drop}
 use Rattle.arith.proofs.Ints.{seen, read! }
 use Rattle.csl.specs.Parties.{members}
 use Rattle.csl.specs.Decode.{agreementOf}
 use Rattle.csl.specs.Check.{checked, accepted}
-use Rattle.csl.specs.Outcomes.{Residue, units}
+use Rattle.csl.specs.Outcomes.{units}
 use Rattle.csl.specs.Entries as entries
 use Rattle.csl.specs.Entries.{forecastOf}
 use Rattle.soundness.proofs.Bits.{bits-members}
@@ -22,8 +22,7 @@ use Rattle.places.specs.Locate.{mainsOf}
 use Rattle.bridge.proofs.Across.{forecast-across}
 use Rattle.bridge.proofs.Entries.{foretold, forecast-done, forecast-breach, forecast-running}
 use Rattle.rules.specs.Reduces.{Is}
-use Rattle.rules.specs.declared.Event.{Event}
-use Rattle.rules.specs.declared.Step.the-variants.{Forecast}
+use Rattle.rules.specs.Tree.{Tree, treeReduced}
 use Rattle.rules.specs.declared.Reduced.{Reduced}
 use Rattle.rules.specs.declared.Reduced.the-variants.{Done, Breach, Running}
 use Rattle.rules.proofs.Reduces.{is-done, is-breach, is-running}
@@ -31,8 +30,8 @@ use Rattle.rules.proofs.Trees.{tree-only}
 use Rattle.monitor.specs.declared.Foretold.the-variants.{Nothing, Breach as breachForetold}
 use Rattle.monitor.specs.declared.Run.the-variants as run
 use Rattle.monitor.specs.Answers.{forecastAnswer}
-use Rattle.monitor.specs.Steps.{Opened, Due, reduced}
-use Rattle.monitor.proofs.Begins.{short}
+use Rattle.monitor.specs.Steps.{Opened}
+use Rattle.monitor.proofs.Advances.{behind-head}
 use Rattle.monitor.proofs.Opens.{accepts}
 use Rattle.monitor.proofs.Tabled.{founds, sighted}
 use Rattle.monitor.proofs.Follows.{residue-sights, units-ready}
@@ -49,9 +48,6 @@ module _ {t : ℤ} {u : ℕ} (fits : mag t < 2 ^ 63) (is : t ≡ pos u) where
       same h = cc
 
 -- ---- a running run, without readings
-abbrev aheadEvent : Event
-aheadEvent = record { step = Forecast; time = 0; sort = 0 }
-
 module _ {s places : List ℕ} {us : List ℤ} {sights : List ℕ} {n : ℕ}
     (o : Opened s places us sights (run.Running n)) where
   record Given : Type 0 where
@@ -78,20 +74,14 @@ module _ {s places : List ℕ} {us : List ℤ} {sights : List ℕ} {n : ℕ}
         ends = f .1;
       }
 
-  pub ahead-due : Due s places sights us n aheadEvent []
-  ahead-due = record {
-    indexed = o .goes .indexed;
-    short = short (o .goes);
-    isTable = o .isTable;
-    few = omega arith;
-    soon = omega arith;
-    units = record { tree = units-ready o; outcome = ahead .given; one = ahead .is };
-  }
+  pub ahead-tree : Tree (length s) sights (take (length us - 8) (drop 8 us)) n
+  ahead-tree = rw (behind-head us) (units-ready o)
 
-  module _ (r : Reduced) (out : List ℤ) (h : Is (reduced s sights us n aheadEvent []) r out) where
+  module _ (r : Reduced) (out : List ℤ)
+      (h : Is (treeReduced cells.forecasting s n sights (take (length us - 8) (drop 8 us))) r out) where
     is-for : {q : Reduced} → r ≡ q → Is (ahead .given) q out
-    unfolding reduced
-    is-for e = subst (λ q. Is (ahead .given) q out) e (subst (λ x. Is x r out) (tree-only (ahead .is)) h)
+    is-for e = subst (λ q. Is (ahead .given) q out) e (subst (λ x. Is x r out)
+        (tree-only (ap (table.across cells.forecasting s n sights) (behind-head us) ∙ ahead .is)) h)
 
     pub ahead-none : r ≡ Done → forecastAnswer Nothing ≡ forecastOf s us
     unfolding foretold
