@@ -10,7 +10,6 @@ use lib.ListN.{length, take, drop}
 use Rattle.arith.proofs.Ints.{seen, read! }
 use Rattle.csl.specs.Parties.{members}
 use Rattle.csl.specs.Decode.{agreementOf}
-use Rattle.csl.specs.Check.{checked, accepted}
 use Rattle.csl.specs.Outcomes.{units}
 use Rattle.csl.specs.Entries as entries
 use Rattle.csl.specs.Entries.{forecastOf}
