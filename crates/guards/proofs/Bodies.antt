@@ -16,7 +16,7 @@ use Rattle.csl.specs.Guards.{guardedIn, guardedFrom}
 use Rattle.csl.specs.Widths.{width, widthsFrom}
 use Rattle.records.specs.Index.{templatePlace, Spans}
 use Rattle.records.proofs.Index.{piece, all-pieces, pieces-more, body-is}
-use Rattle.guards.specs.Walk.{Formed, Answers, bodyAt, Spans}
+use Rattle.guards.specs.Walk.{Formed, Answers, bodyAt}
 use Rattle.laws.proofs.Bools.{both-true, T→true, true→T}
 
 -- ---- the main clause and each body are whole

@@ -2,7 +2,7 @@
 use mathlib.Core.Path.{_≡_, refl, sym, ap, subst, _∙_}
 use mathlib.Core.Bool.{Bool, true, false}
 use mathlib.Core.Logic.{inl, inr, _⊎_}
-use mathlib.Core.List.{List, [], _∷_}
+use mathlib.Core.List.{List}
 use Prim.Native.Nat.{ℕ, _-_, _*_, _/_, _≤_, _<_, min}
 use native.Mathlib.Omega.{arith}
 use borrow.Author.Tests.{le-leb, lt-ltb, le-ltb}
@@ -16,16 +16,13 @@ use lib.ListN.{length, take, drop, length-drop}
 use lib.Seq.{take-all}
 use Rattle.cells.specs.Reduce as cells
 use Rattle.cells.specs.Across.{natOf}
-use Rattle.bridge.proofs.Tables as bridge
 use Rattle.bridge.proofs.Tables.{unitsIn}
 use Rattle.bridge.proofs.Refusals.{answer}
 use Rattle.bridge.proofs.Entries.{keptCells}
-use Rattle.residues.specs.Reduces.{Is}
+use Rattle.residues.specs.Reduces.{Is, unitsOf, bitsIn}
 use Rattle.waits.specs.Fates.{modeAt}
 use Rattle.walk.specs.Tree.{Tree, treeReduced}
-use Rattle.settling.specs.Settles as settling
 use Rattle.settling.specs.Settles.{Settles}
-use Rattle.residues.specs.Reduces.{unitsOf, bitsIn}
 use Rattle.waits.specs.declared.Event.{Event}
 use Rattle.waits.specs.declared.Step.{Step}
 use Rattle.waits.specs.declared.Step.the-variants.{Activate, Forecast, Follow}
@@ -42,7 +39,7 @@ unfolding natOf
 time-cell {t = t} h = rw (toZ-pos w64 t (omega arith)) (refl, refl)
 
 -- the cells behind the head
-behind-head : (us : List ℤ) → take (length us - 8) (drop 8 us) ≡ drop 8 us
+pub behind-head : (us : List ℤ) → take (length us - 8) (drop 8 us) ≡ drop 8 us
 behind-head us = take-all (length us - 8) (drop 8 us) (rw (length-drop 8 us) (omega arith))
 
 -- ---- the units that an answer counts
@@ -81,12 +78,6 @@ module _ (out : List ℤ) where
   units-counted (cells.breach u c) (Running n) i = absurd i
   units-counted (cells.running cs) (Running n) i = counted (i .units) (i .count)
 
-same-table : (now : ℕ) (x : cells.Reduced) → settling.reducedTable now x ≡ bridge.reducedTable now x
-unfolding settling.reducedTable bridge.reducedTable
-same-table now cells.done = refl
-same-table now (cells.breach t b) = refl
-same-table now (cells.running cs) = refl
-
 module _ (r : Reduced) (out : List ℤ) (x : cells.Reduced) (i : Is x r out) (now : ℕ) (before : List ℤ) where
   kept-over : 128 < unitsOf r → answer 11 before ≡ keptCells now before x
   unfolding keptCells
@@ -98,7 +89,6 @@ module _ (r : Reduced) (out : List ℤ) (x : cells.Reduced) (i : Is x r out) (no
   kept-few settles h = rw (
     few-units out x r i h,
     settles .wrote (settles .fits ∙ le-leb (unitsOf r) 128 h) x i,
-    same-table now x,
   ) refl
 
 -- ---- what an event makes of the main clause or of units

@@ -26,12 +26,6 @@ use Rattle.activation.specs.declared.Site.{Site}
 use Rattle.waits.specs.declared.Step.the-variants.{Activate}
 use Rattle.residues.specs.declared.Reduced.{Reduced}
 use Rattle.monitor.specs.declared.Refusal.the-variants.{Units}
-use Rattle.rules.specs.Reduces.{Is}
-use Rattle.rules.specs.Leads.{Ready, Fits, reduceAt, reduceBelow}
-use Rattle.rules.specs.declared.Event.{Event}
-use Rattle.rules.specs.declared.Site.{Site}
-use Rattle.rules.specs.declared.Step.the-variants.{Activate}
-use Rattle.rules.specs.declared.Reduced.{Reduced}
 use Rattle.monitor.specs.declared.Started.the-variants.{Begun, Refused as refusedStart}
 use Rattle.monitor.specs.Answers.{startAnswer}
 use Rattle.monitor.specs.Steps.{Goes, mainReduced, Due, reduced, advanced, Advances}

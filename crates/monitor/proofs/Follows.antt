@@ -30,6 +30,7 @@ use Rattle.soundness.proofs.ReadBack.{table-back}
 use Rattle.cells.specs.Reduce as cells
 use Rattle.cells.specs.Across as table
 use Rattle.places.specs.Locate.{mainsOf}
+use Rattle.laws.proofs.Integers.{pos-inj}
 use Rattle.bridge.proofs.Across.{follow-across}
 use Rattle.bridge.proofs.Tables as bridge
 use Rattle.bridge.proofs.Refusals.{answer}
@@ -262,6 +263,6 @@ module _ {s places : List ℕ} {us : List ℤ} {sights : List ℕ} {r : Run} (o 
           inOrder = λ now e. omega (
             arith,
             ltb-false time (shown .run .lastTime) (sym (earlier ez eb) ∙ t),
-            same-number (sym e ∙ shown .cell),
+            pos-inj (sym e ∙ shown .cell),
           );
         }

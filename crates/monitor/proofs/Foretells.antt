@@ -1,12 +1,12 @@
 -- Laws for a forecast.
 use mathlib.Core.Path.{_≡_, sym, ap, ap₂, subst, _∙_}
 use mathlib.Core.List.{List, [], _∷_}
-use Prim.Native.Nat.{ℕ, _*_, _^_, _<_}
+use Prim.Native.Nat.{ℕ, _-_, _*_, _^_, _<_}
 use native.Mathlib.Omega.{arith}
 use lib.Dec.{le→leb}
 use lib.IntN.{ℤ, pos}
 use lib.Signed.{mag, _≤ℤ_}
-use lib.ListN.{drop}
+use lib.ListN.{drop, length, take}
 use Rattle.arith.proofs.Ints.{seen, read! }
 use Rattle.csl.specs.Parties.{members}
 use Rattle.csl.specs.Decode.{agreementOf}
@@ -22,20 +22,19 @@ use Rattle.places.specs.Locate.{mainsOf}
 use Rattle.bridge.proofs.Across.{forecast-across}
 use Rattle.bridge.proofs.Entries.{foretold, forecast-done, forecast-breach, forecast-running}
 use Rattle.residues.specs.Reduces.{Is}
-use Rattle.waits.specs.declared.Event.{Event}
-use Rattle.waits.specs.declared.Step.the-variants.{Forecast}
 use Rattle.residues.specs.declared.Reduced.{Reduced}
 use Rattle.residues.specs.declared.Reduced.the-variants.{Done, Breach, Running}
 use Rattle.residues.proofs.Reduces.{is-done, is-breach, is-running}
 use Rattle.walk.proofs.Trees.{tree-only}
+use Rattle.walk.specs.Tree.{Tree, treeReduced}
 use Rattle.monitor.specs.declared.Foretold.the-variants.{Nothing, Breach as breachForetold}
 use Rattle.monitor.specs.declared.Run.the-variants as run
 use Rattle.monitor.specs.Answers.{forecastAnswer}
-use Rattle.monitor.specs.Steps.{Opened, Due, reduced}
-use Rattle.monitor.proofs.Begins.{short}
+use Rattle.monitor.specs.Steps.{Opened}
+use Rattle.monitor.proofs.Advances.{behind-head}
 use Rattle.monitor.proofs.Opens.{accepts}
 use Rattle.monitor.proofs.Tabled.{founds, sighted}
-use Rattle.monitor.proofs.Follows.{residue-sights, units-ready, accepts}
+use Rattle.monitor.proofs.Follows.{residue-sights, units-ready}
 
 -- ---- a time u in a cell t, read as m
 module _ {t : ℤ} {u : ℕ} (fits : mag t < 2 ^ 63) (is : t ≡ pos u) where
@@ -46,9 +45,6 @@ module _ {t : ℤ} {u : ℕ} (fits : mag t < 2 ^ 63) (is : t ≡ pos u) where
   time-read e = pos-inj (e ∙ read! fits ∙ is)
 
 -- ---- a running run, without readings
-abbrev aheadEvent : Event
-aheadEvent = record { step = Forecast; time = 0; tag = 0 }
-
 module _ {s places : List ℕ} {us : List ℤ} {sights : List ℕ} {n : ℕ}
     (o : Opened s places us sights (run.Running n)) where
   record Given : Type 0 where
@@ -75,20 +71,14 @@ module _ {s places : List ℕ} {us : List ℤ} {sights : List ℕ} {n : ℕ}
         ends = f .1;
       }
 
-  pub ahead-due : Due s places sights us n aheadEvent []
-  ahead-due = record {
-    indexed = o .goes .indexed;
-    short = short (o .goes);
-    isTable = o .isTable;
-    few = omega arith;
-    soon = omega arith;
-    units = record { tree = units-ready o; outcome = ahead .given; one = ahead .is };
-  }
+  pub ahead-tree : Tree (length s) sights (take (length us - 8) (drop 8 us)) n
+  ahead-tree = rw (behind-head us) (units-ready o)
 
-  module _ (r : Reduced) (out : List ℤ) (h : Is (reduced s sights us n aheadEvent []) r out) where
+  module _ (r : Reduced) (out : List ℤ)
+      (h : Is (treeReduced cells.forecasting s n sights (take (length us - 8) (drop 8 us))) r out) where
     is-for : {q : Reduced} → r ≡ q → Is (ahead .given) q out
-    unfolding reduced
-    is-for e = subst (λ q. Is (ahead .given) q out) e (subst (λ x. Is x r out) (tree-only (ahead .is)) h)
+    is-for e = subst (λ q. Is (ahead .given) q out) e (subst (λ x. Is x r out)
+        (tree-only (ap (table.across cells.forecasting s n sights) (behind-head us) ∙ ahead .is)) h)
 
     pub ahead-none : r ≡ Done → forecastAnswer Nothing ≡ forecastOf s us
     unfolding foretold

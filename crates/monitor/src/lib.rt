@@ -437,14 +437,15 @@ fn breach_ahead(
         time: 0,
         tag: 0,
     };
-    match reduce(
+    let units = &table[HEAD_CELLS..];
+    match across(
         agreement,
         places,
-        sights,
-        table,
-        used,
         event,
         none,
+        sights,
+        units,
+        used,
         &mut out,
     ) {
         Reduced::Done => Foretold::Nothing,

@@ -19,7 +19,6 @@ use Rattle.laws.proofs.Options.{some-inj}
 use Rattle.laws.proofs.Types.{types-append}
 use Rattle.records.specs.Index.{Indexed, readingPlace, pieceAt}
 use Rattle.records.proofs.Index.{readings-at, readings-past, reading-end, reading-types}
-use Rattle.soundness.proofs.Inversion.{some-inj}
 use Rattle.places.specs.Locate.{sightOf, Sees, SeesIn}
 
 -- ---- the types that bytes are

@@ -29,7 +29,7 @@ use Rattle.records.proofs.Index.{readings-at, readings-past, reading-end, readi
 use Rattle.readings.specs.declared.Raw.{Raw}
 use Rattle.readings.specs.declared.Raw.the-variants.{Malformed, Read}
 use Rattle.readings.specs.Taking.{given, RawRead, RawIs, TypedIs, UntypedRead, FittingRead}
-use Rattle.readings.proofs.Options.{some-inj, given-some, given-none, given-then, from-bind, from-need}
+use Rattle.readings.proofs.Options.{given-some, given-none, given-then}
 use Rattle.arith.specs.Values.{valuesOk}
 use Rattle.readings.proofs.Values.{all-given, values-cells}
 

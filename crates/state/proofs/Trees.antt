@@ -38,8 +38,8 @@ use Rattle.units.specs.declared.Waiting.the-variants.{Damaged as NoUnit, Of}
 use Rattle.units.specs.Cells.{numberBelow}
 use Rattle.units.specs.Units.{cellsIn, sightNumbers, PartiesOf, WaitingIs, sortOf}
 use Rattle.units.proofs.Cells.{below-is}
-use Rattle.units.proofs.Blames.{at-past, joined-bits, bits-small}
-use Rattle.units.proofs.Waits.{none-is, option-none, split-takes, split-is}
+use Rattle.units.proofs.Blames.{at-past, joined-bits}
+use Rattle.units.proofs.Waits.{option-none, split-takes, split-is}
 use Rattle.state.specs.declared.Walk.{Walk}
 use Rattle.state.specs.declared.Walk.the-variants.{Damaged, Tree}
 use Rattle.state.specs.declared.First.{First}
@@ -366,8 +366,8 @@ module _ (ag : Agreement) where
 -- ---- the first unit
 pub no-kind : (cells : List ℤ) → unitSort (getD cells 0 (pos 0)) ≡ none → FirstIs cells Nothing
 unfolding FirstIs ReadsAs
-no-kind cells e ag (unit s p t v) w = none-is (sym e ∙ w .isSort)
-no-kind cells e ag (both j l r) w = none-is (sym e ∙ w .0 .isSort)
+no-kind cells e ag (unit s p t v) w = none-some (sym e ∙ w .isSort)
+no-kind cells e ag (both j l r) w = none-some (sym e ∙ w .0 .isSort)
 
 -- r is what the code found
 pub is-waits : (cells : List ℤ) {r : First} {k : ℕ} → FirstIs cells r → r ≡ Waits k

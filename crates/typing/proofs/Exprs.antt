@@ -21,7 +21,7 @@ use Rattle.csl.specs.Decode.{numberKind, truthKind, partyKind, variableKind, ex
 use Rattle.csl.specs.Decode.{ofLength, expr, tyOf, tysOf}
 use Rattle.csl.specs.Typing.{typeExpr, sameTy, operand, result}
 use Rattle.laws.proofs.Bools.{by}
-use Rattle.arith.proofs.Ints.{some-bits, seen, read!, by}
+use Rattle.arith.proofs.Ints.{some-bits, seen, read! }
 use Rattle.arith.proofs.Bytes.{whole-from}
 use Rattle.records.proofs.Trees.{kind-leaf, kind-not, kind-binary, kind-no-expr-low, kind-no-expr-high}
 use Rattle.records.specs.Kinds.{leafKind, opOf, arithmeticOf}

@@ -30,7 +30,7 @@ use Rattle.typing.specs.Clauses.{namesIn, isTyped, argumentsAs, argument
 use Rattle.typing.specs.declared.Typed.{Typed}
 use Rattle.typing.specs.declared.Typed.the-variants.{Parties, Untyped}
 use Rattle.typing.proofs.Exprs.{byte-type}
-use Rattle.typing.proofs.Sights.{has-is, parties-is, namesIn}
+use Rattle.typing.proofs.Sights.{has-is, parties-is}
 
 -- what stands behind the first
 rest-is : (v : ℕ) (vs : List ℕ) → part (v ∷ vs) 1 (length (v ∷ vs)) ≡ vs

@@ -22,7 +22,6 @@ use Rattle.arith.proofs.Lists.{length-part}
 use Rattle.arith.proofs.Bytes.{record-end-within}
 use Rattle.records.specs.Index.{Indexed, readingPlace}
 use Rattle.records.proofs.Index.{readings-at, readings-past, reading-facts, reading-end, reading-types}
-use Rattle.arith.proofs.Ints.{by}
 use Rattle.typing.specs.Types.{tyNumber, typeNumber}
 use Rattle.typing.specs.Clauses.{namesIn, seenAs, thenOf, isTyped, waitTyped, waitSight, firstSight}
 use Rattle.typing.specs.Clauses.{JoinedSight}

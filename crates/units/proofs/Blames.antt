@@ -31,9 +31,8 @@ use Rattle.records.specs.Index.{firstClause, headAt, pieceAt, templatePlace}
 use Rattle.records.proofs.Trees.{clause-at, clause-wait, clause-two, sided, kind-fulfilled, kind-instance}
 use Rattle.records.proofs.Trees.{kind-no-clause-low, kind-no-clause-high, whole-deep, whole-record}
 use Rattle.records.proofs.Index.{heads-at, heads-past}
-use Rattle.parties.proofs.Members.{member-self, member-tail, bits-nil, bits-append}
+use Rattle.parties.proofs.Members.{member-tail, bits-nil}
 use Rattle.parties.proofs.Masks.{bits-members, bits-small}
-use Rattle.soundness.proofs.Inversion.{from-bind, from-need, some-inj}
 use Rattle.soundness.proofs.Members.{stand-++}
 use Rattle.places.specs.Locate.{clauseIn}
 use Rattle.units.specs.Blames.{declaredBy, blamesOf, WholeIn, PartiesAre}

@@ -10,7 +10,7 @@ use Rattle.arith.proofs.Lists.{length-part}
 use Rattle.csl.specs.Decode.{joinOf}
 use Rattle.state.specs.Tree.{JoinsFirst, TreeAs}
 use Rattle.state.proofs.Trees.{no-units, no-first, is-waits, is-joins, left-damaged, right-damaged, tree-of}
-use Rattle.state.proofs.Trees.{tree-bits, part-from, lent, lent-length, lent-room, sides-read}
+use Rattle.state.proofs.Trees.{tree-bits, lent, lent-length, lent-room, sides-read}
 use Rattle.laws.proofs.Lists.{part-from}
 use borrow.Fn.Kinds.{In}
 use borrow.Fn.PlainCycle.{Measures, is, falls, and}
