@@ -1,20 +1,18 @@
 -- Laws of blames and of an instance's arguments, as the loops over them know things.
 use mathlib.Core.Path.{_≡_, refl, sym, ap, _∙_}
-use mathlib.Core.Bool.{true, false}
+use mathlib.Core.Bool.{true}
 use mathlib.Core.List.{List, [], _∷_, _++_, append-nil}
 use Prim.Native.Nat.{ℕ, zero, suc, _+_, _-_, _≤_, _<_}
 use native.Mathlib.Numerals.{add-one}
 use native.Mathlib.Omega.{arith}
 use lib.IntN.{ℤ, pos, negsuc}
-use lib.Signed.{ltZ, _≤ℤ_}
+use lib.Signed.{ltZ}
 use lib.ListN.{length, getD, take, drop, set}
 use lib.Seq.{take-suc-set, drop-cons, drop-length, append-snoc}
 use borrow.Author.Tests.{ltb-true, lt-ltb, le-ltb, ne-eqb}
 use mir.Syntax.{w64}
-use mir.Val.{SFits, toZ}
+use mir.Val.{toZ}
 use mir.ValLaws.{toZ-pos}
-use Rattle.arith.proofs.Ints.{seen, read}
-use Rattle.arith.proofs.Linear.{ints, parts}
 use Rattle.csl.specs.Bytes.{part, recordEnd}
 use Rattle.csl.specs.Parties.{member, bit, bitsFrom, bitsOf}
 use Rattle.csl.specs.Decode.{expr, arguments, recordsEnd}
@@ -22,15 +20,12 @@ use Rattle.cells.specs.Evaluate.{evalCells, evalsCells}
 use Rattle.cells.specs.Reduce.{partyCell, blamedCell, blamedCells, blameBits}
 
 -- ---- a party's bit
-pub more : {k n : ℕ} → k ≤ n → (n ≡ k → ⊥) → suc k ≤ n
-more h f = omega arith
-
 bits-past : (k i n : ℕ) → i + k ≤ n → bitsFrom k i (n ∷ []) ≡ 0
 unfolding bitsFrom member bit
 bits-past zero i n h = refl
 bits-past (suc k) i n h = rw (ne-eqb i n (λ e. omega arith), bits-past k (suc i) n (omega arith))
 
-pub bits-none : (n : ℕ) → 16 ≤ n → 0 ≡ bitsOf (n ∷ [])
+bits-none : (n : ℕ) → 16 ≤ n → 0 ≡ bitsOf (n ∷ [])
 unfolding bitsOf
 bits-none n h = sym (bits-past 16 0 n h)
 
@@ -42,9 +37,6 @@ blamed-party ps b h = rw (lt-ltb b 128 h) (toZ-pos w64 b (omega arith))
 pub blamed-param : (ps : List ℤ) (b : ℕ) → 128 ≤ b → getD ps (b - 128) (pos 0) ≡ blamedCell ps b
 unfolding blamedCell
 blamed-param ps b h = rw (le-ltb b 128 h)
-
-pub not-below : (x : ℤ) → SFits w64 x → ltZ (seen x) (pos 0) ≡ false → pos 0 ≤ℤ x
-not-below x f h = let e = rw (read f) at h in omega (ints, parts x)
 
 module _ (ps : List ℤ) (b : ℕ) where
   pub bits-below : {x : ℤ} → x ≡ blamedCell ps b → ltZ x (pos 0) ≡ true → 0 ≡ blameBits ps b

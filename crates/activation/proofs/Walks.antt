@@ -12,13 +12,14 @@ use lib.Dec.{eqb}
 use lib.ListN.{length, take, drop}
 use lib.Seq.{drop-at, take-append-le, take-take, length-take-le}
 use borrow.Rule.Slice.PartMut.{putMid}
-use borrow.Author.Tests.{eqb-true, eqb-false, ne-eqb, eq-eqb}
+use borrow.Author.Tests.{eqb-true, eqb-false, ne-eqb, eq-eqb, not-true, not-false}
+use Rattle.laws.proofs.Clash.{impossible}
 use Rattle.arith.specs.Within.{Within}
 use Rattle.arith.proofs.Ints.{seen, read}
 use Rattle.arith.proofs.Numbers.{held-fits}
 use Rattle.arith.proofs.Lists.{length-part, part-part, tail-put}
-use Rattle.arith.proofs.Bytes.{record-end-within, record-end-after}
-use Rattle.records.specs.Index.{Indexed, templatePlace, pieceAt, headAt}
+use Rattle.octets.proofs.Bytes.{record-end-within, record-end-after}
+use Rattle.records.specs.Index.{Indexed, templatePlace, pieceAt, headAt, bodyFrom, bodyTo}
 use Rattle.records.proofs.Index.{piece, heads-at, templates-at, templates-length, template-within}
 use Rattle.csl.specs.Lists.{at}
 use Rattle.csl.specs.Numbers.{Held, laterOf}
@@ -32,10 +33,8 @@ use Rattle.cells.specs.Reduce as cells
 use Rattle.cells.specs.Reduce.{Mode, activating, fate, waits, late, taken, lastOf, thenValues, blamedCells, blameBits}
 use Rattle.records.proofs.Trees.{clause-zero, clause-none, clause-at, kind-no-clause-low, kind-no-clause-high}
 use Rattle.records.proofs.Trees.{kind-fulfilled, kind-join}
-use Rattle.evaluation.proofs.Evaluates.{is-one, is-none}
 use Rattle.waits.specs.Fates.{modeOf, modeAt, FateIs}
 use Rattle.activation.specs.Leads.{Leads, Shaped, Acting, Ended, reduceAt, reduceBelow, bodyIn, templatesOf}
-use Rattle.activation.specs.Leads.{bodyFrom, bodyTo}
 use Rattle.waits.specs.declared.Event.{Event}
 use Rattle.activation.specs.declared.Site.{Site}
 use Rattle.waits.specs.declared.Step.{Step}
@@ -66,8 +65,8 @@ unfolding fate
 taken-follows e rs vs a w f = by-step (e .step) f
   where
     by-step : (s : Step) → fate (modeOf s (e .time) (e .tag) rs) vs a w ≡ taken → s ≡ Follow
-    by-step Activate q = absurd (let z : _≡_ {A = ℕ} 0 1 = cc in omega arith)
-    by-step Forecast q = absurd (let z : _≡_ {A = ℕ} 0 1 = cc in omega arith)
+    by-step Activate q = impossible cc
+    by-step Forecast q = impossible cc
     by-step Follow q = refl
 
 -- ---- obligations and choices
@@ -375,12 +374,12 @@ module _ (e : Event) (rs : List ℤ) (ag : List ℕ) (below : ℕ) (s : List ℕ
     ends-zero h = sym (clause-zero does (headsOf ag) depth place s h does-bad)
 
     pub ends-none : {b : Bool} → (depth ≡ 0 → ⊥) → b ≡ isRecord s → not b ≡ true → does here ≡ cells.done
-    ends-none n g h = sym (clause-none does (headsOf ag) depth place s n g (is-none h) does-bad)
+    ends-none n g h = sym (clause-none does (headsOf ag) depth place s n g (not-true _ h) does-bad)
 
     module _ {b : Bool} {m : ℕ} (n : depth ≡ 0 → ⊥) (g : b ≡ isRecord s) (h : not b ≡ false) (em : m ≡ kindNumber s)
       where
         clause-is : {k : ClauseKind} → clauseKind m ≡ k → bodyIn ag (depth - 1) place s k ≡ here
-        clause-is {k} q = clause-at (λ c. c) (headsOf ag) depth place s n g (is-one h) em
+        clause-is {k} q = clause-at (λ c. c) (headsOf ag) depth place s n g (not-false _ h) em
             (ap (bodyIn ag (depth - 1) place s) (sym q))
 
         ends-low : m ≤ 16 → does here ≡ cells.done
@@ -405,7 +404,7 @@ module _ (e : Event) (rs : List ℤ) (ag : List ℕ) (below : ℕ) (s : List ℕ
         unfolding Shaped
         shaped-acts l u f = record {
           deep = omega (arith, n);
-          isWhole = sym g ∙ is-one h;
+          isWhole = sym g ∙ not-false _ h;
           from = omega arith;
           to = omega arith;
           single = λ x y. f (omega arith) (omega arith);
@@ -520,8 +519,3 @@ module _ (e : Event) (rs : List ℤ) (ag : List ℕ) (below : ℕ) (s : List ℕ
     pub right-ends : (k ≡ 20 → ⊥) → SidesAre Shape.Ends
     unfolding Shaped joinOf
     right-ends x = two ∙ rw (ne-eqb k 20 x, q .is e rs ag (sideSite f) ps vs) (or-done (side 4 f))
-
-pub body-from : (ag : List ℕ) (k : ℕ) {t n : ℕ} → t ≡ templatePlace ag k
-    → n ≡ byte (pieceAt ag (templatePlace ag k)) 4 → t + (8 + n) ≡ bodyFrom ag k
-unfolding bodyPlace
-body-from ag k et en = rw (et, en)

@@ -7,8 +7,8 @@ use lib.IntN.{ℤ, pos}
 use lib.ListN.{length, take, drop}
 use Rattle.csl.specs.Bytes.{byte, part, isRecord, kindNumber, recordEnd}
 use Rattle.csl.specs.Syntax.{Clause, Template}
-use Rattle.csl.specs.Decode.{ClauseKind, clauseBody, clause, expr, headsOf, agreementOf, joinOf, bodyPlace}
-use Rattle.records.specs.Index.{Indexed, templatePlace, pieceAt, headAt}
+use Rattle.csl.specs.Decode.{ClauseKind, clauseBody, clause, expr, headsOf, agreementOf, joinOf}
+use Rattle.records.specs.Index.{Indexed, headAt, bodyFrom, bodyTo}
 use Rattle.cells.specs.Reduce as cells
 use Rattle.cells.specs.Reduce.{Mode, unitOf, joined}
 use Rattle.waits.specs.Fates.{modeAt}
@@ -32,13 +32,6 @@ reduceBelow m ag n c ps vs a = cells.walk m (cells.activate (templatesOf ag))
 -- the clause of kind k that the record s at a place is, d being the depths that are left within it
 abbrev pub bodyIn : List ℕ → ℕ → ℕ → List ℕ → ClauseKind → Clause
 bodyIn ag d place s k = clauseBody (headsOf ag) (expr d) (clause (headsOf ag) d) place s k
-
--- where the body of template k begins and ends
-abbrev pub bodyFrom : List ℕ → ℕ → ℕ
-bodyFrom ag k = templatePlace ag k + bodyPlace (pieceAt ag (templatePlace ag k))
-
-abbrev pub bodyTo : List ℕ → ℕ → ℕ
-bodyTo ag k = recordEnd ag (templatePlace ag k)
 
 -- a record of a clause that acts: an obligation, a choice, an `if` or an instance
 pub record Acting (depth : ℕ) (s : List ℕ) : Type 0 where
@@ -103,6 +96,11 @@ module _ (e : Event) (rs : List ℤ) (ag : List ℕ) (below : ℕ) (s : List ℕ
     Leads (Goes x y b) = GoesOn x y b
     Leads (Takes x y n) = IsTaken x y n
     Leads (Unfolds k) = IsInstance k
+
+-- what a record shows by kinds alone, wherever it stands and whatever is in sight
+abbrev pub Outlined : List ℕ → ℕ → Shape → Type 0
+Outlined s depth r = (e : Event) (rs : List ℤ) (ag : List ℕ) (below place : ℕ) (ps vs : List ℤ) (a : ℕ)
+    → Shaped e rs ag below s place ps vs a depth (clause (headsOf ag) depth place s) r
 
 -- ---- what the code is promised: an indexed agreement, few values, and a time so near that no window within is far
 pub record Ready (places ag : List ℕ) (e : Event) (rs : List ℤ) (t : Site) (ps vs : List ℤ) : Type 0 where

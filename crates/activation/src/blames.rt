@@ -1,46 +1,21 @@
 // The parties that blame bytes stand for.
 ghost use mathlib.Core.Path.{_≡_};
-ghost use mathlib.Core.List.{_∷_, []};
 ghost use Prim.Native.Nat.{_≤_};
 ghost use lib.ListN.{length, take};
-ghost use Rattle.csl.specs.Parties.{bitsOf};
 ghost use Rattle.cells.specs.Reduce.{blamedCell, blamedCells, blameBits};
-use arith::byte;
+use octets::byte;
+use parties::PARAMS_FROM;
+use parties::party_bit;
 use residues::cell;
 
 // The cell of the party that blame byte b stands for: a party, or a party parameter.
 fn blamed(params: &[i64], b: usize) -> i64
     ensures { λ r. ⌜ r ≡ blamedCell (now (params .entry)) b ⌝ }
 {
-    if b < 128 {
+    if b < PARAMS_FROM {
         return b as i64;
     }
-    cell(params, b - 128)
-}
-
-// The bit of party n, or none.
-fn bit(n: usize) -> usize
-    ensures { λ r. ⌜ r ≡ bitsOf (n ∷ []) ⌝ }
-{
-    match n {
-        0 => 1,
-        1 => 2,
-        2 => 4,
-        3 => 8,
-        4 => 16,
-        5 => 32,
-        6 => 64,
-        7 => 128,
-        8 => 256,
-        9 => 512,
-        10 => 1024,
-        11 => 2048,
-        12 => 4096,
-        13 => 8192,
-        14 => 16_384,
-        15 => 32_768,
-        _ => 0,
-    }
+    cell(params, b - PARAMS_FROM)
 }
 
 pub fn blame_bits(params: &[i64], b: usize) -> usize
@@ -50,7 +25,7 @@ pub fn blame_bits(params: &[i64], b: usize) -> usize
     if x < 0 {
         return 0;
     }
-    bit(x as usize)
+    party_bit(x as usize)
 }
 
 // The cells of the parties that blame bytes stand for.

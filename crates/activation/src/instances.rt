@@ -9,18 +9,17 @@ ghost use Rattle.csl.specs.Decode.{expr, recordsEnd, instanceKind};
 ghost use Rattle.csl.specs.Decode as decode;
 ghost use Rattle.cells.specs.Evaluate.{evalsCells};
 ghost use Rattle.records.specs.Index.{Indexed};
-ghost use Rattle.activation.specs.Leads.{Leads, bodyIn, bodyFrom, bodyTo};
+ghost use Rattle.activation.specs.Leads.{Leads, bodyIn};
 use crate::Next;
-use crate::Span;
 use crate::blames::blames;
+use records::IN_SIGHT;
 ghost use Rattle.waits.specs.declared.Event.{Event};
-use arith::byte;
-use arith::record_end;
+use arith::lesser;
 use evaluation::eval;
+use octets::byte;
+use octets::record_end;
 use records::param_count;
-use records::template_place;
 use records::value_count;
-use waits::start;
 
 // The values of n expressions that stand one after another from byte 5 of s, and where the last of them ends.
 fn arguments(s: &[u8], n: usize, values: &[i64], depth: usize, cells: &mut [i64]) -> usize
@@ -32,7 +31,7 @@ fn arguments(s: &[u8], n: usize, values: &[i64], depth: usize, cells: &mut [i64]
     let mut at = 5;
     let mut i = 0;
     while i < n {
-        let a = start(at, s.len());
+        let a = lesser(at, s.len());
         let e = record_end(s, at);
         let x = eval(&s[a..e], values, depth);
         cells[i] = x;
@@ -68,20 +67,6 @@ pub fn instance(
     if at + m != s.len() {
         return Next::Ends;
     }
-    blames(&s[at..], params, &mut cells[16..]);
+    blames(&s[at..], params, &mut cells[IN_SIGHT..]);
     Next::Unfolds(k)
-}
-
-pub fn body(agreement: &[u8], places: &[usize], k: usize) -> Span
-    requires { ⌜ Indexed (now places) (now agreement) × (k < bytes.byte (now agreement) 10) ⌝ }
-    ensures { λ r. ⌜ (r .from ≡ bodyFrom (now (agreement .entry)) k) × (r .to ≡ bodyTo (now (agreement .entry)) k)
-        × (r .from ≤ r .to) × (r .to ≤ length (now (agreement .entry))) ⌝ }
-{
-    let t = template_place(agreement, places, k);
-    let n = value_count(agreement, places, k);
-    let e = record_end(agreement, t);
-    Span {
-        from: t + (8 + n),
-        to: e,
-    }
 }

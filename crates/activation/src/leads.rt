@@ -9,20 +9,21 @@ ghost use Rattle.csl.specs.Numbers.{laterOf};
 ghost use Rattle.csl.specs.Decode.{ifKind, obligationKind, choiceKind, clause, headsOf};
 ghost use Rattle.arith.specs.Within.{Within};
 ghost use Rattle.residues.specs.Reduces.{farthest};
-ghost use Rattle.activation.specs.Leads.{Leads, Ready, Shaped, Acting, Ended, bodyIn};
+ghost use Rattle.activation.specs.Leads.{Leads, Ready, Outlined, Acting, Ended, bodyIn};
 use crate::Next;
 use crate::Shape;
 use crate::Site;
 use crate::blames::blame_bits;
 use crate::instances::instance;
-use arith::byte;
-use arith::is_record;
-use arith::kind;
 use arith::later;
-use arith::record_end;
 use evaluation::eval;
 use evaluation::is_true;
+use octets::byte;
+use octets::is_record;
+use octets::kind;
+use octets::record_end;
 use records::wait_end;
+use residues::AND;
 use waits::Event;
 use waits::Fate;
 use waits::becomes;
@@ -177,9 +178,7 @@ fn ends(s: &[u8]) -> bool
 // What the record s shows. Beside a side with nothing to do an `and` does what its other side does, and an `or` is
 // fulfilled.
 pub fn outline(s: &[u8], depth: usize) -> Shape
-    ensures { λ r. ⌜ ((e : Event) (rs : List ℤ) (ag : List ℕ) (below place : ℕ) (ps vs : List ℤ) (a : ℕ)
-        → Shaped e rs ag below (now (s .entry)) place ps vs a depth (clause (headsOf ag) depth place (now (s .entry)))
-        r) ⌝ }
+    ensures { λ r. ⌜ Outlined (now (s .entry)) depth r ⌝ }
 {
     if depth == 0 {
         return Shape::Ends;
@@ -196,7 +195,7 @@ pub fn outline(s: &[u8], depth: usize) -> Shape
                 if right {
                     return Shape::Ends;
                 }
-                if k == 20 {
+                if k == AND {
                     return Shape::Goes {
                         from: f,
                         to: s.len(),
@@ -205,7 +204,7 @@ pub fn outline(s: &[u8], depth: usize) -> Shape
                 return Shape::Ends;
             }
             if right {
-                if k == 20 {
+                if k == AND {
                     return Shape::Goes { from: 4, to: f };
                 }
                 return Shape::Ends;

@@ -15,14 +15,15 @@ ghost use Rattle.residues.specs.Reduces.{Is};
 ghost use Rattle.records.specs.Index.{headAt};
 ghost use Rattle.activation.specs.Leads.{Ready, Fits, Sided, Acting, reduceAt, innerSite, sidesReduced};
 ghost use Rattle.activation.specs.Leads.{bodyReduced};
-use crate::instances::body;
 use crate::leads::leads_to;
 use crate::leads::outline;
 use crate::sites::body_site;
 use crate::sites::inner_site;
 use crate::sites::then_event;
 use crate::sites::then_site;
-use arith::byte;
+use octets::byte;
+use records::IN_SIGHT;
+use records::body_span;
 use records::param_count;
 use records::value_count;
 use residues::Reduced;
@@ -30,6 +31,7 @@ use residues::join;
 use residues::put_unit;
 use residues::room_left;
 use waits::Event;
+use waits::SIGHT_CELLS;
 
 // Where a clause is activated: the number that the templates are below which it may name, its byte place, its time,
 // and the depths that are left within it.
@@ -38,12 +40,6 @@ pub struct Site {
     pub place: usize,
     pub a: usize,
     pub depth: usize,
-}
-
-// Where a template's body begins and ends.
-pub struct Span {
-    pub from: usize,
-    pub to: usize,
 }
 
 // What a record shows by kinds alone: that there is nothing to do; a part of its bytes that does the same; the kind
@@ -127,7 +123,7 @@ fn act(
     ensures { λ r. ⌜ Is (reduceAt event (now (rs .entry)) (now (agreement .entry)) site (now (s .entry))
         (now (ps .entry)) (now (vs .entry))) r (now (out .exit)) ⌝ }
 {
-    let mut cells = [0i64; 24];
+    let mut cells = [0i64; SIGHT_CELLS];
     match leads_to(agreement, places, event, rs, site, s, ps, vs, &mut cells) {
         Next::Ends => Reduced::Done,
         Next::Breaks { at: t, by: b } => Reduced::Breach { at: t, by: b },
@@ -231,12 +227,12 @@ fn unfold(
         × Fits (now agreement) site [] (now out) × (k < site .below) × (length (now cells) ≡ 24) ⌝ }
     ensures { λ r. ⌜ Is (bodyReduced event (now (rs .entry)) (now (agreement .entry)) site k (now (cells .entry))) r (now (out .exit)) ⌝ }
 {
-    let b = body(agreement, places, k);
+    let b = body_span(agreement, places, k);
     let from = b.from;
     let to = b.to;
     let inner = body_site(site, k, from);
     let vs = &cells[..value_count(agreement, places, k)];
-    let ps = &cells[16..16 + param_count(agreement, places, k)];
+    let ps = &cells[IN_SIGHT..IN_SIGHT + param_count(agreement, places, k)];
     let s = &agreement[from..to];
     activate(agreement, places, event, rs, inner, s, ps, vs, out)
 }

@@ -3,6 +3,7 @@ ghost use mathlib.Core.Path.{_≡_};
 ghost use Prim.Native.Nat.{_+_, _-_, _≤_};
 ghost use Rattle.residues.specs.Reduces.{farthest};
 use crate::Site;
+use records::BODY_DEPTH;
 use waits::Event;
 use waits::Step;
 
@@ -39,7 +40,7 @@ pub fn body_site(site: Site, k: usize, place: usize) -> Site
         below: k,
         place: place,
         a: site.a,
-        depth: 22,
+        depth: BODY_DEPTH,
     }
 }
 

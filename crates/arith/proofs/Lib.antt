@@ -3,6 +3,5 @@ pub mod Ints
 pub mod Linear
 pub mod Numbers
 pub mod Lists
-pub mod Bytes
 pub mod Conds
-mod Values
+mod Ranges

@@ -17,7 +17,8 @@ use Rattle.csl.specs.Typing.{namesOf, typeClause}
 use Rattle.csl.specs.Outcomes.{Residue, Sight, Sort, aChoice, anObligation, both, joined, orStuck, running, unit}
 use Rattle.csl.specs.Outcomes.{units}
 use Rattle.csl.specs.Rules.{Reading, Step, during, following, forecasting}
-use Rattle.csl.specs.Places.{Found, across, clauseAt}
+use Rattle.csl.specs.Places.{Found, clauseAt}
+use Rattle.csl.specs.Rules.{across}
 use Rattle.csl.specs.Table.{cellsOf, headCells, joinCells, joinNumber, natCells, padded, residueCells, runOf}
 use Rattle.csl.specs.Table.{sortNumber, tableOf, unitCells}
 use Rattle.laws.proofs.Cells.{length-join, length-padded}

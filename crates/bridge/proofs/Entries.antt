@@ -17,7 +17,7 @@ use Rattle.csl.specs.Decode.{agreementOf, mainOf}
 use Rattle.csl.specs.Check.{accepted, checked}
 use Rattle.csl.specs.Outcomes.{Outcome, Residue, breach, done, running, stuck, units}
 use Rattle.csl.specs.Rules.{Reading, activate}
-use Rattle.csl.specs.Places.{follow, forecast}
+use Rattle.csl.specs.Rules.{follow, forecast}
 use Rattle.csl.specs.Run.{Fit, Raw, Run, Stepped, fit, fitOf, followed, kept, rawReading, started, step, typedReading}
 use Rattle.csl.specs.Run.{unfit}
 use Rattle.csl.specs.Table.{cellsOf, natCells, runOf, standFor, tableOf}
@@ -152,7 +152,7 @@ module _ (s mains : List ℕ) (ck : checked s ≡ accepted (agreementOf s) mains
       (record { params = []; values = [] }) (ag .start) mains no-sight (fair .main) (fair .mainPlaced))
 
   module _ (us : List ℤ) (l : length us ≡ 3080) where
-    -- ---- a reading that does not fit, or is early
+    -- ---- a reading that does not fit, or comes before the last
     module _ (q : Run) (is : runOf ag mains us ≡ some q) (r : List ℕ) where
       by-step : (x : Stepped) → step ag q r ≡ x → readingOf s us r ≡ written us x
       by-step x e = reading-is s ag mains ck us q r l is ∙ ap (written us) e
@@ -169,7 +169,7 @@ module _ (s mains : List ℕ) (ck : checked s ≡ accepted (agreementOf s) mains
       unfolding written refusal
       reading-ten d f lt = by-step (stepped 10 q) (step-ten ag q r d f lt)
 
-    -- ---- one that fits and is not early
+    -- ---- one that fits and does not come before the last
     module _ (now : ℕ) (r : List ℕ) (d : Reading) (f : fitting ag r ≡ some d) (le : now ≤ d .time) where
       pub reading-done : runOf ag mains us ≡ some (runAt now done)
           → readingOf s us r ≡ answer 0 (reducedTable (d .time) cells.done)

@@ -1,11 +1,12 @@
 -- Paper 01, "Refusal table", 1 to 5: "The lowest number that applies is returned."
+use mathlib.Core.Path.{_≡_}
 use mathlib.Core.Bool.{Bool, true, false}
-use mathlib.Core.List.{List}
+use mathlib.Core.List.{List, []}
 use mathlib.Core.Option.{Option, none, some}
 use Prim.Native.Nat.{ℕ}
 use Rattle.csl.specs.Parties.{bitsOf}
 use Rattle.csl.specs.Syntax.{Agreement}
-use Rattle.csl.specs.Decode.{decode, sized}
+use Rattle.csl.specs.Decode.{decode, sized, agreementOf}
 use Rattle.csl.specs.Typing.{typed}
 use Rattle.csl.specs.Guards.{guardedFrom}
 use Rattle.csl.specs.Widths.{narrowAll}
@@ -30,6 +31,18 @@ checked bytes = elim (sized bytes) [
   | true ↦ elim (decode bytes) [ none ↦ refused 2 | some a ↦ checkDecoded a ]
 ]
 
+-- ---- what check established of the bytes
+unfoldable pub mainsIn : CheckResult → List ℕ
+mainsIn (refused n) = []
+mainsIn (accepted a ps) = ps
+
+-- the main clause's parties
+unfoldable pub mainsOf : List ℕ → List ℕ
+mainsOf s = mainsIn (checked s)
+
+pub record Accepted (s : List ℕ) : Type 0 where
+  pub is : checked s ≡ accepted (agreementOf s) (mainsOf s)
+
 -- ---- the entry: "check also returns the main clause's parties"
 pub record CheckAnswer : Type 0 where
   pub number : ℕ
@@ -44,5 +57,5 @@ checkOf bytes = answerFor (checked bytes)
 
 -- what a proof by computation unfolds
 unfoldable pub computes : Unit {0}
-unfolding checkTyped checkDecoded checked answerFor checkOf
+unfolding checkTyped checkDecoded checked mainsIn mainsOf answerFor checkOf
 computes = tt

@@ -11,7 +11,7 @@ use Rattle.csl.specs.Parties.{bitsOf}
 use Rattle.csl.specs.Syntax.{Agreement}
 use Rattle.csl.specs.Check.{CheckResult, refused, accepted, checked}
 use Rattle.csl.specs.Outcomes.{Outcome, done, breach, running, stuck}
-use Rattle.csl.specs.Places.{forecast}
+use Rattle.csl.specs.Rules.{forecast}
 use Rattle.csl.specs.Run.{Run, Stepped, started, step}
 use Rattle.csl.specs.Table.{tableLength, tableOf, runOf}
 

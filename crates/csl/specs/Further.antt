@@ -13,8 +13,9 @@ use Rattle.csl.specs.Numbers.{plus}
 use Rattle.csl.specs.Syntax.{number, truth, party, arithmetic, conj, less, equal, Expr, numberLit, truthLit}
 use Rattle.csl.specs.Syntax.{partyLit, binary, badExpr, Op, Join, and, or, Wait, Clause, fulfilled, obligation}
 use Rattle.csl.specs.Syntax.{choice, if, join, instance, badClause, Template, Agreement}
+use Rattle.csl.specs.Parties.{bitsOf}
 use Rattle.csl.specs.Decode.{countsOk, sized}
-use Rattle.csl.specs.Check.{CheckResult, refused, accepted, checked, checkDecoded, checkTyped, checkOf}
+use Rattle.csl.specs.Check.{CheckResult, refused, accepted, checked, checkDecoded, checkTyped, checkOf, mainsOf}
 use Rattle.csl.specs.Values.{Val, num, bool, who, valuesOf, eval}
 use Rattle.csl.specs.Outcomes.{Sight, Sort, anObligation, aChoice, Residue, unit, both, Outcome, done, breach}
 use Rattle.csl.specs.Outcomes.{running, stuck, joined}
@@ -42,6 +43,10 @@ accepts n ps b = shows n (checks (checkOf b) ∷ []) (says 0 ps ∷ [])
 
 unfoldable pub refuses : String → ℕ → List ℕ → Trial
 refuses n k b = shows n (checks (checkOf b) ∷ []) (says k 0 ∷ [])
+
+-- the main clause's parties that check established
+unfoldable pub mains : String → ℕ → List ℕ → Trial
+mains n ps b = shows n (says 0 (bitsOf (mainsOf b)) ∷ []) (says 0 ps ∷ [])
 
 -- by each entry, whatever the table and the reading
 unfoldable pub five : List ℤ
@@ -517,7 +522,9 @@ types =
 -- ---- 4: guards
 unfoldable pub guards : List Trial
 guards =
-    refuses "4: itself" 4 (agreement (template 0 (call 0) ∷ []) (asking (op 43 one one)))
+    mains "the main clause's parties" 3 (main (all′ (simply 0 (pos 60)) (simply 1 (pos 60))))
+    ∷ mains "no parties of what is refused" 0 []
+    ∷ refuses "4: itself" 4 (agreement (template 0 (call 0) ∷ []) (asking (op 43 one one)))
     ∷ refuses "a later one" 4 (beside (template 0 (call 1) ∷ template 0 nothing ∷ []))
     ∷ refuses "the second body" 4 (beside (template 0 nothing ∷ template 0 (call 1) ∷ []))
     ∷ refuses "a join's left side" 4 (beside (template 0 (all′ (call 0) nothing) ∷ []))
@@ -865,11 +872,11 @@ further = runs ++ (joins ++ (readings ++
     (records ++ (types ++ (guards ++ (widths ++ (tables ++ (entries ++ unreached))))))))
 
 pub further-pass : map (λ t. t .shown) further ≡ map (λ t. t .expected) further
-unfolding harness says accepts refuses five refusesAll stepsOf runSeen obeys after waits owed chosen by shows saying
-    nested one asking afterIs withinIs next otherwise chooses main aNumber counting template beside call lending every
-    is isNot calculated most least sums equations taken chain nums runs pairs becoming left right joins values refused′
-    readings records named inSight types guards ladder wide calls both′ body ladder′ wide′ waiting next′ either′ if′
-    widest tooWide laddered narrow over widths mixed lent offered units′ short good ended broke full set alter readBy
-    rejects running′ lent′ residue sound ends sights alone alone′ inPlace tables begun two crowd entries bare asked op′
-    still tooFew unreached further
+unfolding harness says accepts refuses mains five refusesAll stepsOf runSeen obeys after waits owed chosen by shows
+    saying nested one asking afterIs withinIs next otherwise chooses main aNumber counting template beside call
+    lending every is isNot calculated most least sums equations taken chain nums runs pairs becoming left right joins
+    values refused′ readings records named inSight types guards ladder wide calls both′ body ladder′ wide′ waiting
+    next′ either′ if′ widest tooWide laddered narrow over widths mixed lent offered units′ short good ended broke full
+    set alter readBy rejects running′ lent′ residue sound ends sights alone alone′ inPlace tables begun two crowd
+    entries bare asked op′ still tooFew unreached further
 further-pass = refl

@@ -10,8 +10,8 @@ pub mod Widths
 pub mod Check
 pub mod Values
 pub mod Outcomes
-pub mod Rules
 pub mod Places
+pub mod Rules
 pub mod Run
 pub mod Table
 pub mod Entries

@@ -1,16 +1,13 @@
--- The waiting clause at a byte place of the agreement, with what is in sight there;
--- and the rules at every unit of a residue.
+-- The waiting clause at a byte place of the agreement, with what is in sight there.
 use mathlib.Core.Bool.{true, false}
 use mathlib.Core.List.{List, [], _∷_}
 use mathlib.Core.Option.{Option, none, some}
 use Prim.Native.Nat.{ℕ}
 use lib.Dec.{eqb}
-use Rattle.csl.specs.Lists.{_>>=_, orElse, orNil}
+use Rattle.csl.specs.Lists.{orElse, orNil}
 use Rattle.csl.specs.Syntax.{Ty, Clause, fulfilled, obligation, choice, if, join, instance, badClause, Template}
 use Rattle.csl.specs.Syntax.{Agreement}
 use Rattle.csl.specs.Typing.{readingOfType, thenSight}
-use Rattle.csl.specs.Outcomes.{Residue, unit, both, Outcome, orStuck, joined}
-use Rattle.csl.specs.Rules.{Step, during, Reading, following, forecasting}
 
 -- the clause, the types in sight there and the number of party parameters
 pub record Found : Type 0 where
@@ -41,18 +38,7 @@ findIn rs p (t ∷ ts) = orElse (find rs (t .head .params) p (t .body) (t .head 
 unfoldable pub clauseAt : Agreement → ℕ → Option Found
 clauseAt a p = orElse (find (a .readings) 0 p (a .main) []) (findIn (a .readings) p (a .templates))
 
--- ---- "A reading at time T reaches every waiting unit, and both sides of an `and` may use the same one."
-unfoldable pub across : Step → Agreement → Residue → Outcome
-across s a (unit k p t e) = orStuck (clauseAt a p >>= λ c. some (during s (a .templates) (c .clause) e t))
-across s a (both j l r) = joined j (across s a l) (across s a r)
-
-unfoldable pub follow : Agreement → Reading → Residue → Outcome
-follow a r res = across (following (a .templates) r) a res
-
-unfoldable pub forecast : Agreement → Residue → Outcome
-forecast a res = across forecasting a res
-
 -- what a proof by computation unfolds
 unfoldable pub computes : Unit {0}
-unfolding find findIn clauseAt across follow forecast
+unfolding find findIn clauseAt
 computes = tt

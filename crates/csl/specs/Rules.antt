@@ -11,9 +11,11 @@ use lib.Signed.{ltZ}
 use Rattle.csl.specs.Lists.{_>>=_, at}
 use Rattle.csl.specs.Numbers.{laterOf}
 use Rattle.csl.specs.Syntax.{Wait, Clause, fulfilled, obligation, choice, if, join, instance, badClause, Template}
+use Rattle.csl.specs.Syntax.{Agreement}
 use Rattle.csl.specs.Values.{Val, num, evalNum, evalBool, evals}
 use Rattle.csl.specs.Outcomes.{Sight, anObligation, aChoice, unit, Outcome, done, breach, running, stuck, orStuck}
-use Rattle.csl.specs.Outcomes.{joined}
+use Rattle.csl.specs.Outcomes.{joined, Residue, both}
+use Rattle.csl.specs.Places.{clauseAt}
 
 -- ---- a blame byte: a party, or the party that the template's parameter stands for
 unfoldable pub blamed : List ℕ → ℕ → Option ℕ
@@ -127,8 +129,19 @@ forecasting = record {
   onChoice = λ e a w t f. orStuck (window e a w >>= λ v. some (f (laterOf a (v .last))));
 }
 
+-- ---- "A reading at time T reaches every waiting unit, and both sides of an `and` may use the same one."
+unfoldable pub across : Step → Agreement → Residue → Outcome
+across s a (unit k p t e) = orStuck (clauseAt a p >>= λ c. some (during s (a .templates) (c .clause) e t))
+across s a (both j l r) = joined j (across s a l) (across s a r)
+
+unfoldable pub follow : Agreement → Reading → Residue → Outcome
+follow a r res = across (following (a .templates) r) a res
+
+unfoldable pub forecast : Agreement → Residue → Outcome
+forecast a res = across forecasting a res
+
 -- what a proof by computation unfolds
 unfoldable pub computes : Unit {0}
 unfolding blamed blamedAll walk walkIn during activating activate window late wants withValues taken following
-    forecasting
+    forecasting across follow forecast
 computes = tt

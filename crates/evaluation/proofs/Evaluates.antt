@@ -8,18 +8,18 @@ use lib.IntN.{ℤ, pos}
 use lib.Dec.{eqb, lit≤}
 use lib.Signed.{mag}
 use lib.ListN.{length, getD, List·getD-eq-default}
-use borrow.Author.Tests.{eq-eqb, ne-eqb, eqb-false}
+use borrow.Author.Tests.{eq-eqb, ne-eqb, eqb-false, not-true, not-false}
 use mir.Syntax.{w64}
 use mir.Val.{SFits, toZ}
 use mir.ValLaws.{toZ-pos}
 use Rattle.arith.proofs.Ints.{seen, read, read! }
 use Rattle.arith.proofs.Numbers.{Answer, held-fits}
-use Rattle.arith.proofs.Bytes.{whole-from}
+use Rattle.octets.proofs.Bytes.{whole-from}
 use Rattle.csl.specs.Numbers.{Held, held, Arithmetic, calculate}
 use Rattle.csl.specs.Bytes.{byte, signed32, part, isRecord, kindNumber, recordEnd}
 use Rattle.csl.specs.Syntax.{Op, Expr, badExpr}
-use Rattle.csl.specs.Decode.{ExprKind, numberKind, truthKind, partyKind, variableKind, exprKind}
-use Rattle.csl.specs.Decode.{exprBody, expr, ofLength}
+use Rattle.csl.specs.Decode.{ExprKind, numberKind, truthKind, partyKind, variableKind, exprKind, exprBody, expr}
+use Rattle.csl.specs.Decode.{ofLength}
 use Rattle.cells.specs.Evaluate.{applyCells, evalCells}
 use Rattle.records.proofs.Trees.{expr-zero, expr-none, expr-at, kind-leaf, kind-not, kind-binary, kind-no-expr-low}
 use Rattle.records.proofs.Trees.{kind-no-expr-high}
@@ -118,16 +118,8 @@ leaf-inner inner s k = by-kind (eqb k 32) (eqb k 33) (eqb k 34)
 
 -- ---- `eval`
 -- the code tests that the bytes are no record
-pub is-one : {b : Bool} → not b ≡ false → b ≡ true
-is-one {b = true} h = refl
-is-one {b = false} h = sym h
-
-pub is-none : {b : Bool} → not b ≡ true → b ≡ false
-is-none {b = true} h = sym h
-is-none {b = false} h = refl
-
 pub room : (s : List ℕ) {b : Bool} → b ≡ isRecord s → not b ≡ false → 4 ≤ length s
-room s g h = whole-from s (sym g ∙ is-one h) .room
+room s g h = whole-from s (sym g ∙ not-false _ h) .room
 
 module _ (vs : List ℤ) (d : ℕ) (s : List ℕ) where
   pub eval-zero : d ≡ 0 → (pos 0 ≡ evalCells vs (expr d s)) × Held (pos 0)
@@ -137,13 +129,13 @@ module _ (vs : List ℤ) (d : ℕ) (s : List ℕ) where
   pub eval-none : {b : Bool} → (d ≡ 0 → ⊥) → b ≡ isRecord s → not b ≡ true → (pos 0 ≡ evalCells vs (expr d s))
       × Held (pos 0)
   unfolding evalCells
-  eval-none n g h = (expr-none (evalCells vs) d s n g (is-none h) refl, nought-held)
+  eval-none n g h = (expr-none (evalCells vs) d s n g (not-true _ h) refl, nought-held)
 
 module _ (vs : List ℤ) (d : ℕ) (s : List ℕ) {b : Bool} {m : ℕ} (n : d ≡ 0 → ⊥) (g : b ≡ isRecord s)
     (h : not b ≡ false) (k : m ≡ kindNumber s) where
   to : {e : ExprKind} → exprKind m ≡ e → {z : ℤ} → mag z < 2 ^ 63 → (z ≡ evalCells vs (exprBody (expr (d - 1)) s e))
       × Held z → (seen z ≡ evalCells vs (expr d s)) × Held (seen z)
-  to e f p = told f (expr-at (evalCells vs) d s n g (is-one h) k (rw e (p .0)), p .1)
+  to e f p = told f (expr-at (evalCells vs) d s n g (not-false _ h) k (rw e (p .0)), p .1)
 
   pub eval-leaf : {z : ℤ} → 32 ≤ m → m < 36 → mag z < 2 ^ 63 → (z ≡ evalCells vs (leafOf s m)) × Held z
       → (seen z ≡ evalCells vs (expr d s)) × Held (seen z)
@@ -164,8 +156,8 @@ module _ (vs : List ℤ) (d : ℕ) (s : List ℕ) {b : Bool} {m : ℕ} (n : d �
 
   pub eval-low : m < 32 → (pos 0 ≡ evalCells vs (expr d s)) × Held (pos 0)
   unfolding evalCells exprBody
-  eval-low u = (expr-at (evalCells vs) d s n g (is-one h) k (rw (kind-no-expr-low m u) refl), nought-held)
+  eval-low u = (expr-at (evalCells vs) d s n g (not-false _ h) k (rw (kind-no-expr-low m u) refl), nought-held)
 
   pub eval-high : 44 ≤ m → (pos 0 ≡ evalCells vs (expr d s)) × Held (pos 0)
   unfolding evalCells exprBody
-  eval-high l = (expr-at (evalCells vs) d s n g (is-one h) k (rw (kind-no-expr-high m l) refl), nought-held)
+  eval-high l = (expr-at (evalCells vs) d s n g (not-false _ h) k (rw (kind-no-expr-high m l) refl), nought-held)

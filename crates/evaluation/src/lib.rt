@@ -7,18 +7,18 @@ ghost use Rattle.csl.specs.Decode.{expr};
 ghost use Rattle.records.specs.Kinds.{opOf, arithmeticOf};
 ghost use Rattle.cells.specs.Evaluate.{evalCells, applyCells, isTrue, truthCell};
 ghost use Rattle.evaluation.specs.Parts.{leafOf, negatedCell};
-use arith::byte;
 use arith::difference;
 use arith::equal;
 use arith::held;
-use arith::is_record;
-use arith::kind;
 use arith::less;
 use arith::product;
 use arith::quotient;
-use arith::record_end;
-use arith::signed32;
 use arith::sum;
+use octets::byte;
+use octets::is_record;
+use octets::kind;
+use octets::record_end;
+use octets::signed32;
 
 // A truth is any cell but 0.
 pub fn is_true(x: i64) -> bool

@@ -15,7 +15,7 @@ use Rattle.csl.specs.Syntax.{Expr, Join, Wait, Clause, fulfilled, choice, if, j
 use Rattle.csl.specs.Decode.{expr, wholeExpr, waitAt, wholeWait, recordsEnd, arguments, instanceOf, ClauseKind}
 use Rattle.csl.specs.Decode.{fulfilledKind, obligationKind, choiceKind, ifKind, joinKind, instanceKind, noClause}
 use Rattle.csl.specs.Decode.{joinOf, waitEnd, clauseBody, clauseHead, clause, whole, headsOf}
-use Rattle.arith.proofs.Bytes.{record-end-within}
+use Rattle.octets.proofs.Bytes.{record-end-within}
 use Rattle.arith.proofs.Lists.{length-part}
 use Rattle.records.specs.Index.{headAt, firstClause}
 use Rattle.records.proofs.Trees.{clause-zero, clause-none, clause-at, clause-wait, clause-two, sided, kind-fulfilled}

@@ -16,7 +16,7 @@ use Rattle.csl.specs.Decode.{truthKind, partyKind, variableKind, exprKind, ofLe
 use Rattle.csl.specs.Decode.{waitAt, wholeWait, recordsEnd, arguments}
 use Rattle.formed.specs.Tests.{argumentsWhole}
 use Rattle.laws.proofs.Bools.{true-first, false-first}
-use Rattle.arith.proofs.Bytes.{whole-from, record-no, record-end-within}
+use Rattle.octets.proofs.Bytes.{whole-from, record-no, record-end-within}
 use Rattle.arith.proofs.Lists.{length-part}
 use Rattle.records.proofs.Trees.{expr-zero, expr-none, expr-at, kind-number, kind-leaf, kind-not, kind-binary}
 use Rattle.records.proofs.Trees.{kind-no-expr-low, kind-no-expr-high}

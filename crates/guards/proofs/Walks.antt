@@ -17,7 +17,7 @@ use Rattle.csl.specs.Syntax.{badClause}
 use Rattle.csl.specs.Decode.{expr, waitAt, joinOf, clauseKind, clauseBody, clause, whole, wholeWait, wholeExpr}
 use Rattle.csl.specs.Decode.{instanceOf, recordsEnd, arguments}
 use Rattle.laws.proofs.Bools.{true→T, and-left, and-right, false-first, true-first}
-use Rattle.arith.proofs.Bytes.{whole-from}
+use Rattle.octets.proofs.Bytes.{whole-from}
 use Rattle.records.specs.Index.{firstClause}
 use Rattle.records.proofs.Trees.{sided, clause-at, clause-wait, clause-two, kind-fulfilled, whole-deep, whole-record}
 use Rattle.records.proofs.Trees.{kind-instance, kind-no-clause-low, kind-no-clause-high}

@@ -29,7 +29,7 @@ use Rattle.soundness.proofs.Runs.{isFair, runAt}
 use Rattle.soundness.proofs.ReadBack.{table-back}
 use Rattle.cells.specs.Reduce as cells
 use Rattle.cells.specs.Across as table
-use Rattle.places.specs.Locate.{mainsOf}
+use Rattle.csl.specs.Check.{mainsOf}
 use Rattle.laws.proofs.Integers.{pos-inj}
 use Rattle.bridge.proofs.Across.{follow-across}
 use Rattle.bridge.proofs.Tables as bridge

@@ -18,7 +18,7 @@ use Rattle.soundness.proofs.Bits.{bits-members}
 use Rattle.soundness.proofs.Runs.{isFair}
 use Rattle.cells.specs.Reduce as cells
 use Rattle.cells.specs.Across as table
-use Rattle.places.specs.Locate.{mainsOf}
+use Rattle.csl.specs.Check.{mainsOf}
 use Rattle.bridge.proofs.Across.{forecast-across}
 use Rattle.bridge.proofs.Entries.{foretold, forecast-done, forecast-breach, forecast-running}
 use Rattle.residues.specs.Reduces.{Is}

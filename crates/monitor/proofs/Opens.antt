@@ -12,7 +12,7 @@ use Rattle.csl.specs.Check as check
 use Rattle.csl.specs.Check.{checked, accepted}
 use Rattle.csl.specs.Table.{tableLength}
 use Rattle.records.specs.Index.{Indexed}
-use Rattle.places.specs.Locate.{Accepted as isAccepted, mainsOf, mainsIn}
+use Rattle.csl.specs.Check.{Accepted as isAccepted, mainsOf, mainsIn}
 use Rattle.bridge.proofs.Refusals.{start-refused, reading-refused, forecast-refused, start-six, reading-six}
 use Rattle.bridge.proofs.Refusals.{forecast-six, reading-seven, forecast-seven}
 use Rattle.state.specs.Shown.{BreachedAs, Shows, runIn}

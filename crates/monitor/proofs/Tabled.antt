@@ -10,7 +10,7 @@ use lib.Dec.{T, leb, ltb}
 use lib.IntN.{ℤ, pos}
 use lib.ListN.{length, take-append-drop, take, drop, replicate, length-append}
 use lib.Seq.{take-at, drop-at, drop-drop}
-use Rattle.arith.proofs.Bytes.{record-end-within}
+use Rattle.octets.proofs.Bytes.{record-end-within}
 use Rattle.csl.specs.Bytes.{part, recordEnd, isRecord}
 use Rattle.csl.specs.Syntax.{Agreement, Clause, Join, and, or}
 use Rattle.csl.specs.Decode.{agreementOf, headsOf, clause, clauseHead, clauseBody, whole, wellFormed}
@@ -64,7 +64,7 @@ module _ (s mains : List ℕ) (ck : checked s ≡ accepted (agreementOf s) mains
   founds p f e = (found-is s p f formed e) .0
 
   -- ---- one unit, and a residue's units in front of others
-  module _ (now : ℕ) (early : now < 2 ^ 32) where
+  module _ (now : ℕ) (small : now < 2 ^ 32) where
     few-values : (k : Sort) (p a : ℕ) (e : Sight) (ps : List ℕ) → OkUnit ag (Since ag now) k p a e ps
         → length (cellsOf (e .values)) ≤ 16
     unfolding unitCells

@@ -10,14 +10,20 @@ ghost use Rattle.csl.specs.Table.{tableLength};
 ghost use Rattle.records.specs.Index.{Indexed};
 ghost use Rattle.residues.specs.Reduces.{Is};
 ghost use Rattle.monitor.specs.Answers.{numberOf, checkAnswer, startAnswer, takenAnswer, forecastAnswer};
-ghost use Rattle.monitor.specs.Steps.{indexLength, sightsLength, roomLength, Goes, Verified, Admitted, Opened, Opens};
+ghost use Rattle.monitor.specs.Steps.{indexLength, sightsLength, roomLength, Goes, Verified, Admitted, Opened};
+ghost use Rattle.monitor.specs.Steps.{Opens};
 ghost use Rattle.monitor.specs.Steps.{mainReduced, Due, reduced, Advances, Tried, SomeReading, ReadAs};
 use activation::Site;
 use activation::activate;
-use arith::byte;
 use arith::less;
-use arith::unsigned32;
+use cells::HEAD_CELLS;
+use cells::MOST_UNITS;
+use cells::TABLE_CELLS;
+use cells::UNIT_CELLS;
+use octets::byte;
+use octets::unsigned32;
 use readings::Taken as Fitting;
+use records::MAIN_DEPTH;
 use records::main_place;
 use residues::Reduced;
 use residues::units_of;
@@ -38,26 +44,11 @@ const TEMPLATES: usize = 10;
 // The places of its index.
 const PLACES: usize = 49;
 
-// The depths that are left within its main clause.
-const DEPTHS: usize = 23;
-
 // The most values of a reading.
 const VALUES: usize = 4;
 
-// The cells of a table's head.
-const HEAD_CELLS: usize = 8;
-
 // The head's cell of the last reading time.
 const LAST_TIME: usize = 1;
-
-// The cells of a unit.
-const UNIT_CELLS: usize = 24;
-
-// The most units of a table.
-const MOST_UNITS: usize = 128;
-
-// A table's cells.
-const TABLE_CELLS: usize = HEAD_CELLS + MOST_UNITS * UNIT_CELLS;
 
 // Two numbers for each unit say what is in sight there.
 const SIGHTS: usize = 2 * MOST_UNITS;
@@ -203,7 +194,7 @@ fn activate_main(agreement: &[u8], places: &[usize], out: &mut [i64]) -> Reduced
         below: byte(agreement, TEMPLATES),
         place: from,
         a: unsigned32(agreement, START),
-        depth: DEPTHS,
+        depth: MAIN_DEPTH,
     };
     let s = &agreement[from..];
     activate(agreement, places, event, none, site, s, none, none, out)

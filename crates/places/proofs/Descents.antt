@@ -8,7 +8,7 @@ use native.Mathlib.Omega.{arith}
 use lib.Dec.{T, eqb}
 use lib.ListN.{length, take}
 use Rattle.arith.proofs.Lists.{length-part, part-part}
-use Rattle.arith.proofs.Bytes.{record-end-within, record-end-after}
+use Rattle.octets.proofs.Bytes.{record-end-within, record-end-after}
 use Rattle.csl.specs.Lists.{orElse, orNil, at}
 use Rattle.csl.specs.Bytes.{byte, part, recordEnd}
 use Rattle.csl.specs.Syntax.{Ty, Template, Agreement, Clause, fulfilled, obligation, choice, if, join, instance}
@@ -34,7 +34,8 @@ use Rattle.places.specs.declared.Step.the-variants.{Absent, Here, Into}
 use Rattle.places.proofs.Found.{found-is}
 use Rattle.places.proofs.Steps.{TypedSide, obligation-typed, choice-typed, if-typed, join-typed}
 use Rattle.places.specs.Locate.{sightOf, Locates, TypedAt, Typed, GoesInto, StepAt, StepIs, DescentIs}
-use Rattle.places.specs.Locate.{inTemplate, mainsOf, Accepted}
+use Rattle.places.specs.Locate.{inTemplate}
+use Rattle.csl.specs.Check.{mainsOf, Accepted}
 
 module _ {A : List ℕ} {p : ℕ} {s : List ℕ} {place c : ℕ} {types out : List ℕ} {r : Step}
     (h : StepIs A p s place c types out r) where

@@ -9,7 +9,7 @@ use native.Mathlib.Omega.{arith}
 use lib.Dec.{T, eqb, leb, leb→le, eqb→eq}
 use lib.ListN.{length}
 use Rattle.arith.proofs.Lists.{length-part, part-part}
-use Rattle.arith.proofs.Bytes.{le16-part, record-end-within, record-end-after, whole-from}
+use Rattle.octets.proofs.Bytes.{le16-part, record-end-within, record-end-after, whole-from}
 use Rattle.csl.specs.Lists.{all, at}
 use Rattle.csl.specs.Bytes.{byte, le16, part, isRecord, kindNumber, recordEnd}
 use Rattle.csl.specs.Syntax.{Ty, Expr, Clause, fulfilled, instance, badClause, Head}

@@ -8,7 +8,7 @@ use native.Mathlib.Omega.{arith}
 use lib.ListN.{length, take, set, length-append, length-take, length-map}
 use lib.Seq.{take-suc-set}
 use Rattle.arith.proofs.Lists.{length-part}
-use Rattle.arith.proofs.Bytes.{record-end-within}
+use Rattle.octets.proofs.Bytes.{record-end-within}
 use Rattle.csl.specs.Lists.{orNil, at}
 use Rattle.csl.specs.Bytes.{byte, part, recordEnd}
 use Rattle.csl.specs.Syntax.{Ty, number}

@@ -11,7 +11,7 @@ use borrow.Author.Tests.{ne-eqb, eq-eqb}
 use lib.Dec.{eqb, leb, leb→le}
 use lib.ListN.{length}
 use Rattle.arith.proofs.Lists.{length-part}
-use Rattle.arith.proofs.Bytes.{record-end-within, record-end-after, whole-from}
+use Rattle.octets.proofs.Bytes.{record-end-within, record-end-after, whole-from}
 use Rattle.csl.specs.Lists.{orElse, orNil, at}
 use Rattle.csl.specs.Bytes.{byte, part, isRecord, kindNumber, recordEnd}
 use Rattle.csl.specs.Syntax.{Ty, truth, number, Expr, Join, Wait, Clause, fulfilled, obligation, choice, if, join}

@@ -123,15 +123,3 @@ unfoldable pub inTemplate : List ℕ → ℕ → ℕ → Option Found
 inTemplate a k place = findAt a (headAt a k .params) place
     (bodyOf (headsOf a) (record { place = templatePlace a k; bytes = pieceAt a (templatePlace a k) }))
     (headAt a k .values)
-
--- ---- what check established of the bytes
-unfoldable pub mainsIn : CheckResult → List ℕ
-mainsIn (refused n) = []
-mainsIn (accepted a ps) = ps
-
--- the main clause's parties
-unfoldable pub mainsOf : List ℕ → List ℕ
-mainsOf s = mainsIn (checked s)
-
-pub record Accepted (s : List ℕ) : Type 0 where
-  pub is : checked s ≡ accepted (agreementOf s) (mainsOf s)

@@ -18,7 +18,7 @@ use Rattle.soundness.proofs.Following.{ReadingOk}
 use Rattle.soundness.proofs.Runs.{isFair}
 use Rattle.published.specs.Fig8.{Activates, Steps, to-breach, to-clause, to-fulfilled, fulfilled-stays}
 use Rattle.published.specs.Fig8.{breached-stays, sightOf}
-use Rattle.published.specs.Runs.{Runs, run-ends, run-misfit, run-early, run-over, run-step, taken}
+use Rattle.published.specs.Runs.{Runs, run-ends, run-misfit, run-backward, run-over, run-step, taken}
 use Rattle.published.specs.Literal.{Concludes, Residual, clause, breached, Trace, trace-ends, trace-step}
 use Rattle.published.specs.Literal.{trace-final, SameVerdict}
 use Rattle.published.proofs.Residues.{fitting-ok}
@@ -49,7 +49,7 @@ runs-final : (ag : Agreement) {bs : List (List ℕ)} {t u v : ℕ} {o q : Outcom
     → o ≡ breach v B → (u ≡ t) × (q ≡ breach v B)
 runs-final ag B run-ends e = (refl, e)
 runs-final ag B (run-misfit f k) e = runs-final ag B k e
-runs-final ag B (run-early ε f l k) e = runs-final ag B k e
+runs-final ag B (run-backward ε f l k) e = runs-final ag B k e
 runs-final ag B (run-over ε f l s n k) e = runs-final ag B k e
 runs-final ag B (run-step ε f l s n k) e = let x = steps-final ag B s e in let y = runs-final ag B k (x .1) in
     (y .0 ∙ x .0, y .1)
@@ -83,7 +83,7 @@ module _ (a : Agreement) (mains : List ℕ) (fair : Fair a mains) where
   unfolding taken
   along run-ends from r st h = (r, trace-ends, h, st)
   along (run-misfit f k) from r st h = along k from r st h
-  along (run-early ε f l k) from r st h = along k from r st h
+  along (run-backward ε f l k) from r st h = along k from r st h
   along (run-over ε f l s n k) from r st h = along k from r st h
   along (run-step {τ = t} {τ₁ = t₁} {τ′ = u} {o₁ = o₁} {b = b} ε f le s n k) from (clause x) st h =
       let rok = fitting-ok a b ε f in

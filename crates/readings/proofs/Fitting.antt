@@ -12,7 +12,7 @@ use lib.ListN.{length, take}
 use lib.Seq.{length-take-le}
 use Rattle.arith.proofs.Ints.{some-bits}
 use Rattle.arith.proofs.Lists.{length-part}
-use Rattle.arith.proofs.Bytes.{record-end-within}
+use Rattle.octets.proofs.Bytes.{record-end-within}
 use Rattle.csl.specs.Lists.{_>>=_, at}
 use Rattle.csl.specs.Bytes.{byte, part, recordEnd}
 use Rattle.csl.specs.Syntax.{Ty, Agreement}
@@ -30,7 +30,7 @@ use Rattle.readings.specs.declared.Raw.{Raw}
 use Rattle.readings.specs.declared.Raw.the-variants.{Malformed, Read}
 use Rattle.readings.specs.Taking.{given, RawRead, RawIs, TypedIs, UntypedRead, FittingRead}
 use Rattle.readings.proofs.Options.{given-some, given-none, given-then}
-use Rattle.arith.specs.Values.{valuesOk}
+use Rattle.records.specs.TypedValues.{valuesOk}
 use Rattle.readings.proofs.Values.{all-given, values-cells}
 
 -- the reading that fits has the time, the type and the numbers that were read

@@ -13,7 +13,7 @@ use Rattle.csl.specs.Numbers.{inRange}
 use Rattle.csl.specs.Syntax.{Ty, number, truth, party}
 use Rattle.csl.specs.Values.{Val, num, who, asNat, asTruth, valueOf, valuesOf}
 use Rattle.csl.specs.Table.{cellsOf}
-use Rattle.arith.specs.Values.{valueOk, valuesOk}
+use Rattle.records.specs.TypedValues.{valueOk, valuesOk}
 use Rattle.laws.proofs.Options.{some-inj, none-some, from-bind}
 use Rattle.laws.proofs.Cells.{value-is}
 use Rattle.readings.specs.Taking.{given}

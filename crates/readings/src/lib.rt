@@ -6,14 +6,14 @@ ghost use lib.ListN.{length};
 ghost use Rattle.csl.specs.Run.{rawReading, numbersFrom};
 ghost use Rattle.records.specs.Index.{Indexed};
 ghost use Rattle.readings.specs.Taking.{given, RawIs, TypedIs, TakenIs};
-use arith::byte;
-use arith::is_record;
-use arith::kind;
-use arith::record_end;
-use arith::signed32;
-use arith::unsigned32;
-use arith::values_ok;
+use octets::byte;
+use octets::is_record;
+use octets::kind;
+use octets::record_end;
+use octets::signed32;
+use octets::unsigned32;
 use records::reading_place;
+use records::values::values_ok;
 
 // A reading as its bytes say; `count` is how many values it has.
 enum Raw {

@@ -11,7 +11,7 @@ use native.Mathlib.Omega.{arith}
 use lib.Dec.{T, leb, eqb, leb→le, eqb→eq}
 use lib.ListN.{length, length-map}
 use Rattle.arith.proofs.Lists.{length-part, part-part}
-use Rattle.arith.proofs.Bytes.{byte-part, le16-part, record-end-within, record-end-after}
+use Rattle.octets.proofs.Bytes.{byte-part, le16-part, record-end-within, record-end-after}
 use Rattle.csl.specs.Lists.{all, at}
 use Rattle.csl.specs.Bytes.{byte, le16, part, isRecord, kindNumber, recordEnd}
 use Rattle.csl.specs.Syntax.{Head}

@@ -1,3 +1,4 @@
 pub mod Index
 mod Listed
 pub mod Trees
+mod TypedValues

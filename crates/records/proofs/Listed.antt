@@ -12,7 +12,7 @@ use lib.Dec.{T, leb, eqb, leb→le, eqb→eq}
 use lib.ListN.{length, getD, set, drop, length-set, drop-of-length-le}
 use lib.Seq.{drop-cons, getD-set-same, getD-set-other}
 use Rattle.arith.proofs.Lists.{length-part}
-use Rattle.arith.proofs.Bytes.{record-end-within}
+use Rattle.octets.proofs.Bytes.{record-end-within}
 use Rattle.csl.specs.Lists.{all}
 use Rattle.csl.specs.Bytes.{byte, le16, part, isRecord, kindNumber, recordEnd}
 use Rattle.csl.specs.Decode.{pieces, recordsEnd, templatesPlace, mainPlace, readingPieces, templatePieces, between}

@@ -1,4 +1,6 @@
 // The parts of an agreement: where its records stand, and what the heads of its templates say.
+pub mod values;
+
 ghost use mathlib.Core.Path.{_≡_};
 ghost use mathlib.Core.Bool.{true, _&&_};
 ghost use mathlib.Core.List.{_++_};
@@ -9,13 +11,15 @@ ghost use Rattle.csl.specs.Lists.{all};
 ghost use Rattle.csl.specs.Bytes as bytes;
 ghost use Rattle.csl.specs.Bytes.{kindNumber};
 ghost use Rattle.csl.specs.Decode as decode;
-ghost use Rattle.csl.specs.Decode.{waitEnd, mainPlace, between, isType, readingTypeOk, templateOk, pieces, recordsEnd, countsOk, listed};
-ghost use Rattle.records.specs.Index.{Indexed, readingPlace, templatePlace, headAt, valueCount, declaredBits, Spans, firstClause, recordOk};
-use arith::byte;
-use arith::is_record;
-use arith::kind;
-use arith::record_end;
-use arith::unsigned16;
+ghost use Rattle.csl.specs.Decode.{waitEnd, mainPlace, between, isType, readingTypeOk, templateOk, pieces};
+ghost use Rattle.csl.specs.Decode.{recordsEnd, countsOk, listed};
+ghost use Rattle.records.specs.Index.{Indexed, readingPlace, templatePlace, headAt, valueCount, declaredBits};
+ghost use Rattle.records.specs.Index.{Spans, firstClause, recordOk};
+use octets::byte;
+use octets::is_record;
+use octets::kind;
+use octets::record_end;
+use octets::unsigned16;
 
 // The most bytes, parties, reading types and templates of an agreement.
 const MOST_BYTES: usize = 16_384;

@@ -6,11 +6,12 @@ use native.Mathlib.Numerals.{add-one}
 use native.Mathlib.Omega.{arith}
 use native.Mathlib.Decide.{decLt}
 use lib.IntN.{ℤ, pos}
-use lib.ListN.{length, getD, take, drop, set, replicate, length-drop, length-append, length-take, length-replicate}
-use lib.ListN.{getD-replicate, List·getD-append, List·getD-eq-default, length-set, drop-of-length-le}
+use lib.ListN.{length, getD, take, drop, set, replicate, length-drop, length-append, length-take, getD-replicate}
+use lib.ListN.{List·getD-append, List·getD-eq-default, length-set, drop-of-length-le}
 use lib.Seq.{set-at, take-suc, drop-cons, append-snoc, length-take-le, take-length, drop-length, take-at, drop-at}
 use lib.Seq.{getD-append-add, sets-eq, drop-drop, take-add}
 use borrow.Rule.Slice.PartMut.{putMid}
+use Rattle.laws.proofs.Cells.{length-padded}
 use Rattle.arith.proofs.Lists.{part-put}
 use mir.Syntax.{w64}
 use mir.Val.{toZ}
@@ -60,10 +61,6 @@ module _ {A : Type 0} where
       part-put n m e u h ∙ rw (front, rest) (sym (append-assoc (take n s) u (drop m d))) ∙ ap (λ x. x ++ drop m d) more
 
 -- ---- with zeros behind
-pub length-padded : (n : ℕ) (xs : List ℤ) → length xs ≤ n → length (padded n xs) ≡ n
-unfolding padded
-length-padded n xs h = simp (length-append, length-replicate) (omega arith)
-
 pub padded-at : (n : ℕ) (xs : List ℤ) (i : ℕ) → i < n → getD (padded n xs) i (pos 0) ≡ getD xs i (pos 0)
 unfolding padded
 padded-at n xs i h = by-place (decLt i (length xs))

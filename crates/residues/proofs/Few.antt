@@ -3,15 +3,15 @@ use mathlib.Core.Path.{_≡_}
 use mathlib.Core.Bool.{Bool, true, false, cond}
 use mathlib.Core.List.{List, [], _∷_}
 use mathlib.Core.Option.{Option, none, some}
-use Prim.Native.Nat.{ℕ, zero, suc, _+_, _*_, _^_, _<_}
-use native.Mathlib.Nat.{pow-suc}
+use Prim.Native.Nat.{ℕ, zero, suc, _^_, _<_}
 use native.Mathlib.Omega.{arith}
 use lib.Bits.{or-lt}
 use lib.Dec.{ltb, eqb}
 use lib.IntN.{ℤ, pos}
 use lib.ListN.{length, getD, take, drop}
+use Rattle.laws.proofs.PartyBits.{bits-lt}
 use Rattle.csl.specs.Lists.{at}
-use Rattle.csl.specs.Parties.{member, bit, bitsFrom, bitsOf}
+use Rattle.csl.specs.Parties.{bitsOf}
 use Rattle.csl.specs.Syntax.{Join, and, or, Wait, Clause, fulfilled, obligation, choice, if, join, instance}
 use Rattle.csl.specs.Syntax.{badClause, Template}
 use Rattle.csl.specs.Decode.{joinOf}
@@ -30,18 +30,9 @@ Few done = Unit {0}
 Few (breach t b) = b < 2 ^ 16
 Few (running cs) = Unit {0}
 
-bits-few : (k i : ℕ) (ps : List ℕ) → bitsFrom k i ps < 2 ^ k
-unfolding bitsFrom bit
-bits-few zero i ps = omega arith
-bits-few (suc k) i ps = go (member i ps) (bits-few k (suc i) ps)
-  where
-    go : (b : Bool) → bitsFrom k (suc i) ps < 2 ^ k → bit b + 2 * bitsFrom k (suc i) ps < 2 ^ suc k
-    go true h = rw (pow-suc 2 k) (omega arith)
-    go false h = rw (pow-suc 2 k) (omega arith)
-
 blame-few : (ps : List ℤ) (b t : ℕ) → Few (breach t (blameBits ps b))
 unfolding Few blameBits bitsOf
-blame-few ps b t = bits-few 16 0 _
+blame-few ps b t = bits-lt 16 0 _
 
 -- ---- joins
 cond-few : (b : Bool) (x y : Reduced) → Few x → Few y → Few (cond b x y)

@@ -14,6 +14,7 @@ use lib.Seq.{drop-at, take-length, length-take-le, drop-append-le}
 use borrow.Rule.Slice.PartMut.{putMid}
 use mir.Syntax.{w64}
 use mir.Val.{SFits, toZ}
+use Rattle.laws.proofs.Cells.{length-join}
 use Rattle.arith.proofs.Ints.{seen, read, read! }
 use Rattle.arith.proofs.Lists.{part-put, tail-put}
 use Rattle.csl.specs.Syntax.{Join, and, or}
@@ -172,11 +173,6 @@ module _ (n m : ℕ) (o : List ℤ) (hn : n ≤ 129) (hm : m ≤ 129) (few : len
       counts : (n m a b : ℕ) → n ≡ min a 129 → m ≡ min b 129 → min (1 + n + m) 129 ≡ min (1 + a + b) 129
       counts n m a b e f = omega arith
 
-join-cells-length : (j : Join) → length (joinCells j) ≡ 24
-unfolding joinCells padded joinNumber
-join-cells-length and = refl
-join-cells-length or = refl
-
 joined-running : (j : Join) (ls rs : List ℤ)
     → cells.joined j (cells.running ls) (cells.running rs) ≡ cells.running (joinCells j ++ (ls ++ rs))
 unfolding cells.joined cells.joinBoth cells.joinEither
@@ -213,7 +209,7 @@ module _ (kind n m : ℕ) (o : List ℤ) (r : (20 ≤ kind) × (kind < 22) × (n
         let eh : h ≡ joinCells j = e ∙ ap (λ k. padded k (toZ w64 kind ∷ [])) l ∙ head-is kind (r .0) (r .1) in
         rw (x .1, y .1, joined-running j (x .0) (y .0))
         (joins n m o (r .2) (r .3) (r .4) (x .0) (y .0) (x .2) (y .2) (joinCells j)
-        (putMid (to - 24) (to - (to - 24)) o h) (join-cells-length j) room
+        (putMid (to - 24) (to - (to - 24)) o h) (length-join j) room
         (part-put (to - 24) to o h (omega arith) ∙ ap (λ k. take (to - 24) o ++ (k ++ drop to o)) eh));
   }
 
@@ -225,7 +221,7 @@ module _ (kind n m : ℕ) (o : List ℤ) (r : (20 ≤ kind) × (kind < 22) × (n
         let x = is-running (take (length o - 24 * m) o) left (s .of-left) in
         let y = is-running o right (s .of-right) in
         rw (x .1, y .1, joined-running j (x .0) (y .0), e)
-        (overflows n m o (r .2) (r .3) (r .4) (x .0) (y .0) (x .2) (y .2) (joinCells j) (join-cells-length j) full);
+        (overflows n m o (r .2) (r .3) (r .4) (x .0) (y .0) (x .2) (y .2) (joinCells j) (length-join j) full);
   }
 
 -- ---- each return of `join_both` and `join_either`

@@ -1,7 +1,7 @@
 // What a clause becomes: fulfilled, a breach, or a residue of units that grows downward from the end of its room.
 ghost use mathlib.Core.Path.{_≡_};
 ghost use mathlib.Core.List.{_++_};
-ghost use Prim.Native.Nat.{_+_, _≤_, _<_, min};
+ghost use Prim.Native.Nat.{_+_, _≤_, _<_};
 ghost use lib.IntN.{pos};
 ghost use lib.ListN.{length, getD, drop};
 ghost use Rattle.csl.specs.Syntax.{and, or};
@@ -9,6 +9,10 @@ ghost use Rattle.csl.specs.Decode.{joinOf};
 ghost use Rattle.csl.specs.Table.{padded};
 ghost use Rattle.cells.specs.Reduce.{unitOf, running, earlier, later};
 ghost use Rattle.residues.specs.Reduces.{Is, farthest, roomLeft, Counted, JoinIs, BreachIs, unitsOf};
+use arith::lesser;
+use cells::FIRST_PARAM;
+use cells::FIRST_VALUE;
+use cells::UNIT_CELLS;
 
 // Fulfilled; a breach's time and its parties by bit; a residue of so many units, counted up to 129.
 pub enum Reduced {
@@ -67,8 +71,8 @@ fn write_unit(unit: &mut [i64], sort: usize, place: usize, a: usize, params: &[i
     unit[0] = sort as i64;
     unit[1] = place as i64;
     unit[2] = a as i64;
-    fill(&mut unit[3..8], params);
-    fill(&mut unit[8..24], values);
+    fill(&mut unit[FIRST_PARAM..FIRST_VALUE], params);
+    fill(&mut unit[FIRST_VALUE..UNIT_CELLS], values);
 }
 
 // A waiting unit, at the end of out where there is room.
@@ -83,10 +87,10 @@ pub fn put_unit(
     requires { ⌜ (sort ≤ farthest) × (place ≤ farthest) × (a ≤ farthest) × (length (now params) ≤ 5) × (length (now values) ≤ 16) ⌝ }
     ensures { λ r. ⌜ Is (running (unitOf sort place a (now (params .entry)) (now (values .entry)))) r (now (out .exit)) ⌝ }
 {
-    if out.len() < 24 {
+    if out.len() < UNIT_CELLS {
         return Reduced::Running(1);
     }
-    let from = out.len() - 24;
+    let from = out.len() - UNIT_CELLS;
     write_unit(&mut out[from..], sort, place, a, params, values);
     Reduced::Running(1)
 }
@@ -100,7 +104,7 @@ pub fn room_left(r: Reduced, len: usize) -> usize
         Reduced::Done => len,
         Reduced::Breach { at: _, by: _ } => len,
         Reduced::Running(m) => {
-            let used = 24 * m;
+            let used = UNIT_CELLS * m;
             if used < len {
                 return len - used;
             }
@@ -132,12 +136,13 @@ fn later_breach(t: i64, b: usize, u: i64, c: usize) -> Reduced
     Reduced::Breach { at: t, by: b }
 }
 
-// Units are counted up to 129.
-fn capped(n: usize) -> usize
-    ensures { λ r. ⌜ r ≡ min n 129 ⌝ }
-{
-    if n < 129 { n } else { 129 }
-}
+// The kinds of joins.
+pub const AND: usize = 20;
+
+pub const OR: usize = 21;
+
+// Units are counted up to so many.
+const COUNTED: usize = 129;
 
 // Two residues of n and m units, one below the other at the end of out, become one: the join's unit goes below both
 // where there is room.
@@ -145,12 +150,12 @@ fn put_join(kind: usize, n: usize, m: usize, out: &mut [i64]) -> Reduced
     requires { ⌜ (20 ≤ kind) × (kind < 22) × (n ≤ 129) × (m ≤ 129) × (length (now out) ≤ 3072) ⌝ }
     ensures { λ r. ⌜ JoinIs (joinOf kind) (Reduced.Running n) (Reduced.Running m) (now (out .entry)) r (now (out .exit)) ⌝ }
 {
-    let used = 24 * (n + m);
-    if used + 24 > out.len() {
-        return Reduced::Running(capped(1 + n + m));
+    let used = UNIT_CELLS * (n + m);
+    if used + UNIT_CELLS > out.len() {
+        return Reduced::Running(lesser(1 + n + m, COUNTED));
     }
     let to = out.len() - used;
-    let from = to - 24;
+    let from = to - UNIT_CELLS;
     let head = [kind as i64; 1];
     fill(&mut out[from..to], &head);
     Reduced::Running(1 + n + m)
@@ -170,7 +175,7 @@ fn join_both(l: Reduced, r: Reduced, out: &mut [i64]) -> Reduced
         Reduced::Running(n) => match r {
             Reduced::Done => l,
             Reduced::Breach { at: _, by: _ } => r,
-            Reduced::Running(m) => put_join(20, n, m, out),
+            Reduced::Running(m) => put_join(AND, n, m, out),
         },
     }
 }
@@ -189,7 +194,7 @@ fn join_either(l: Reduced, r: Reduced, out: &mut [i64]) -> Reduced
         Reduced::Running(n) => match r {
             Reduced::Done => Reduced::Done,
             Reduced::Breach { at: _, by: _ } => l,
-            Reduced::Running(m) => put_join(21, n, m, out),
+            Reduced::Running(m) => put_join(OR, n, m, out),
         },
     }
 }
@@ -210,7 +215,7 @@ pub fn join(kind: usize, l: Reduced, r: Reduced, out: &mut [i64]) -> Reduced
     requires { ⌜ (20 ≤ kind) × (kind < 22) × Counted l × Counted r × (length (now out) ≤ 3072) ⌝ }
     ensures { λ a. ⌜ JoinIs (joinOf kind) l r (now (out .entry)) a (now (out .exit)) ⌝ }
 {
-    if kind == 20 {
+    if kind == AND {
         return same(join_both(l, r, out));
     }
     same(join_either(l, r, out))

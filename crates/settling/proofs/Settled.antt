@@ -17,7 +17,7 @@ use Rattle.cells.specs.Tables.{reducedTable}
 use Rattle.settling.specs.Settles.{Settles}
 use Rattle.residues.specs.declared.Reduced.{Reduced}
 use Rattle.residues.specs.declared.Reduced.the-variants.{Done, Breach, Running}
-use Rattle.residues.proofs.Cells.{length-padded}
+use Rattle.laws.proofs.Cells.{length-padded}
 use Rattle.residues.proofs.Reduces.{is-done, is-breach, is-running}
 
 -- ---- cells behind a head

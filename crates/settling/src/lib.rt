@@ -8,6 +8,9 @@ ghost use Rattle.csl.specs.Table.{padded};
 ghost use Rattle.cells.specs.Across.{natOf};
 ghost use Rattle.settling.specs.Settles.{Settles, Whole};
 ghost use Rattle.residues.specs.Reduces.{bitsIn};
+use cells::HEAD_CELLS;
+use cells::MOST_UNITS;
+use cells::UNIT_CELLS;
 use residues::Reduced;
 use residues::copy;
 use residues::fill;
@@ -38,8 +41,11 @@ fn copy_units(units: &mut [i64], residue: &[i64], n: usize)
 {
     let mut k = 0;
     while k < n {
-        let at = 24 * k;
-        copy_unit(&mut units[at..at + 24], &residue[at..at + 24]);
+        let at = UNIT_CELLS * k;
+        copy_unit(
+            &mut units[at..at + UNIT_CELLS],
+            &residue[at..at + UNIT_CELLS],
+        );
         k += 1;
     }
 }
@@ -60,12 +66,12 @@ pub fn settle(table: &mut [i64], time: i64, r: Reduced, out: &[i64]) -> bool
             true
         }
         Reduced::Running(n) => {
-            if n > 128 {
+            if n > MOST_UNITS {
                 return false;
             }
             put_head(table, 1, time, 0, 0, n);
-            let from = out.len() - 24 * n;
-            copy_units(&mut table[8..], &out[from..], n);
+            let from = out.len() - UNIT_CELLS * n;
+            copy_units(&mut table[HEAD_CELLS..], &out[from..], n);
             true
         }
     }

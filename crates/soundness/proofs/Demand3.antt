@@ -28,7 +28,8 @@ use Rattle.soundness.proofs.Good.{Good, good-sub}
 use Rattle.soundness.proofs.Walks.{blamed-constant, stands-blamed}
 use Rattle.soundness.proofs.Activation.{activate-good}
 use Rattle.soundness.proofs.Readings.{start-lt}
-use Rattle.soundness.proofs.Runs.{Case, InvOf, Since, after, breach-ok, cases, early, few-mains, final, isFair}
+use Rattle.soundness.proofs.Runs.{Case, InvOf, Since, after, breach-ok, cases, backward, few-mains, final}
+use Rattle.soundness.proofs.Runs.{isFair}
 use Rattle.soundness.proofs.Runs.{isPassed, many, misfit, not-stuck, reached-good, runAt, step-inv, stepped}
 use Rattle.soundness.proofs.Runs.{tooMany-is}
 
@@ -66,7 +67,7 @@ module _ (a : Agreement) (now : ℕ) (o : Outcome) (r : List ℕ) where
     λ z. absurd (eight-or-nine n 0 w (numbered 0 n _ e z) (inl refl)),
     λ h. some-none f (h .1),
   )
-  step-taken (early d f lt e) = (
+  step-taken (backward d f lt e) = (
     λ z. let q : _≡_ {A = ℕ} 10 0 = numbered 0 10 _ e z in absurd (omega arith),
     λ h. let t = fits-only (λ n. n ≤ 128) d f h in absurd (omega (arith, t .0)),
   )
@@ -83,7 +84,7 @@ module _ (a : Agreement) (now : ℕ) (o : Outcome) (r : List ℕ) where
     λ z. absurd (eight-or-nine n 11 w (numbered 11 n _ e z) (inr refl)),
     λ h. some-none f (h .1),
   )
-  step-eleven (early d f lt e) = (
+  step-eleven (backward d f lt e) = (
     λ z. let q : _≡_ {A = ℕ} 10 11 = numbered 11 10 _ e z in absurd (omega arith),
     λ h. let t = fits-only (λ n. 128 < n) d f h in absurd (omega (arith, t .0)),
   )
@@ -100,7 +101,7 @@ module _ (a : Agreement) (now : ℕ) (o : Outcome) (r : List ℕ) where
   -- a refusal changes nothing
   pub step-refused : Case a now o r → next .number ≢ 0 → next .run ≡ runAt now o
   step-refused (misfit n w f e) nz = ap (λ s. s .run) e
-  step-refused (early d f lt e) nz = ap (λ s. s .run) e
+  step-refused (backward d f lt e) nz = ap (λ s. s .run) e
   step-refused (many d f le nd e) nz = ap (λ s. s .run) e
   step-refused (after d f le nd nb ok lt e) nz = absurd (nz (ap (λ s. s .number) e))
   step-refused (final d f le ib nd e) nz = ap (λ s. s .run) e
@@ -108,7 +109,7 @@ module _ (a : Agreement) (now : ℕ) (o : Outcome) (r : List ℕ) where
   -- nor does anything after a breach
   pub step-final : Case a now o r → IsBreach o → next .run ≡ runAt now o
   step-final (misfit n w f e) b = ap (λ s. s .run) e
-  step-final (early d f lt e) b = ap (λ s. s .run) e
+  step-final (backward d f lt e) b = ap (λ s. s .run) e
   step-final (many d f le nd e) b = ap (λ s. s .run) e
   step-final (after d f le nd nb ok lt e) b = absurd (nb b)
   step-final (final d f le ib nd e) b = ap (λ s. s .run) e
@@ -193,7 +194,7 @@ module _ (bytes : List ℕ) (a : Agreement) (mains : List ℕ) (ck : checked byt
       go : Case a (q .lastTime) (q .outcome) r
           → (d : Reading) × (fitting a r ≡ some d) × (ps ≢ []) × T (subset ps mains) × (a .start ≤ t) × (t ≤ d .time)
       go (misfit n w f e) = absurd (unmoved n e)
-      go (early d f lt e) = absurd (unmoved 10 e)
+      go (backward d f lt e) = absurd (unmoved 10 e)
       go (many d f le nd e) = absurd (unmoved 11 e)
       go (after d f le nd nb′ ok lt e) =
           let reaches : reached a (q .outcome) d ≡ breach t ps = sym (ap (λ s. s .run .outcome) e) ∙ b in

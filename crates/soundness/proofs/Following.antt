@@ -18,7 +18,8 @@ use Rattle.csl.specs.Values.{evalBool, evalNum, who}
 use Rattle.csl.specs.Outcomes.{Outcome, Residue, Sight, both, breach, joined, orStuck, unit}
 use Rattle.csl.specs.Rules.{Reading, Step, activate, activating, blamed, during, following, late, taken, wants}
 use Rattle.csl.specs.Rules.{window, withValues}
-use Rattle.csl.specs.Places.{across, clauseAt, follow}
+use Rattle.csl.specs.Places.{clauseAt}
+use Rattle.csl.specs.Rules.{across, follow}
 use Rattle.csl.specs.Table.{standFor, standsFor}
 use Rattle.laws.proofs.Bools.{both-true}
 use Rattle.laws.proofs.Options.{from-bind, from-need, some-bind, some-inj}

@@ -22,7 +22,8 @@ use Rattle.csl.specs.Outcomes.{Outcome, Residue, Sight, both, breach, done, ear
 use Rattle.csl.specs.Outcomes.{later, orStuck, running, stuck, unit}
 use Rattle.csl.specs.Rules.{Reading, Window, blamed, blamedAll, during, forecasting, taken, walk, walkIn, wants}
 use Rattle.csl.specs.Rules.{window}
-use Rattle.csl.specs.Places.{across, clauseAt, forecast}
+use Rattle.csl.specs.Places.{clauseAt}
+use Rattle.csl.specs.Rules.{across, forecast}
 use Rattle.csl.specs.Table.{standFor}
 use Rattle.laws.proofs.Options.{from-bind, from-need, some-inj}
 use Rattle.laws.proofs.Integers.{later-from}

@@ -22,7 +22,8 @@ use Rattle.csl.specs.Outcomes.{Outcome, Residue, Sight, Sort, anObligation, aCh
 use Rattle.csl.specs.Outcomes.{joinBoth, joinEither, joined, later, orStuck, running, stuck, unit}
 use Rattle.csl.specs.Rules.{Reading, Window, blamed, blamedAll, during, following, forecasting, late, walk, walkIn}
 use Rattle.csl.specs.Rules.{window}
-use Rattle.csl.specs.Places.{Found, across, clauseAt, follow, forecast}
+use Rattle.csl.specs.Places.{Found, clauseAt}
+use Rattle.csl.specs.Rules.{across, follow, forecast}
 use Rattle.laws.proofs.Bools.{T-both, T-left, T-right}
 use Rattle.laws.proofs.Options.{from-bind, from-need, some-bind, some-inj}
 use Rattle.soundness.proofs.Members.{Sub, in-left, in-right, sub-both, sub-refl, sub-trans, sub→subset}

@@ -19,7 +19,7 @@ use Rattle.csl.specs.Syntax.{Agreement, number}
 use Rattle.csl.specs.Check.{accepted, checked, refused}
 use Rattle.csl.specs.Outcomes.{Outcome, Residue, breach, done, running, stuck}
 use Rattle.csl.specs.Rules.{Reading}
-use Rattle.csl.specs.Places.{follow, forecast}
+use Rattle.csl.specs.Rules.{follow, forecast}
 use Rattle.csl.specs.Run.{Run, rawReading, step}
 use Rattle.csl.specs.Table.{headCells, natCells, padded, runOf, tableOf}
 use Rattle.csl.specs.Entries.{Forecast, breachAt, forecastOf, forecastRun, isTable, noBreach, refusedForecast, shown}
@@ -32,7 +32,7 @@ use Rattle.soundness.proofs.Good.{Good}
 use Rattle.soundness.proofs.Bits.{bits-back, bits-pos, in-members, members-in, same-bits}
 use Rattle.soundness.proofs.Readings.{reading-ok}
 use Rattle.soundness.proofs.Following.{ReadingOk}
-use Rattle.soundness.proofs.Runs.{Alike, Case, Inv, InvOf, Since, after, breached, cases, early, few-mains}
+use Rattle.soundness.proofs.Runs.{Alike, Case, Inv, InvOf, Since, after, breached, cases, backward, few-mains}
 use Rattle.soundness.proofs.Runs.{final, isFair, isTable-is, many, misfit, not-stuck, reached-good, reads}
 use Rattle.soundness.proofs.Runs.{runAt, same, step-inv, table-len}
 use Rattle.soundness.proofs.Demand3.{step-final}
@@ -153,7 +153,7 @@ module _ (bytes : List ℕ) (a : Agreement) (mains : List ℕ) (ck : checked byt
     where
       go : Case a (q .lastTime) (q .outcome) m → Next a f (timeIn m) ((step a q m) .run)
       go (misfit n w g e) = impossible cc
-      go (early d g lt e) = let n : _≡_ {A = ℕ} 10 0 = sym (ap (λ s. s .number) e) ∙ z in absurd (omega arith)
+      go (backward d g lt e) = let n : _≡_ {A = ℕ} 10 0 = sym (ap (λ s. s .number) e) ∙ z in absurd (omega arith)
       go (many d g le nd e) = let n : _≡_ {A = ℕ} 11 0 = sym (ap (λ s. s .number) e) ∙ z in absurd (omega arith)
       go (after d g le nd nb ok lt e) =
           let type : d .type ≡ 0 = ap (λ x. x .type) (some-inj (sym g ∙ mk .1)) ∙ mk .2 in

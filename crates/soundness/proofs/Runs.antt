@@ -17,7 +17,7 @@ use Rattle.csl.specs.Typing.{blameOk, namesOf}
 use Rattle.csl.specs.Check.{accepted, checked, refused}
 use Rattle.csl.specs.Outcomes.{Outcome, Residue, both, breach, done, running, stuck, unit, units}
 use Rattle.csl.specs.Rules.{Reading}
-use Rattle.csl.specs.Places.{follow}
+use Rattle.csl.specs.Rules.{follow}
 use Rattle.csl.specs.Run.{Fit, Raw, Run, Stepped, fit, fitOf, followed, kept, rawReading, started, step, tooMany}
 use Rattle.csl.specs.Run.{typedReading, unfit}
 use Rattle.csl.specs.Table.{headCells, joinCells, natCells, padded, residueCells, runOf, tableLength, tableOf}
@@ -89,7 +89,7 @@ tooMany-is stuck = refl
 pub data Case (a : Agreement) (t : ℕ) (o : Outcome) (bytes : List ℕ) : Type 0 where
   misfit : (n : ℕ) → (n ≡ 8) ⊎ (n ≡ 9) → fitting a bytes ≡ none → step a (runAt t o) bytes ≡ stepped n (runAt t o)
       → Case a t o bytes
-  early : (d : Reading) → fitting a bytes ≡ some d → d .time < t → step a (runAt t o) bytes ≡ stepped 10 (runAt t o)
+  backward : (d : Reading) → fitting a bytes ≡ some d → d .time < t → step a (runAt t o) bytes ≡ stepped 10 (runAt t o)
       → Case a t o bytes
   many : (d : Reading) → fitting a bytes ≡ some d → t ≤ d .time → 128 < needed (reached a o d)
       → step a (runAt t o) bytes ≡ stepped 11 (runAt t o) → Case a t o bytes
@@ -127,7 +127,8 @@ unfolding step
 cases a t o bytes ns = fit-cases a t bytes
     (λ n w f e. misfit n w f (ap (λ x. elim x [ unfit m ↦ stepped m (runAt t o) | fit d ↦ followed a (runAt t o) d ])
     e))
-    (λ d f lt e. early d f lt (ap (λ x. elim x [ unfit m ↦ stepped m (runAt t o) | fit d ↦ followed a (runAt t o) d ])
+    (λ d f lt e. backward d f lt
+    (ap (λ x. elim x [ unfit m ↦ stepped m (runAt t o) | fit d ↦ followed a (runAt t o) d ])
     e))
     (λ w d rw′ td f le e. let ok = reading-ok a w d td in
     follow-case a t o bytes d ns f le (ok .0)
@@ -238,7 +239,7 @@ written-fine a now o r ns = go (cases a now o r ns)
         (written (tableOf (runAt now o)) (step a (runAt now o) r))
     go (misfit n (inl e₈) f e) = refuses 7 (e ∙ ap (λ n. stepped n (runAt now o)) e₈)
     go (misfit n (inr e₉) f e) = refuses 8 (e ∙ ap (λ n. stepped n (runAt now o)) e₉)
-    go (early d f lt e) = refuses 9 e
+    go (backward d f lt e) = refuses 9 e
     go (many d f le nd e) = refuses 10 e
     go (after d f le nd nb ok lt e) = takes (runAt (d .time) (reached a o d)) e
     go (final d f le ib nd e) = takes (runAt now o) e
@@ -358,7 +359,7 @@ module _ (bytes : List ℕ) (a : Agreement) (mains : List ℕ) (ck : checked byt
     where
       go : Case a now o r → InvOf ((step a (runAt now o) r) .run)
       go (misfit n w f e) = subst (λ s. InvOf (s .run)) (sym e) i
-      go (early d f lt e) = subst (λ s. InvOf (s .run)) (sym e) i
+      go (backward d f lt e) = subst (λ s. InvOf (s .run)) (sym e) i
       go (many d f le nd e) = subst (λ s. InvOf (s .run)) (sym e) i
       go (after d f le nd nb ok lt e) = subst (λ s. InvOf (s .run)) (sym e) (record {
         from = omega (arith, i .from);

@@ -18,7 +18,7 @@ use Rattle.csl.specs.Table.{isZero, asNats, HeadNumbers, headNumbers, readState
 use Rattle.laws.proofs.Options.{from-bind, from-need, some-bind, passes, some-inj, none-some}
 use Rattle.laws.proofs.Bools.{T-both, both-true}
 use Rattle.laws.proofs.Cells.{nat-is}
-use Rattle.places.specs.Locate.{mainsOf}
+use Rattle.csl.specs.Check.{mainsOf}
 use Rattle.state.specs.Shown.{runIn}
 
 -- ---- the eight cells of the head

@@ -25,7 +25,7 @@ use Rattle.laws.proofs.PartyBits.{members-within}
 use Rattle.laws.proofs.Integers.{pos-inj}
 use Rattle.laws.proofs.Residues.{single-is}
 use Rattle.parties.proofs.Masks.{within-subset, bits-members}
-use Rattle.places.specs.Locate.{mainsOf}
+use Rattle.csl.specs.Check.{mainsOf}
 use Rattle.units.specs.Cells.{numberBelow}
 use Rattle.units.specs.Units.{sightNumbers}
 use Rattle.units.proofs.Cells.{below-is, below-not}
@@ -232,8 +232,8 @@ module _ (cells : List ℤ) (l : length cells ≡ 3080) (A : List ℕ) {time : �
     is-when : getD cells 2 (pos 0) ≡ pos when
     is-when = below-is (time + 1) (getD cells 2 (pos 0)) (omega arith) ∙ ap pos (sym e)
 
-    pub breached-early : {start : ℕ} → start ≡ le32 A 4 → when < start → Shows (runIn A cells) cells sights Damaged
-    breached-early s k = broken-none λ b. let same : b .when ≡ when = pos-inj (sym (b .isWhen) ∙ is-when) in
+    pub breached-before : {start : ℕ} → start ≡ le32 A 4 → when < start → Shows (runIn A cells) cells sights Damaged
+    breached-before s k = broken-none λ b. let same : b .when ≡ when = pos-inj (sym (b .isWhen) ∙ is-when) in
         omega (arith, b .from)
 
   pub breached-wide : {bits : ℕ} → bits ≡ numberBelow 65_536 (getD cells 3 (pos 0)) → bits ≡ 65_536
@@ -473,8 +473,8 @@ module _ (cells : List ℤ) (l : length cells ≡ 3080) (A : List ℕ) (sights :
     is-now : getD cells 1 (pos 0) ≡ pos time
     is-now = below-is 4_294_967_296 (getD cells 1 (pos 0)) (omega (arith, before-end)) ∙ ap pos (sym e)
 
-    pub head-early : {start : ℕ} → start ≡ le32 A 4 → time < start → Shows (runIn A cells) cells sights Damaged
-    head-early s k = shown-none cells l A sights λ q f. let same : f .head .now ≡ time = pos-inj
+    pub head-before : {start : ℕ} → start ≡ le32 A 4 → time < start → Shows (runIn A cells) cells sights Damaged
+    head-before s k = shown-none cells l A sights λ q f. let same : f .head .now ≡ time = pos-inj
         (sym (f .isNow) ∙ is-now) in omega (arith, f .from)
 
     pub head-at : {start r n : ℕ} {b : Bool} → start ≡ le32 A 4 → start ≤ time

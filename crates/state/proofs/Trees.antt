@@ -32,7 +32,7 @@ use Rattle.laws.proofs.Residues.{some-units}
 use Rattle.laws.proofs.Bools.{T→true}
 use Rattle.parties.specs.Masks.{maskOf, ValidMembers}
 use Rattle.parties.proofs.Masks.{mask-bits, bits-small}
-use Rattle.places.specs.Locate.{mainsOf}
+use Rattle.csl.specs.Check.{mainsOf}
 use Rattle.units.specs.declared.Waiting.{Waiting}
 use Rattle.units.specs.declared.Waiting.the-variants.{Damaged as NoUnit, Of}
 use Rattle.units.specs.Cells.{numberBelow}

@@ -13,7 +13,7 @@ use Rattle.csl.specs.Decode.{agreementOf}
 use Rattle.csl.specs.Outcomes.{Residue, units, Outcome, done, breach, running}
 use Rattle.csl.specs.Run.{Run}
 use Rattle.csl.specs.Table.{isZero, runOf}
-use Rattle.places.specs.Locate.{mainsOf}
+use Rattle.csl.specs.Check.{mainsOf}
 use Rattle.units.specs.Units.{sightNumbers}
 use Rattle.state.specs.declared.State.{State}
 use Rattle.state.specs.declared.State.the-variants.{Damaged, Running, Fulfilled, Breached}

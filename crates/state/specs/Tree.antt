@@ -12,7 +12,7 @@ use Rattle.csl.specs.Syntax.{Join, Agreement}
 use Rattle.csl.specs.Decode.{agreementOf, joinOf}
 use Rattle.csl.specs.Outcomes.{Sort, Residue, unit, both, units}
 use Rattle.csl.specs.Table.{isZero, waitingUnit, waiting, joining, unitSort, residueParties, sortNumber}
-use Rattle.places.specs.Locate.{mainsOf}
+use Rattle.csl.specs.Check.{mainsOf}
 use Rattle.units.specs.Units.{cellsIn, PartiesOf, sightNumbers, sortOf}
 use Rattle.state.specs.declared.First.{First}
 use Rattle.state.specs.declared.First.the-variants.{Waits, Joins, Nothing}

@@ -7,24 +7,21 @@ ghost use lib.ListN.{length};
 ghost use Rattle.csl.specs.Parties.{member, bitsOf};
 ghost use Rattle.csl.specs.Typing.{joinOk};
 ghost use Rattle.csl.specs.Decode.{joinOf};
-ghost use Rattle.places.specs.Locate.{mainsOf};
+ghost use Rattle.csl.specs.Check.{mainsOf};
 ghost use Rattle.units.specs.Units.{Prepared};
 ghost use Rattle.state.specs.Tree.{UnitFirst, TreeRoom, FirstIs, JoinedIs, WalkIs};
 ghost use Rattle.state.specs.Shown.{Shows, runIn, HeadAt, FulfilledIs};
-use arith::unsigned32;
+use cells::HEAD_CELLS;
+use cells::TABLE_CELLS;
+use cells::UNIT_CELLS;
+use octets::unsigned32;
 use parties::is_subset;
 use parties::member_count;
 use parties::union;
-use units::UNIT;
 use units::Waiting;
 use units::number_below;
 use units::waiting_unit;
 use units::zeros;
-
-// A table's cells, and those of its head.
-const TABLE: usize = 3080;
-
-const HEAD: usize = 8;
 
 // No state, no kind of a unit, no count of units, no set of parties and no time is as great as these.
 const NO_STATE: usize = 4;
@@ -71,7 +68,7 @@ fn read_unit(
     requires { ⌜ Prepared (now places) (now agreement) mains × UnitFirst time kind (now cells) (now sights) ⌝ }
     ensures { λ r. ⌜ ((n : ℕ) → 0 < n → WalkIs (now (agreement .entry)) time n (now (cells .entry)) (now (sights .exit)) r) ⌝ }
 {
-    match waiting_unit(agreement, places, mains, time, kind, &cells[1..UNIT]) {
+    match waiting_unit(agreement, places, mains, time, kind, &cells[1..UNIT_CELLS]) {
         Waiting::Damaged => Walk::Damaged,
         Waiting::Of {
             parties,
@@ -135,7 +132,7 @@ fn first_unit(cells: &[i64]) -> First
     if kind == NO_KIND {
         return First::Nothing;
     }
-    if zeros(&cells[1..UNIT]) {
+    if zeros(&cells[1..UNIT_CELLS]) {
         First::Joins(kind)
     } else {
         First::Nothing
@@ -162,13 +159,13 @@ fn walk_tree(
         First::Nothing => Walk::Damaged,
         First::Waits(kind) => read_unit(agreement, places, mains, time, kind, cells, sights),
         First::Joins(kind) => {
-            let rest = &cells[UNIT..];
+            let rest = &cells[UNIT_CELLS..];
             let m = n - 1;
             let left = walk_tree(agreement, places, mains, time, rest, m, &mut sights[2..]);
             let Walk::Tree { units: k, bits: x } = left else {
                 return Walk::Damaged;
             };
-            let more = &cells[UNIT + UNIT * k..];
+            let more = &cells[UNIT_CELLS + UNIT_CELLS * k..];
             let at = 2 + 2 * k;
             let i = m - k;
             let right = walk_tree(agreement, places, mains, time, more, i, &mut sights[at..]);
@@ -191,7 +188,7 @@ fn fulfilled(table: &[i64]) -> State
     if !zeros(&table[4..5]) {
         return State::Damaged;
     }
-    if zeros(&table[HEAD..TABLE]) {
+    if zeros(&table[HEAD_CELLS..TABLE_CELLS]) {
         State::Fulfilled
     } else {
         State::Damaged
@@ -223,7 +220,7 @@ fn breached(agreement: &[u8], mains: usize, time: usize, table: &[i64]) -> State
     if !zeros(&table[4..5]) {
         return State::Damaged;
     }
-    if !zeros(&table[HEAD..TABLE]) {
+    if !zeros(&table[HEAD_CELLS..TABLE_CELLS]) {
         return State::Damaged;
     }
     let t = table[2];
@@ -253,14 +250,14 @@ fn running(
     if n == NO_COUNT {
         return State::Damaged;
     }
-    let units = &table[HEAD..TABLE];
+    let units = &table[HEAD_CELLS..TABLE_CELLS];
     match walk_tree(agreement, places, mains, time, units, n, sights) {
         Walk::Damaged => State::Damaged,
         Walk::Tree { units: k, bits: _ } => {
             if k != n {
                 return State::Damaged;
             }
-            if zeros(&table[HEAD + UNIT * n..TABLE]) {
+            if zeros(&table[HEAD_CELLS + UNIT_CELLS * n..TABLE_CELLS]) {
                 State::Running(n)
             } else {
                 State::Damaged
@@ -288,7 +285,7 @@ pub fn state_of(
     if time < unsigned32(agreement, 4) {
         return State::Damaged;
     }
-    if !zeros(&table[5..HEAD]) {
+    if !zeros(&table[5..HEAD_CELLS]) {
         return State::Damaged;
     }
     match number_below(table[0], NO_STATE) {

@@ -6,9 +6,9 @@ ghost use Rattle.csl.specs.Bytes.{part};
 ghost use Rattle.stream.specs.Records.{sizeOf};
 ghost use Rattle.stream.specs.Next.{nextOf, Comes};
 ghost use Rattle.stream.specs.declared.Next.the-variants.{Wait};
-use arith::unsigned16;
 use libc::STDIN_FILENO;
 use libc::STDOUT_FILENO;
+use octets::unsigned16;
 
 // Puts b at `at`, where there is room, and answers the place after it.
 pub fn put(out: &mut [u8], at: usize, b: u8) -> usize {

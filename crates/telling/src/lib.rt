@@ -10,7 +10,6 @@ ghost use Rattle.lines.specs.Put.{Put};
 ghost use Rattle.monitor.specs.Answers.{forecastAnswer};
 ghost use Rattle.telling.specs.Told.{lineRoom, Begins, Follows};
 use arith::equal;
-use arith::unsigned32;
 use lines::put_bytes;
 use lines::put_decimal;
 use lines::put_next;
@@ -18,6 +17,7 @@ use lines::put_refusal;
 use monitor::Foretold;
 use monitor::Started;
 use monitor::Taken;
+use octets::unsigned32;
 
 // No line is longer.
 pub const LINE_ROOM: usize = 96;

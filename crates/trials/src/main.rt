@@ -3,13 +3,13 @@
 // 1, an agreement, and 2, a reading: length (2 bytes) and bytes; 3, a table of zeros: length (2 bytes);
 // 4, a cell of it: place (2 bytes) and value (8 bytes); 5 to 8, a call of check, start, reading or forecast on what was given last;
 // 9, a name: length (2 bytes) and bytes. It takes the reading's place until the next.
-use arith::byte;
-use arith::unsigned16;
-use arith::unsigned32;
 use monitor::Checked;
 use monitor::Foretold;
 use monitor::Started;
 use monitor::Taken;
+use octets::byte;
+use octets::unsigned16;
+use octets::unsigned32;
 use stream::flush;
 use stream::make_room;
 use stream::put;

@@ -22,7 +22,7 @@ use Rattle.csl.specs.Decode.{ofLength, expr, tyOf, tysOf}
 use Rattle.csl.specs.Typing.{typeExpr, sameTy, operand, result}
 use Rattle.laws.proofs.Bools.{by}
 use Rattle.arith.proofs.Ints.{some-bits, seen, read! }
-use Rattle.arith.proofs.Bytes.{whole-from}
+use Rattle.octets.proofs.Bytes.{whole-from}
 use Rattle.records.proofs.Trees.{kind-leaf, kind-not, kind-binary, kind-no-expr-low, kind-no-expr-high}
 use Rattle.records.specs.Kinds.{leafKind, opOf, arithmeticOf}
 use Rattle.typing.specs.Types.{byteType, recordKind, tyNumber, typeNumber, sightType, literalType, leafType}

@@ -20,7 +20,7 @@ use Rattle.laws.proofs.Clash.{impossible}
 use Rattle.laws.proofs.RecordEnds.{record-end-from}
 use Rattle.laws.proofs.Types.{types-length}
 use Rattle.arith.proofs.Lists.{length-part, part-part}
-use Rattle.arith.proofs.Bytes.{record-end-within}
+use Rattle.octets.proofs.Bytes.{record-end-within}
 use Rattle.records.specs.Index.{Indexed, headAt, pieceAt, templatePlace}
 use Rattle.records.proofs.Index.{heads-in, heads-at, heads-past, template-facts}
 use Rattle.parties.specs.Masks.{maskOf, mayBlame, BlameMask}

@@ -19,7 +19,7 @@ use Rattle.laws.proofs.Types.{types-append, types-length}
 use Rattle.laws.proofs.Clash.{impossible}
 use Rattle.laws.proofs.Bools.{by}
 use Rattle.arith.proofs.Lists.{length-part}
-use Rattle.arith.proofs.Bytes.{record-end-within}
+use Rattle.octets.proofs.Bytes.{record-end-within}
 use Rattle.records.specs.Index.{Indexed, readingPlace}
 use Rattle.records.proofs.Index.{readings-at, readings-past, reading-facts, reading-end, reading-types}
 use Rattle.typing.specs.Types.{tyNumber, typeNumber}

@@ -13,7 +13,7 @@ use lib.Bits.{bitOr}
 use lib.Dec.{T, ltb, eqb, eqb→eq}
 use lib.ListN.{length, getD, take}
 use lib.Seq.{take-suc, take-length}
-use Rattle.arith.proofs.Bytes.{whole-from}
+use Rattle.octets.proofs.Bytes.{whole-from}
 use Rattle.csl.specs.Lists.{all, at}
 use Rattle.csl.specs.Bytes.{byte, le16, part, isRecord, kindNumber, recordEnd}
 use Rattle.csl.specs.Parties.{member, members, bitsOf}

@@ -25,15 +25,15 @@ use Rattle.laws.proofs.Options.{from-bind, from-need, some-bind, passes, some-i
 use Rattle.laws.proofs.Bools.{T-both, both-true, true-not-false, T→true}
 use Rattle.laws.proofs.Types.{types-length}
 use Rattle.arith.proofs.Lists.{length-part}
-use Rattle.arith.proofs.Bytes.{record-end-within}
+use Rattle.octets.proofs.Bytes.{record-end-within}
 use Rattle.records.proofs.Index.{heads-in}
 use Rattle.parties.specs.Masks.{HasBit, ValidMembers}
 use Rattle.parties.proofs.Masks.{within-subset}
 use Rattle.parties.proofs.Typed.{valid-typed, declared-valid}
 use Rattle.soundness.proofs.Members.{member→in, in→member, stand-in}
 use Rattle.soundness.proofs.ReadBack.{found-placed}
-use Rattle.arith.specs.Values.{valuesOk}
-use Rattle.places.specs.Locate.{mainsOf, Accepted}
+use Rattle.records.specs.TypedValues.{valuesOk}
+use Rattle.csl.specs.Check.{mainsOf, Accepted}
 use Rattle.places.proofs.Descents.{fairly, found-clause, found-typed}
 use Rattle.units.specs.declared.Waiting.the-variants.{Damaged, Of}
 use Rattle.units.specs.Blames.{blamesOf, WholeIn, PartiesAre}

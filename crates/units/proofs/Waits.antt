@@ -29,8 +29,9 @@ use Rattle.laws.proofs.Integers.{pos-inj}
 use Rattle.laws.proofs.Types.{types-length}
 use Rattle.places.specs.declared.Located.{Located}
 use Rattle.places.specs.declared.Located.the-variants.{Nothing, At}
-use Rattle.arith.specs.Values.{valueOk, valuesOk}
-use Rattle.places.specs.Locate.{mainsOf, Accepted, waitNumber, FoundAt, Locates}
+use Rattle.records.specs.TypedValues.{valueOk, valuesOk}
+use Rattle.places.specs.Locate.{waitNumber, FoundAt, Locates}
+use Rattle.csl.specs.Check.{mainsOf, Accepted}
 use Rattle.units.specs.declared.Waiting.{Waiting}
 use Rattle.units.specs.declared.Waiting.the-variants.{Damaged, Of}
 use Rattle.units.specs.Cells.{numberBelow}
@@ -362,8 +363,8 @@ module _ {A : List ℕ} (acc : Accepted A) (now sort : ℕ) (zs : List ℤ) (l :
     is-when : getD zs 1 (pos 0) ≡ pos when
     is-when = below-is (now + 1) (getD zs 1 (pos 0)) (omega arith) ∙ ap pos (sym e)
 
-    pub wait-early : {start : ℕ} → start ≡ le32 A 4 → when < start → WaitingIs A now (sortOf sort) zs Damaged
-    wait-early g k = damaged λ h. let same : h .when ≡ when = pos-inj (sym (h .isWhen) ∙ is-when) in
+    pub wait-before : {start : ℕ} → start ≡ le32 A 4 → when < start → WaitingIs A now (sortOf sort) zs Damaged
+    wait-before g k = damaged λ h. let same : h .when ≡ when = pos-inj (sym (h .isWhen) ∙ is-when) in
         omega (arith, h .from)
 
     module _ {place : ℕ} (b : place ≡ numberBelow 9_223_372_036_854_775_808 (getD zs 0 (pos 0)))

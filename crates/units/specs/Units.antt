@@ -15,9 +15,10 @@ use Rattle.csl.specs.Decode.{tysOf, headsOf, agreementOf}
 use Rattle.csl.specs.Outcomes.{Sort, anObligation, aChoice, Residue, unit, both, units}
 use Rattle.csl.specs.Places.{Found, clauseAt}
 use Rattle.csl.specs.Table.{isZero, waitingUnit, standFor, residueParties}
-use Rattle.arith.specs.Values.{valuesOk}
+use Rattle.records.specs.TypedValues.{valuesOk}
 use Rattle.records.specs.Index.{Indexed}
-use Rattle.places.specs.Locate.{Accepted, mainsOf, clauseIn}
+use Rattle.places.specs.Locate.{clauseIn}
+use Rattle.csl.specs.Check.{Accepted, mainsOf}
 use Rattle.units.specs.Blames.{blamesOf}
 use Rattle.units.specs.Cells.{partiesIn}
 use Rattle.units.specs.declared.Waiting.{Waiting}

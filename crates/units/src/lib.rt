@@ -14,11 +14,10 @@ ghost use Rattle.records.specs.Index.{Indexed};
 ghost use Rattle.units.specs.Cells.{numberBelow, partiesIn};
 ghost use Rattle.units.specs.Blames.{WholeIn, PartiesAre};
 ghost use Rattle.units.specs.Units.{Prepared, CellsShow, FoundThere, LocatedIs, WaitingIs, sortOf};
-use arith::byte;
-use arith::kind;
-use arith::record_end;
-use arith::unsigned32;
-use arith::values_ok;
+use octets::byte;
+use octets::kind;
+use octets::record_end;
+use octets::unsigned32;
 use parties::PARAMS_FROM;
 use parties::is_subset;
 use parties::party_bit;
@@ -29,15 +28,15 @@ use records::IN_SIGHT;
 use records::declared_bits;
 use records::first_clause;
 use records::param_count;
+use records::values::values_ok;
 
-// A unit's cells. Behind its kind stand its place and its time, its party parameters and its values.
-pub const UNIT: usize = 24;
+// Behind a unit's sort stand its place and its time, then its party parameters, then its values: of these cells the first
+// parameter, the first value, and how many there are.
+const FIRST_PARAM: usize = cells::FIRST_PARAM - 1;
 
-const FIRST_PARAM: usize = 2;
+const FIRST_VALUE: usize = cells::FIRST_VALUE - 1;
 
-const FIRST_VALUE: usize = 7;
-
-const CELLS: usize = 23;
+const CELLS: usize = cells::UNIT_CELLS - 1;
 
 // No place of an agreement is so far.
 const NO_PLACE: usize = 9_223_372_036_854_775_808;

@@ -1,7 +1,7 @@
 // What becomes of a wait: its window, its `where`, and what a reading or time alone makes of it.
 ghost use mathlib.Core.Path.{_≡_};
 ghost use mathlib.Core.List.{_++_};
-ghost use Prim.Native.Nat.{ℕ, _+_, _-_, _≤_, min};
+ghost use Prim.Native.Nat.{ℕ, _+_, _-_, _≤_};
 ghost use lib.IntN.{ℤ, pos, _-ℤ_};
 ghost use lib.ListN.{length, take, drop};
 ghost use Rattle.csl.specs.Decode.{expr, waitAt};
@@ -9,13 +9,18 @@ ghost use Rattle.arith.specs.Within.{Within};
 ghost use Rattle.cells.specs.Reduce.{following, thenValues};
 ghost use Rattle.residues.specs.Reduces.{farthest};
 ghost use Rattle.waits.specs.Fates.{modeAt, FateIs, WindowIs, conditionOf};
-use arith::byte;
 use arith::exact_difference;
 use arith::exact_sum;
-use arith::record_end;
+use arith::lesser;
 use evaluation::eval;
 use evaluation::is_true;
+use octets::byte;
+use octets::record_end;
+use records::IN_SIGHT;
 use residues::copy;
+
+// Room for the values in sight and a reading's, or for an instance's values and its parties behind 16 of them.
+pub const SIGHT_CELLS: usize = 24;
 
 // What a clause does that is activated: it waits, it follows a reading, or it tells its breach.
 pub enum Step {
@@ -42,13 +47,6 @@ pub enum Fate {
     Waits,
     Late(i64),
     Taken(i64),
-}
-
-// Where a part begins that would begin at i: not beyond the end.
-pub fn start(i: usize, len: usize) -> usize
-    ensures { λ r. ⌜ (r ≡ min i len) × (r ≤ len) ⌝ }
-{
-    if i < len { i } else { len }
 }
 
 // The window of the wait at i in the record s.
@@ -86,9 +84,9 @@ fn holds(s: &[u8], i: usize, values: &[i64], reading: &[i64], depth: usize) -> b
     requires { ⌜ (i ≤ 5) × (length (now values) ≤ 16) × (length (now reading) ≤ 4) ⌝ }
     ensures { λ r. ⌜ r ≡ conditionOf (now (s .entry)) i depth (now (values .entry) ++ now (reading .entry)) ⌝ }
 {
-    let mut cells = [0i64; 24];
+    let mut cells = [0i64; SIGHT_CELLS];
     let n = sight(values, reading, &mut cells);
-    let a = start(i + 1, s.len());
+    let a = lesser(i + 1, s.len());
     let b = record_end(s, i + 1);
     let x = eval(&s[a..b], &cells[..n], depth);
     is_true(x)
@@ -167,5 +165,5 @@ pub fn then_values(
     let left = exact_difference(last, time as i64);
     let n = sight(values, reading, cells);
     cells[n] = left;
-    start(n + 1, 16)
+    lesser(n + 1, IN_SIGHT)
 }

@@ -7,7 +7,8 @@ use native.Mathlib.Omega.{arith}
 use lib.Dec.{ltb}
 use lib.IntN.{ℤ, pos}
 use lib.ListN.{length, getD, take, drop, length-drop}
-use lib.Seq.{drop-drop, take-all}
+use lib.Seq.{drop-drop}
+use Rattle.laws.proofs.Residues.{some-units}
 use Rattle.csl.specs.Decode.{joinOf}
 use Rattle.csl.specs.Outcomes.{Residue, unit, both, units}
 use Rattle.cells.specs.Reduce.{Mode, joined}
@@ -73,11 +74,6 @@ module _ (m : Mode) (s : List ℕ) (size : ℕ) where
       ap (λ n. firstOf (across m s n sights cs)) none ∙ ap firstOf (tree-first res 0 sights cs t)
 
 -- ---- what the code asks for
-some-units : (res : Residue) → 1 ≤ units res
-unfolding units
-some-units (unit k p a e) = omega arith
-some-units (both j l r) = omega arith
-
 front-of : (size : ℕ) (res : Residue) (sights : List ℕ) (cs : List ℤ) → TreeOf size res sights cs → (24 ≤ length cs)
     × (2 ≤ length sights)
 unfolding TreeOf
@@ -153,5 +149,3 @@ unfolding firstOf
 tree-only e = rw e refl
 
 -- what `&l[k..]` is
-pub part-from : {A : Type 0} (k : ℕ) (l : List A) → take (length l - k) (drop k l) ≡ drop k l
-part-from k l = take-all (length l - k) (drop k l) (rw (length-drop k l) (omega arith))

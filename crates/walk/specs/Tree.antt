@@ -7,7 +7,7 @@ use Prim.Native.Nat.{ℕ, _*_, _≤_, _+_}
 use lib.IntN.{ℤ, pos}
 use lib.ListN.{length, getD, take, drop}
 use Rattle.cells.specs.Reduce as cells
-use Rattle.cells.specs.Across.{natOf, across}
+use Rattle.cells.specs.Across.{natOf, across, unitReduced}
 use lib.Dec.{ltb}
 use Rattle.csl.specs.Outcomes.{Residue, unit, both, units}
 use Rattle.cells.specs.Reduce.{Mode}
@@ -20,6 +20,10 @@ pub record Waiting (size params values : ℕ) (unit : List ℤ) : Type 0 where
   pub within : natOf (getD unit 1 (pos 0)) ≤ size
   pub since : getD unit 2 (pos 0) ≡ pos (natOf (getD unit 2 (pos 0)))
   pub dated : natOf (getD unit 2 (pos 0)) ≤ 4_294_967_296
+
+-- what becomes of the first unit
+abbrev pub unitAt : Mode → List ℕ → List ℕ → List ℤ → cells.Reduced
+unitAt m s sights cs = unitReduced m s (getD sights 0 0) (getD sights 1 0) (take 24 cs)
 
 unfoldable pub firstOf : List cells.Reduced → cells.Reduced
 firstOf [] = cells.done

@@ -8,14 +8,20 @@ ghost use Rattle.residues.specs.Reduces.{Is, farthest};
 ghost use Rattle.records.specs.Index.{Indexed};
 ghost use Rattle.waits.specs.Fates.{modeAt};
 ghost use lib.Dec.{ltb};
-ghost use Rattle.cells.specs.Across.{natOf, unitReduced};
-ghost use Rattle.walk.specs.Tree.{Waiting, Tree, treeReduced};
+ghost use Rattle.cells.specs.Across.{natOf};
+ghost use Rattle.walk.specs.Tree.{Waiting, Tree, treeReduced, unitAt};
 use activation::Site;
 use activation::activate;
-use arith::byte;
 use arith::equal;
 use arith::less;
-use arith::record_end;
+use cells::FIRST_PARAM;
+use cells::FIRST_VALUE;
+use cells::UNIT_CELLS;
+use octets::byte;
+use octets::record_end;
+use records::MAIN_DEPTH;
+use residues::AND;
+use residues::OR;
 use residues::Reduced;
 use residues::join;
 use residues::room_left;
@@ -36,7 +42,7 @@ fn join_kind(table: &[i64]) -> usize
     ensures { λ r. ⌜ (20 ≤ r) × (r < 22) × (joinOf r ≡ joinOf (natOf (getD (now (table .entry)) 0 (pos 0)))) ⌝ }
 {
     let sort = table[0];
-    if equal(sort, 20) { 20 } else { 21 }
+    if equal(sort, 20) { AND } else { OR }
 }
 
 // A cell that is known to be a natural number.
@@ -61,9 +67,7 @@ fn waiting_unit(
         × (length (now agreement) ≤ farthest) × (length (now out) ≤ 3072) ⌝ }
     requires { ⌜ (24 ≤ length (now table)) × (2 ≤ length (now sights))
         × Waiting (length (now agreement)) (getD (now sights) 0 0) (getD (now sights) 1 0) (take 24 (now table)) ⌝ }
-    ensures { λ r. ⌜ Is (unitReduced (modeAt event (now (rs .entry))) (now (agreement .entry))
-        (getD (now (sights .entry)) 0 0) (getD (now (sights .entry)) 1 0) (take 24 (now (table .entry)))) r
-        (now (out .exit)) ⌝ }
+    ensures { λ r. ⌜ Is (unitAt (modeAt event (now (rs .entry))) (now (agreement .entry)) (now (sights .entry)) (now (table .entry))) r (now (out .exit)) ⌝ }
 {
     let params = sights[0];
     let values = sights[1];
@@ -73,10 +77,10 @@ fn waiting_unit(
         below: byte(agreement, 10),
         place,
         a: natural(table[2]),
-        depth: 23,
+        depth: MAIN_DEPTH,
     };
-    let ps = &table[3..3 + params];
-    let vs = &table[8..8 + values];
+    let ps = &table[FIRST_PARAM..FIRST_PARAM + params];
+    let vs = &table[FIRST_VALUE..FIRST_VALUE + values];
     activate(
         agreement,
         places,
@@ -114,7 +118,7 @@ pub fn across(
     }
     let left = sights[0];
     let seen = &sights[2 + 2 * left..];
-    let right = &table[24 + 24 * left..];
+    let right = &table[UNIT_CELLS + UNIT_CELLS * left..];
     let r = across(agreement, places, event, rs, seen, right, n - 1 - left, out);
     let low = room_left(r, out.len());
     let l = across(
@@ -123,7 +127,7 @@ pub fn across(
         event,
         rs,
         &sights[2..],
-        &table[24..],
+        &table[UNIT_CELLS..],
         left,
         &mut out[..low],
     );

@@ -32,12 +32,12 @@ use Rattle.activation.proofs.+act+activate+both+inside+unfold.Lts-insid
 use Rattle.activation.proofs.unfold.Reads as «unfold»
 use Rattle.activation.proofs.unfold.Kinds as unfold-kinds
 use Rattle.activation.proofs.+act+activate+both+inside+unfold.Lts-unfold as unfold-lts
-use Rattle.arith.proofs.byte.Reads as byte-reads
+use Rattle.octets.proofs.byte.Reads as byte-reads
 use Rattle.records.proofs.param_count.Reads as param-count-reads
 use Rattle.records.proofs.value_count.Reads as value-count-reads
 use Rattle.activation.proofs.sites.then_event.Reads as then-event-reads
 use Rattle.activation.proofs.sites.then_site.Reads as then-site-reads
-use Rattle.activation.proofs.instances.body.Reads as body-reads
+use Rattle.records.proofs.body_span.Reads as body-reads
 use Rattle.residues.proofs.join.Reads as join-reads
 use Rattle.activation.proofs.leads.leads_to.Reads as leads-to-reads
 use Rattle.activation.proofs.leads.outline.Reads as outline-reads
@@ -655,7 +655,7 @@ unfold-activate-requires : (t : ℕ) → unfold-lts.Need-activate-requires (unfo
 unfold-activate-requires t c κs =
     let at-param-count = c .before .before .before in
     let at-body-site = at-param-count .before .before .before in
-    let body = at-body-site .before .body in
+    let body = at-body-site .before .body-span in
     let s = c .before .before .before .before .before .before .before .before .before .before in
     let r = s .pre .1 .0 in
     let f = s .pre .1 .1 in
@@ -671,7 +671,7 @@ unfold-activate-requires t c κs =
             (length (part (s .args .agreement .now) (body .result .from) (body .result .to)))
             (omega (
               arith,
-              length-part (s .args .agreement .now) (body .result .from) (body .result .to) (h .3),
+              length-part (s .args .agreement .now) (body .result .from) (body .result .to) (h .inside),
               f .near,
             )),
       ),
@@ -683,7 +683,7 @@ unfold-activate-requires t c κs =
           m .ensures .1,
         ))
             (omega (arith, length-take (n .result) (s .args .cells .now), n .ensures .2)),
-        fits-body f e (h .2) (h .3)
+        fits-body f e (h .ordered) (h .inside)
             (omega arith),
       ),
     )
@@ -693,12 +693,12 @@ unfold-returns t c =
     let at-param-count = c .before .before .before .before .before in
     let at-body-site = at-param-count .before .before .before in
     let s = c .before .before .before .before .before .before .before .before .before .before .before .before in
-    let h = at-body-site .before .body .ensures in
+    let h = at-body-site .before .body-span .ensures in
     rw (
       at-body-site .body-site .ensures,
       few-more 16 (at-param-count .param-count .result),
-      h .0,
-      h .1,
+      h .begins,
+      h .ends,
       at-param-count .param-count .ensures .0,
       at-param-count .before .before .value-count .ensures .1,
     ) at

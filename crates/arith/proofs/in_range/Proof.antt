@@ -1,7 +1,7 @@
 -- Both ends are tested as the definition's range says.
 use mathlib.Core.Path.{_∙_}
 use Rattle.arith.proofs.Ints.{read}
-use Rattle.arith.proofs.Values.{high-range, low-range}
+use Rattle.arith.proofs.Ranges.{high-range, low-range}
 use Rattle.arith.proofs.in_range.Statement.{statement}
 use Rattle.arith.proofs.in_range.Tie as tie
 

@@ -10,9 +10,9 @@ use borrow.Fn.PlainCycle.{Measures, is, falls, and}
 use Rattle.evaluation.proofs.eval.Reads as eval
 use Rattle.evaluation.proofs.eval.Kinds as eval-kinds
 use Rattle.evaluation.proofs.+eval.Lts-eval as eval-lts
-use Rattle.arith.proofs.is_record.Reads as is-record-reads
-use Rattle.arith.proofs.kind.Reads as kind-reads
-use Rattle.arith.proofs.record_end.Reads as record-end-reads
+use Rattle.octets.proofs.is_record.Reads as is-record-reads
+use Rattle.octets.proofs.kind.Reads as kind-reads
+use Rattle.octets.proofs.record_end.Reads as record-end-reads
 use Rattle.evaluation.proofs.leaf.Reads as leaf-reads
 use Rattle.evaluation.proofs.negated.Reads as negated-reads
 use Rattle.evaluation.proofs.operate.Reads as operate-reads

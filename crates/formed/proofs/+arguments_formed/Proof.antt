@@ -6,7 +6,7 @@ use borrow.Fn.PlainCycle.{Measures, is, falls, and}
 use Rattle.formed.proofs.arguments_formed.Reads as arguments-formed
 use Rattle.formed.proofs.arguments_formed.Kinds as arguments-formed-kinds
 use Rattle.formed.proofs.+arguments_formed.Lts-arguments_formed as arguments-formed-lts
-use Rattle.arith.proofs.record_end.Reads as record-end-reads
+use Rattle.octets.proofs.record_end.Reads as record-end-reads
 use Rattle.formed.proofs.expr_formed.Reads as expr-formed-reads
 use Rattle.formed.proofs.+arguments_formed.{statement}
 use Rattle.formed.proofs.+arguments_formed.Tie.{close}

@@ -8,9 +8,9 @@ use Rattle.laws.proofs.Bools.{true-first, false-first}
 use Rattle.formed.proofs.clause_formed.Reads as clause-formed
 use Rattle.formed.proofs.clause_formed.Kinds as clause-formed-kinds
 use Rattle.formed.proofs.+clause_formed.Lts-clause_formed as clause-formed-lts
-use Rattle.arith.proofs.is_record.Reads as is-record-reads
-use Rattle.arith.proofs.kind.Reads as kind-reads
-use Rattle.arith.proofs.record_end.Reads as record-end-reads
+use Rattle.octets.proofs.is_record.Reads as is-record-reads
+use Rattle.octets.proofs.kind.Reads as kind-reads
+use Rattle.octets.proofs.record_end.Reads as record-end-reads
 use Rattle.formed.proofs.instance_formed.Reads as instance-formed-reads
 use Rattle.formed.proofs.tests_formed.Reads as tests-formed-reads
 use Rattle.records.proofs.first_clause.Reads as first-clause-reads

@@ -6,9 +6,9 @@ use borrow.Fn.PlainCycle.{Measures, is, falls, and}
 use Rattle.formed.proofs.expr_formed.Reads as expr-formed
 use Rattle.formed.proofs.expr_formed.Kinds as expr-formed-kinds
 use Rattle.formed.proofs.+expr_formed.Lts-expr_formed as expr-formed-lts
-use Rattle.arith.proofs.is_record.Reads as is-record-reads
-use Rattle.arith.proofs.kind.Reads as kind-reads
-use Rattle.arith.proofs.record_end.Reads as record-end-reads
+use Rattle.octets.proofs.is_record.Reads as is-record-reads
+use Rattle.octets.proofs.kind.Reads as kind-reads
+use Rattle.octets.proofs.record_end.Reads as record-end-reads
 use Rattle.formed.proofs.+expr_formed.{statement}
 use Rattle.formed.proofs.+expr_formed.Tie.{close}
 

@@ -8,9 +8,9 @@ use borrow.Fn.PlainCycle.{Measures, is, falls, and}
 use Rattle.guards.proofs.guarded_in.Reads as guarded-in
 use Rattle.guards.proofs.guarded_in.Kinds as guarded-in-kinds
 use Rattle.guards.proofs.+guarded_in.Lts-guarded_in as guarded-in-lts
-use Rattle.arith.proofs.byte.Reads as byte-reads
-use Rattle.arith.proofs.kind.Reads as kind-reads
-use Rattle.arith.proofs.record_end.Reads as record-end-reads
+use Rattle.octets.proofs.byte.Reads as byte-reads
+use Rattle.octets.proofs.kind.Reads as kind-reads
+use Rattle.octets.proofs.record_end.Reads as record-end-reads
 use Rattle.records.proofs.first_clause.Reads as first-clause-reads
 use Rattle.guards.proofs.+guarded_in.{statement}
 use Rattle.guards.proofs.+guarded_in.Tie.{close}

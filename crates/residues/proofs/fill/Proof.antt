@@ -8,7 +8,8 @@ use lib.IntN.{pos}
 use lib.ListN.{length, getD, take, drop, length-set, List·getD-eq-default}
 use Rattle.arith.proofs.Ints.{read! }
 use Rattle.csl.specs.Table.{padded}
-use Rattle.residues.proofs.Cells.{copy-more, left-over, filled-all, length-padded, padded-at}
+use Rattle.residues.proofs.Cells.{copy-more, left-over, filled-all, padded-at}
+use Rattle.laws.proofs.Cells.{length-padded}
 use Rattle.residues.proofs.fill.Statement.{statement}
 use Rattle.residues.proofs.fill.Tie as tie
 

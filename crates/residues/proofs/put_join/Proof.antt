@@ -8,7 +8,7 @@ use Rattle.residues.proofs.put_join.Tie as tie
 returns : tie.Need-returns
 returns c =
     let s = c .before .before in join-full (s .args .kind) (s .args .n) (s .args .m) (s .args .out .now) (s .pre)
-    (c .before .if1 .taken) (c .capped .ensures)
+    (c .before .if1 .taken) (c .lesser .ensures .0)
 
 returns-2 : tie.Need-returns-2
 returns-2 c =

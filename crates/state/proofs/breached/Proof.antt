@@ -1,6 +1,6 @@
 -- A breached table shows its verdict exactly where the time lies from the start to the last reading time, the blamed
 -- are of the main clause, and all else is zero.
-use Rattle.state.proofs.Shows.{breached-late, breached-early, breached-wide, breached-nobody, breached-others}
+use Rattle.state.proofs.Shows.{breached-late, breached-before, breached-wide, breached-nobody, breached-others}
 use Rattle.state.proofs.Shows.{breached-used, breached-rest, breached-is}
 use Rattle.units.specs.Cells.{numberBelow}
 use Rattle.arith.proofs.Ints.{read! }
@@ -21,7 +21,7 @@ returns-2 : tie.Need-returns-2
 returns-2 c =
     let at-number-below = c .before .before .before in
     let s = c .before .before .before .before .before .before in
-    λ sights. breached-early (s .args .table .now) (s .pre .0) (s .args .agreement .now) (s .pre .2) sights
+    λ sights. breached-before (s .args .table .now) (s .pre .0) (s .args .agreement .now) (s .pre .2) sights
     (at-number-below .number-below .ensures .0 ∙ ap (numberBelow (s .args .time + 1))
     (read! (at-number-below .before .number-below-arg .given))) (c .before .before .if1 .left)
     (c .before .unsigned32 .ensures .0) (c .if2 .taken)

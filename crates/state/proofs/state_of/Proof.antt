@@ -1,6 +1,6 @@
 -- The head decides: a last reading time from the start on, zeros in cells 5 to 7, and a state of 1 to 3, each read by
 -- a function of its own.
-use Rattle.state.proofs.Shows.{head-timeless, head-zeros, head-other, head-early, head-at}
+use Rattle.state.proofs.Shows.{head-timeless, head-zeros, head-other, head-before, head-at}
 use Rattle.units.specs.Cells.{numberBelow}
 use Rattle.arith.proofs.Ints.{read! }
 use native.Mathlib.Omega.{arith}
@@ -20,7 +20,7 @@ returns-2 : tie.Need-returns-2
 returns-2 c =
     let at-number-below = c .before .before .before in
     let s = c .before .before .before .before .before .before .before .before in
-    head-early (s .args .table .now) (s .pre .1) (s .args .agreement .now) (s .args .sights .now)
+    head-before (s .args .table .now) (s .pre .1) (s .args .agreement .now) (s .args .sights .now)
     (at-number-below .number-below .ensures .0 ∙ ap (numberBelow 4_294_967_296)
     (read! (at-number-below .before .number-below-arg .given))) (at-number-below .number-below .ensures .1)
     (c .before .before .if1 .left) (c .before .unsigned32 .ensures .0) (c .if2 .taken)

@@ -6,7 +6,7 @@ use Rattle.telling.proofs.begin.Statement.{statement}
 use Rattle.telling.proofs.begin.Tie as tie
 use Rattle.telling.proofs.begin.Reads as reads
 use Rattle.telling.proofs.begin.Lts as lts
-use Rattle.arith.proofs.unsigned32.Reads as unsigned32-reads
+use Rattle.octets.proofs.unsigned32.Reads as unsigned32-reads
 use Rattle.lines.proofs.put_refusal.Reads as put-refusal-reads
 use Rattle.monitor.proofs.number.Reads as number-reads
 use Rattle.monitor.proofs.start.Reads as start-reads

@@ -6,7 +6,7 @@ use Rattle.telling.proofs.follow.Statement.{statement}
 use Rattle.telling.proofs.follow.Tie as tie
 use Rattle.telling.proofs.follow.Reads as reads
 use Rattle.telling.proofs.follow.Lts as lts
-use Rattle.arith.proofs.unsigned32.Reads as unsigned32-reads
+use Rattle.octets.proofs.unsigned32.Reads as unsigned32-reads
 use Rattle.monitor.proofs.number.Reads as number-reads
 use Rattle.monitor.proofs.reading.Reads as reading-reads
 use Rattle.telling.proofs.put_refused.Reads as put-refused-reads

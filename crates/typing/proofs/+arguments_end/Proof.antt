@@ -8,7 +8,7 @@ use borrow.Fn.PlainCycle.{Measures, is, falls, and}
 use Rattle.typing.proofs.arguments_end.Reads as arguments-end
 use Rattle.typing.proofs.arguments_end.Kinds as arguments-end-kinds
 use Rattle.typing.proofs.+arguments_end.Lts-arguments_end as arguments-end-lts
-use Rattle.arith.proofs.record_end.Reads as record-end-reads
+use Rattle.octets.proofs.record_end.Reads as record-end-reads
 use Rattle.typing.proofs.part_type.Reads as part-type-reads
 use Rattle.typing.proofs.type_number.Reads as type-number-reads
 use Rattle.typing.proofs.+arguments_end.{statement}

@@ -8,7 +8,7 @@ use borrow.Fn.PlainCycle.{Measures, is, falls, and}
 use Rattle.typing.proofs.blamed_parties.Reads as blamed-parties
 use Rattle.typing.proofs.blamed_parties.Kinds as blamed-parties-kinds
 use Rattle.typing.proofs.+blamed_parties.Lts-blamed_parties as blamed-parties-lts
-use Rattle.arith.proofs.byte.Reads as byte-reads
+use Rattle.octets.proofs.byte.Reads as byte-reads
 use Rattle.parties.proofs.blame_mask.Reads as blame-mask-reads
 use Rattle.typing.proofs.blamed.Reads as blamed-reads
 use Rattle.typing.proofs.+blamed_parties.{statement}

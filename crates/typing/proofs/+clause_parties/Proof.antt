@@ -11,7 +11,7 @@ use borrow.Fn.PlainCycle.{Measures, is, falls, and}
 use Rattle.typing.proofs.clause_parties.Reads as clause-parties
 use Rattle.typing.proofs.clause_parties.Kinds as clause-parties-kinds
 use Rattle.typing.proofs.+clause_parties.Lts-clause_parties as clause-parties-lts
-use Rattle.arith.proofs.byte.Reads as byte-reads
+use Rattle.octets.proofs.byte.Reads as byte-reads
 use Rattle.parties.proofs.blame_mask.Reads as blame-mask-reads
 use Rattle.records.proofs.first_clause.Reads as first-clause-reads
 use Rattle.typing.proofs.blamed.Reads as blamed-reads

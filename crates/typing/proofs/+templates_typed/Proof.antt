@@ -9,7 +9,7 @@ use borrow.Fn.PlainCycle.{Measures, is, falls, and}
 use Rattle.typing.proofs.templates_typed.Reads as templates-typed
 use Rattle.typing.proofs.templates_typed.Kinds as templates-typed-kinds
 use Rattle.typing.proofs.+templates_typed.Lts-templates_typed as templates-typed-lts
-use Rattle.arith.proofs.byte.Reads as byte-reads
+use Rattle.octets.proofs.byte.Reads as byte-reads
 use Rattle.typing.proofs.template_typed.Reads as template-typed-reads
 use Rattle.typing.proofs.+templates_typed.{statement}
 use Rattle.typing.proofs.+templates_typed.Tie.{close}

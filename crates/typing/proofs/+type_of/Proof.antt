@@ -7,7 +7,7 @@ use borrow.Fn.PlainCycle.{Measures, is, falls, and}
 use Rattle.typing.proofs.type_of.Reads as type-of
 use Rattle.typing.proofs.type_of.Kinds as type-of-kinds
 use Rattle.typing.proofs.+type_of.Lts-type_of as type-of-lts
-use Rattle.arith.proofs.record_end.Reads as record-end-reads
+use Rattle.octets.proofs.record_end.Reads as record-end-reads
 use Rattle.typing.proofs.leaf_type.Reads as leaf-type-reads
 use Rattle.typing.proofs.negated.Reads as negated-reads
 use Rattle.typing.proofs.operation_type.Reads as operation-type-reads

@@ -13,9 +13,9 @@ use borrow.Fn.PlainCycle.{Measures, is, falls, and}
 use Rattle.units.proofs.clause_parties.Reads as clause-parties
 use Rattle.units.proofs.clause_parties.Kinds as clause-parties-kinds
 use Rattle.units.proofs.+clause_parties.Lts-clause_parties as clause-parties-lts
-use Rattle.arith.proofs.byte.Reads as byte-reads
-use Rattle.arith.proofs.kind.Reads as kind-reads
-use Rattle.arith.proofs.record_end.Reads as record-end-reads
+use Rattle.octets.proofs.byte.Reads as byte-reads
+use Rattle.octets.proofs.kind.Reads as kind-reads
+use Rattle.octets.proofs.record_end.Reads as record-end-reads
 use Rattle.parties.proofs.union.Reads as union-reads
 use Rattle.records.proofs.first_clause.Reads as first-clause-reads
 use Rattle.units.proofs.instance_parties.Reads as instance-parties-reads

@@ -1,5 +1,5 @@
 -- Place, time and sort are tested before the cells, and the clause found at the place decides the rest.
-use Rattle.units.proofs.Waits.{wait-negative, wait-late, wait-early, wait-nowhere, wait-room, found-there}
+use Rattle.units.proofs.Waits.{wait-negative, wait-late, wait-before, wait-nowhere, wait-room, found-there}
 use Rattle.units.proofs.Waits.{wait-other, wait-located}
 use Rattle.units.specs.Cells.{numberBelow}
 use Rattle.arith.proofs.Ints.{read! }
@@ -30,7 +30,8 @@ returns-3 : tie.Need-returns-3
 returns-3 c =
     let at-number-below2 = c .before .before .before in
     let at-start = at-number-below2 .before .before .before .before .before .before .before in
-    wait-early (at-start .pre .0 .isAccepted) (at-start .args .time) (at-start .args .kind) (at-start .args .cells .now)
+    wait-before (at-start .pre .0 .isAccepted) (at-start .args .time) (at-start .args .kind)
+    (at-start .args .cells .now)
     (at-start .pre .3) (at-number-below2 .number-below2 .ensures .0 ∙ ap
     (numberBelow (at-start .args .time + 1)) (read! (at-number-below2 .before .number-below-arg2 .given)))
     (c .before .before .if2 .left) (c .before .unsigned32 .ensures .0) (c .if3 .taken)

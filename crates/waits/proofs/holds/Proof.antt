@@ -18,7 +18,7 @@ returns c =
     let at-record-end = c .before .before .before .before in
     let s = c .before .before .before .before .before .before .before .before .before .before in
     let g = c .before .before .before .before .before .before .before in
-    condition-is (s .args .s .now) (s .args .i) (s .args .depth) (at-record-end .before .start .ensures .0)
+    condition-is (s .args .s .now) (s .args .i) (s .args .depth) (at-record-end .before .lesser .ensures .0)
     (at-record-end .record-end .ensures .0)
     (sight-front (s .args .values .now) (s .args .reading .now) (replicate 24 (pos 0)) (g .sight .ensures .0)
     (g .sight .ensures .2)) (c .before .eval .ensures) (c .is-true .ensures)

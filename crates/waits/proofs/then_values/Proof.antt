@@ -15,7 +15,7 @@ returns c =
     let s = c .before .before .before .before .before in
     let g = c .before .before in (
       then-is (s .args .values .now) (s .args .reading .now) (s .args .cells .now) (g .sight .ensures .0)
-          (g .sight .ensures .2) (omega arith) (c .start .ensures .0)
+          (g .sight .ensures .2) (omega arith) (c .lesser .ensures .0)
           (minus-is (s .args .time) (s .pre .3) (s .fits .last) (at-exact-difference .exact-difference .ok)
           (at-exact-difference .exact-difference .ensures .0)),
       omega arith,

@@ -13,7 +13,8 @@ use Rattle.residues.specs.Reduces.{Is, Counted}
 use Rattle.walk.specs.Tree.{treeReduced}
 use Rattle.residues.proofs.Reduces.{is-counted}
 use Rattle.activation.proofs.Recursion.{laid, laid-length}
-use Rattle.walk.proofs.Trees.{SidesAt, tree-front, tree-sides, tree-waits, tree-unit, part-from}
+use Rattle.walk.proofs.Trees.{SidesAt, tree-front, tree-sides, tree-waits, tree-unit}
+use Rattle.laws.proofs.Lists.{part-from}
 use borrow.Fn.Kinds.{In}
 use borrow.Fn.PlainCycle.{Measures, is, falls, and}
 use Rattle.walk.proofs.across.Reads as across

@@ -15,8 +15,8 @@ use Rattle.walk.proofs.waiting_unit.Statement.{statement}
 use Rattle.walk.proofs.waiting_unit.Tie as tie
 use Rattle.walk.proofs.waiting_unit.Reads as reads
 use Rattle.walk.proofs.waiting_unit.Lts as lts
-use Rattle.arith.proofs.byte.Reads as byte-reads
-use Rattle.arith.proofs.record_end.Reads as record-end-reads
+use Rattle.octets.proofs.byte.Reads as byte-reads
+use Rattle.octets.proofs.record_end.Reads as record-end-reads
 use Rattle.walk.proofs.natural.Reads as natural-reads
 use Rattle.activation.proofs.activate.Reads as activate-reads
 

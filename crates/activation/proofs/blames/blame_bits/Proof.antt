@@ -1,5 +1,6 @@
 -- The bit of the party that the blame byte stands for; a cell below 0 is no party.
-use Rattle.activation.proofs.Arguments.{bits-below, bits-of, not-below}
+use Rattle.activation.proofs.Arguments.{bits-below, bits-of}
+use Rattle.arith.proofs.Linear.{not-negative}
 use mathlib.Core.Path.{_∙_}
 use borrow.Author.Needs.{sfits-of, needs}
 use Rattle.arith.proofs.Ints.{read!, index-asked, index-given}
@@ -12,17 +13,17 @@ returns c =
     let s = c .before .before in
     bits-below (s .args .params .now) (s .args .b) (blamed .ensures) (rw (read! (blamed .ok)) at (c .if1 .taken))
 
-cast-bit : tie.Need-cast-bit
-cast-bit c =
+cast-party-bit : tie.Need-cast-party-bit
+cast-party-bit c =
     let x = c .before in let f = sfits-of (x .blamed .ok) in index-asked f
-    (not-below (x .blamed .result) f (c .if1 .left))
+    (not-negative {z = x .blamed .result} f (c .if1 .left))
 
 returns-2 : tie.Need-returns-2
 returns-2 c =
     let s = c .before .before .before in let x = c .before .before in let f = sfits-of (x .blamed .ok) in
-    c .bit .ensures ∙ bits-of (s .args .params .now) (s .args .b)
-    (index-given f (not-below (x .blamed .result) f (c .before .if1 .left)) ∙ x .blamed .ensures)
+    c .party-bit .ensures .0 ∙ bits-of (s .args .params .now) (s .args .b)
+    (index-given f (not-negative {z = x .blamed .result} f (c .before .if1 .left)) ∙ x .blamed .ensures)
 
 pub blame-bits-spec : {M : Type 1} → statement M
 blame-bits-spec = tie.close (tie.spec
-    (λ c κs. search needs) returns cast-bit (λ c κs. search needs) returns-2)
+    (λ c κs. search needs) returns cast-party-bit (λ c κs. search needs) returns-2)

@@ -47,7 +47,7 @@ loop-again c =
       rw (read! (c .eval .ok))
           (argued-more v d bs (s .args .n) (h .loop .cells) i a (inv .3) (omega arith) (omega arith) (q .0)
           (c .eval .ensures .0 ∙ ap (λ k. evalCells v (expr d k))
-          (clamped bs a (at-start .start .ensures .0) (q .0)))),
+          (clamped bs a (at-start .lesser .ensures .0) (q .0)))),
     )
 
 returns : tie.Need-returns Inv-loop μ-loop

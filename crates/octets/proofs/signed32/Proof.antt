@@ -1,9 +1,9 @@
 -- Below 2^31 the number is itself; from there on 2^32 is taken away, as two's complement has it.
 use borrow.Author.Needs.{needs}
 use Rattle.csl.specs.Bytes.{signed32}
-use Rattle.arith.proofs.Bytes.{low, high-asked, high-given}
-use Rattle.arith.proofs.signed32.Statement.{statement}
-use Rattle.arith.proofs.signed32.Tie as tie
+use Rattle.octets.proofs.Bytes.{low, high-asked, high-given}
+use Rattle.octets.proofs.signed32.Statement.{statement}
+use Rattle.octets.proofs.signed32.Tie as tie
 
 sub-result : tie.Need-sub-result
 sub-result c = let w = c .before .unsigned32 .ensures in high-asked (w .0) (c .if1 .left) (w .1)

@@ -2,8 +2,8 @@
 use borrow.Author.Needs.{needs}
 use native.Mathlib.Omega.{arith}
 use Rattle.csl.specs.Bytes.{recordEnd}
-use Rattle.arith.proofs.record_end.Statement.{statement}
-use Rattle.arith.proofs.record_end.Tie as tie
+use Rattle.octets.proofs.record_end.Statement.{statement}
+use Rattle.octets.proofs.record_end.Tie as tie
 
 returns : tie.Need-returns
 unfolding recordEnd

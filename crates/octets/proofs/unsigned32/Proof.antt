@@ -2,9 +2,9 @@
 use borrow.Author.Needs.{needs}
 use native.Mathlib.Omega.{arith}
 use Rattle.csl.specs.Bytes.{le32}
-use Rattle.arith.proofs.Bytes.{le32-past}
-use Rattle.arith.proofs.unsigned32.Statement.{statement}
-use Rattle.arith.proofs.unsigned32.Tie as tie
+use Rattle.octets.proofs.Bytes.{le32-past}
+use Rattle.octets.proofs.unsigned32.Statement.{statement}
+use Rattle.octets.proofs.unsigned32.Tie as tie
 
 returns : tie.Need-returns
 unfolding le32

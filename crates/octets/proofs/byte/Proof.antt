@@ -1,9 +1,9 @@
 -- Inside the slice the cast loses nothing; past its end the definition reads 0 too.
 use borrow.Author.Needs.{needs}
 use native.Mathlib.Omega.{arith}
-use Rattle.arith.proofs.Bytes.{byte-past}
-use Rattle.arith.proofs.byte.Statement.{statement}
-use Rattle.arith.proofs.byte.Tie as tie
+use Rattle.octets.proofs.Bytes.{byte-past}
+use Rattle.octets.proofs.byte.Statement.{statement}
+use Rattle.octets.proofs.byte.Tie as tie
 
 returns-2 : tie.Need-returns-2
 returns-2 c =

@@ -6,11 +6,11 @@ use native.Mathlib.Omega.{arith}
 use lib.IntN.{pos}
 use lib.ListN.{length, drop, getD}
 use Rattle.csl.specs.Decode.{tysOf}
-use Rattle.arith.specs.Values.{valuesOk}
+use Rattle.records.specs.TypedValues.{valuesOk}
 use Rattle.arith.proofs.Ints.{read! }
-use Rattle.arith.proofs.Values.{values-first, values-more, values-not, values-last}
-use Rattle.arith.proofs.values_ok.Statement.{statement}
-use Rattle.arith.proofs.values_ok.Tie as tie
+use Rattle.records.proofs.TypedValues.{values-first, values-more, values-not, values-last}
+use Rattle.records.proofs.values.values_ok.Statement.{statement}
+use Rattle.records.proofs.values.values_ok.Tie as tie
 
 abbrev Inv-loop : tie.InvT-loop
 Inv-loop types values parties i₀ i = (i ≤ length types)

@@ -2,9 +2,9 @@
 use borrow.Author.Needs.{needs}
 use native.Mathlib.Omega.{arith}
 use Rattle.csl.specs.Bytes.{le16}
-use Rattle.arith.proofs.Bytes.{le16-past}
-use Rattle.arith.proofs.unsigned16.Statement.{statement}
-use Rattle.arith.proofs.unsigned16.Tie as tie
+use Rattle.octets.proofs.Bytes.{le16-past}
+use Rattle.octets.proofs.unsigned16.Statement.{statement}
+use Rattle.octets.proofs.unsigned16.Tie as tie
 
 returns : tie.Need-returns
 unfolding le16

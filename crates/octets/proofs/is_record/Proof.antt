@@ -1,8 +1,8 @@
 -- The bytes are a record where there are four of them and the first two give their length.
 use borrow.Author.Needs.{needs}
-use Rattle.arith.proofs.Bytes.{record-yes, record-no}
-use Rattle.arith.proofs.is_record.Statement.{statement}
-use Rattle.arith.proofs.is_record.Tie as tie
+use Rattle.octets.proofs.Bytes.{record-yes, record-no}
+use Rattle.octets.proofs.is_record.Statement.{statement}
+use Rattle.octets.proofs.is_record.Tie as tie
 
 returns : tie.Need-returns
 returns c =

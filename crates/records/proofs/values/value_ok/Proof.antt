@@ -1,8 +1,8 @@
 -- A number lies between the ends, a truth is 0 or 1, a party is below the count.
 use borrow.Author.Needs.{needs}
-use Rattle.arith.proofs.Values.{number-ok, negative, cast-asked, truth-ok, party-ok}
-use Rattle.arith.proofs.value_ok.Statement.{statement}
-use Rattle.arith.proofs.value_ok.Tie as tie
+use Rattle.records.proofs.TypedValues.{number-ok, negative, cast-asked, truth-ok, party-ok}
+use Rattle.records.proofs.values.value_ok.Statement.{statement}
+use Rattle.records.proofs.values.value_ok.Tie as tie
 
 returns : tie.Need-returns
 returns c =

@@ -1,36 +1,25 @@
 -- Laws for numbers as values of their types.
 use mathlib.Core.Path.{_≡_, refl, sym, ap, _∙_}
-use mathlib.Core.Bool.{Bool, true, false, not, _&&_, cond, false≢true}
+use mathlib.Core.Bool.{Bool, true, false, not, _&&_, cond}
 use mathlib.Core.List.{List}
 use Prim.Native.Nat.{ℕ, zero, suc, _+_, _≤_, _<_}
 use native.Mathlib.Numerals.{add-one}
 use native.Mathlib.Omega.{arith}
-use borrow.Author.Tests.{ne-eqb, le-leb, lt-leb, le-ltb, leb-true, leb-false, ltb-true, not-true, not-false}
+use borrow.Author.Tests.{ne-eqb, lt-leb, le-ltb, ltb-true, not-true, not-false}
 use lib.Dec.{T, leb, ltb, eqb}
 use lib.IntN.{ℤ, pos, negsuc, natAbs}
 use lib.ListN.{length, getD, drop}
 use lib.Seq.{drop-cons, drop-length}
-use lib.Signed.{ltZ, leZ, nonNeg, _≤ℤ_}
+use lib.Signed.{ltZ, nonNeg, _≤ℤ_}
 use mir.Syntax.{w64}
 use mir.Val.{Fits, SFits}
 use Rattle.csl.specs.Numbers.{inRange}
 use Rattle.csl.specs.Bytes.{byte}
 use Rattle.csl.specs.Syntax.{truth, party}
 use Rattle.csl.specs.Decode.{tyOf, tysOf}
-use Rattle.arith.specs.Values.{valueOk, valuesOk}
+use Rattle.records.specs.TypedValues.{valueOk, valuesOk}
 use Rattle.arith.proofs.Ints.{seen, read, index-asked, index-given}
 use Rattle.arith.proofs.Linear.{ints}
-
--- ---- the language's numbers
-pub high-range : (z : ℤ) → leZ (negsuc 999_999_999) z ≡ true → leZ z (pos 1_000_000_000) ≡ inRange z
-unfolding inRange
-high-range (pos n) h = refl
-high-range (negsuc n) h = sym (le-leb (suc n) 1_000_000_000 (omega (arith, leb-true n 999_999_999 h)))
-
-pub low-range : (z : ℤ) → leZ (negsuc 999_999_999) z ≡ false → false ≡ inRange z
-unfolding inRange
-low-range (pos n) h = absurd (false≢true (sym h))
-low-range (negsuc n) h = sym (lt-leb (suc n) 1_000_000_000 (omega (arith, leb-false n 999_999_999 h)))
 
 -- ---- a value of the type with a number
 truth-test : (n : ℕ) → ltb n 2 ≡ leb n 1
