@@ -14,7 +14,7 @@ use lib.Seq.{drop-at, take-append-le, take-take, length-take-le}
 use borrow.Rule.Slice.PartMut.{putMid}
 use borrow.Author.Tests.{eqb-true, eqb-false, ne-eqb, eq-eqb, not-true, not-false}
 use Rattle.laws.proofs.Clash.{impossible}
-use Rattle.arith.specs.Within.{Within}
+use Rattle.arith.specs.Near.{Near}
 use Rattle.arith.proofs.Ints.{seen, read}
 use Rattle.arith.proofs.Numbers.{held-fits}
 use Rattle.arith.proofs.Lists.{length-part, part-part, tail-put}
@@ -51,11 +51,11 @@ module _ (m : Mode) (vs : List ℤ) (a : ℕ) (w : Wait) {f : Fate} (h : FateIs 
   unfolding FateIs
   is-waits e = rw e at h
 
-  pub is-late : {l : ℤ} → f ≡ Late l → (fate m vs a w ≡ late) × (l ≡ lastOf vs a w) × Within (a + 2_000_000_000) l
+  pub is-late : {l : ℤ} → f ≡ Late l → (fate m vs a w ≡ late) × (l ≡ lastOf vs a w) × Near (a + 2_000_000_000) l
   unfolding FateIs
   is-late e = rw e at h
 
-  pub is-taken : {l : ℤ} → f ≡ Taken l → (fate m vs a w ≡ taken) × (l ≡ lastOf vs a w) × Within (a + 2_000_000_000) l
+  pub is-taken : {l : ℤ} → f ≡ Taken l → (fate m vs a w ≡ taken) × (l ≡ lastOf vs a w) × Near (a + 2_000_000_000) l
   unfolding FateIs
   is-taken e = rw e at h
 

@@ -7,7 +7,7 @@ ghost use lib.IntN.{ℤ};
 ghost use lib.ListN.{length};
 ghost use Rattle.csl.specs.Numbers.{laterOf};
 ghost use Rattle.csl.specs.Decode.{ifKind, obligationKind, choiceKind, clause, headsOf};
-ghost use Rattle.arith.specs.Within.{Within};
+ghost use Rattle.arith.specs.Near.{Near};
 ghost use Rattle.residues.specs.Reduces.{farthest};
 ghost use Rattle.activation.specs.Leads.{Leads, Ready, Outlined, Acting, Ended, bodyIn};
 use crate::Next;
@@ -31,7 +31,7 @@ use waits::then_values;
 
 // The later of a time and a window's last minute, as a time.
 fn moved(a: usize, last: i64) -> usize
-    requires { ⌜ (a ≤ farthest) × Within (a + 2_000_000_000) last ⌝ }
+    requires { ⌜ (a ≤ farthest) × Near (a + 2_000_000_000) last ⌝ }
     ensures { λ r. ⌜ (r ≡ laterOf a last) × (r ≤ a + 2_000_000_000) ⌝ }
 {
     let t = later(a as i64, last);

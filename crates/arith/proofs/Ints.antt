@@ -74,10 +74,6 @@ read {z} h = toZ-ofZ w64 z h
 pub read! : {z : ℤ} → mag z < 2 ^ 63 → seen z ≡ z
 read! {z} h = read (record { sfits = h })
 
--- a test of equality is one of bits
-pub same-bits : {a b : ℤ} → SFits w64 a → SFits w64 b → ofZ w64 a ≡ ofZ w64 b → a ≡ b
-same-bits h k e = sym (read h) ∙ ap (toZ w64) e ∙ read k
-
 -- a number whose bits are 0 is 0
 pub nought : {z : ℤ} → SFits w64 z → ofZ w64 z ≡ 0 → z ≡ pos 0
 nought h e = sym (read h) ∙ ap (toZ w64) e

@@ -1,13 +1,12 @@
 -- Linear arithmetic on integers, by omega. An integer z is up z - dn z, of which one is 0; what is said of integers
 -- is said of those.
-use mathlib.Core.Path.{_≡_, refl, sym, ap, subst}
-use mathlib.Core.Bool.{true, false, cond}
-use Prim.Native.Nat.{ℕ, zero, suc, _+_, _-_, _≤_, _<_, min}
+use mathlib.Core.Path.{_≡_, sym, ap, subst}
+use mathlib.Core.Bool.{true, false}
+use Prim.Native.Nat.{ℕ, suc, _+_, _-_, _≤_, _<_, min}
 use native.Mathlib.Omega.{arith, by-contra}
-use lib.IntN.{ℤ, pos, negsuc, negℤ, natAbs, subℕ, _+ℤ_, _-ℤ_}
+use lib.IntN.{ℤ, pos, negsuc, natAbs}
 use lib.Dec.{T, ltb, ltb→lt, lt→ltb, leb→le, le→leb}
 use lib.Signed.{mag, ltZ, leZ, _<ℤ_, _≤ℤ_}
-use borrow.Author.Tests.{ltb-true, ltb-false}
 use mir.Syntax.{w64}
 use mir.Val.{SFits}
 use Rattle.laws.proofs.Bools.{T→true, not-T→false, by}
@@ -32,34 +31,6 @@ pub parts : (z : ℤ) → Parts z
 unfolding up dn
 parts (pos n) = record { one = omega arith; abs = omega arith; size = omega arith }
 parts (negsuc n) = record { one = omega arith; abs = omega arith; size = omega arith }
-
-diff : (a b : ℕ) → up (subℕ a b) + b ≡ dn (subℕ a b) + a
-unfolding up dn
-diff a b = by (λ t. up (cond t (negsuc (b - suc a)) (pos (a - b))) + b ≡ dn
-    (cond t (negsuc (b - suc a)) (pos (a - b))) + a) (ltb a b)
-    (λ e. omega (arith, ltb-true a b e)) (λ e. omega (arith, ltb-false a b e))
-
-pub sum : (a b : ℤ) → up (a +ℤ b) + dn a + dn b ≡ dn (a +ℤ b) + up a + up b
-unfolding up dn
-sum (pos a) (pos b) = omega arith
-sum (pos a) (negsuc b) = omega (arith, diff a (suc b))
-sum (negsuc a) (pos b) = omega (arith, diff b (suc a))
-sum (negsuc a) (negsuc b) = omega arith
-
-pub up-neg : (z : ℤ) → up (negℤ z) ≡ dn z
-unfolding up dn
-up-neg (pos zero) = refl
-up-neg (pos (suc n)) = refl
-up-neg (negsuc n) = refl
-
-pub dn-neg : (z : ℤ) → dn (negℤ z) ≡ up z
-unfolding up dn
-dn-neg (pos zero) = refl
-dn-neg (pos (suc n)) = refl
-dn-neg (negsuc n) = refl
-
-pub difference : (a b : ℤ) → up (a -ℤ b) + dn a + up b ≡ dn (a -ℤ b) + up a + dn b
-difference a b = omega (arith, sum a (negℤ b), up-neg b, dn-neg b)
 
 -- ---- the tests and the orders, as facts of ℕ: rules for omega
 lt-yes : (a b : ℤ) → T (ltZ a b) → up a + dn b < up b + dn a

@@ -1,10 +1,10 @@
 -- Parts of a list, a part put back, three cells set in a row.
-use mathlib.Core.Path.{_≡_, sym, _∙_}
-use mathlib.Core.List.{List, [], _∷_, _++_, append-nil, append-assoc}
+use mathlib.Core.Path.{_≡_, sym}
+use mathlib.Core.List.{List, [], _∷_, _++_, append-nil}
 use Prim.Native.Nat.{ℕ, zero, suc, _+_, _-_, _<_, _≤_}
 use native.Mathlib.Omega.{arith}
 use lib.ListN.{length, getD, set, take, drop}
-use lib.Seq.{sets-eq, drop-length, getD-take, getD-drop, take-take, take-nil, drop-drop}
+use lib.Seq.{drop-length, getD-take, getD-drop, take-take, take-nil, drop-drop}
 use borrow.Rule.Slice.PartMut.{putMid, post-is}
 pub use Rattle.laws.proofs.Lists.{length-part}
 
@@ -26,13 +26,6 @@ module _ {A : Type 0} where
       let k : f - b ≤ e - a - b = omega arith in
       let q : a + f - (a + b) ≡ f - b = omega arith in
       rw (take-drop b (e - a) (drop a l), take-take (f - b) (e - a - b) (drop b (drop a l)) k, drop-drop b a l, q)
-
-  pub three : (n : ℕ) (a b c : A) (l : List A) → n + 3 ≤ length l
-      → set (set (set l n a) (n + 1) b) (n + 2) c ≡ take n l ++ a ∷ b ∷ c ∷ drop (n + 3) l
-  three n a b c l h =
-      let p : n + 1 ≡ suc n = omega arith in
-      let q : n + 2 ≡ suc (suc n) = omega arith in
-      rw (p, q) (sets-eq (a ∷ b ∷ c ∷ []) l n h ∙ append-assoc (take n l) (a ∷ b ∷ c ∷ []) (drop (n + 3) l))
 
   -- ---- a part put back, where the part goes to the end, and where it ends at e
   pub tail-put : (a : ℕ) (xs ys : List A) → a ≤ length xs → putMid a (length xs - a) xs ys ≡ take a xs ++ ys

@@ -7,34 +7,30 @@ use native.Mathlib.Omega.{arith}
 use lib.IntN.{ℤ, pos, negsuc, natAbs, _+ℤ_, _-ℤ_, _*ℤ_}
 use lib.Dec.{T, lit≤, leb→le, le→leb}
 use lib.Signed.{ltZ, quotZ}
-use borrow.Author.Tests.{le-leb, ltb-true, ltb-false}
+use borrow.Author.Tests.{ltb-true, ltb-false}
 use mir.Syntax.{w64}
 use mir.Val.{SFits, ofZ}
-use Rattle.csl.specs.Numbers.{Held, Arithmetic, plus, minus, times, quot, top, bottom, limit, held, inRange, quotient}
+use Rattle.csl.specs.Numbers.{Held, Arithmetic, plus, minus, times, quot, top, bottom, limit, held, quotient}
 use Rattle.csl.specs.Numbers.{calculate, laterOf}
 use Rattle.laws.proofs.Bools.{by}
-use Rattle.arith.specs.Within.{Within, far}
+use Rattle.arith.specs.Near.{Near, far}
 use Rattle.arith.proofs.Ints.{abs-add, abs-minus, abs-mul, abs-quot, small, seen, abs-seen, read, nought}
 use Rattle.arith.proofs.Ints.{some-bits}
 use Rattle.arith.proofs.Linear.{ints, parts, up, dn, lt-false}
 
-pub in-range : {z : ℤ} → Held z → inRange z ≡ true
-unfolding inRange
-in-range {z} h = le-leb (natAbs z) limit (h .within)
-
 pub held-fits : {z : ℤ} → Held z → SFits w64 z
 held-fits h = small (omega arith)
 
--- ---- `omega sizes` shows `Within n (seen z)`, from what is known of the sizes of numbers and of what the machine
+-- ---- `omega sizes` shows `Near n (seen z)`, from what is known of the sizes of numbers and of what the machine
 -- reads back
-pub within-goal : (n : ℕ) (z : ℤ) → natAbs z ≤ n → Within n z
+pub within-goal : (n : ℕ) (z : ℤ) → natAbs z ≤ n → Near n z
 within-goal n z h = record { near = le→leb (natAbs z) n h }
 
-pub seen-goal : (n : ℕ) (z : ℤ) → natAbs z ≤ n → Within n (seen z)
+pub seen-goal : (n : ℕ) (z : ℤ) → natAbs z ≤ n → Near n (seen z)
 seen-goal n z h = within-goal n (seen z) (omega (arith, abs-seen z))
 
--- omega applies one rule to a hypothesis: `leb→le` is for the field of `Within`, this one for the whole
-pub within-seen : {n : ℕ} {z : ℤ} → Within n z → natAbs (seen z) ≤ n
+-- omega applies one rule to a hypothesis: `leb→le` is for the field of `Near`, this one for the whole
+pub within-seen : {n : ℕ} {z : ℤ} → Near n z → natAbs (seen z) ≤ n
 within-seen {n} {z} h = omega (arith, leb→le (natAbs z) n (h .near), abs-seen z)
 
 pub held-seen : {z : ℤ} → Held z → natAbs (seen z) ≤ limit
@@ -80,7 +76,7 @@ module _ (o : Arithmetic) {a b : ℤ} (p : SFits w64 a) (q : SFits w64 b) (r : S
 
 -- where the size of the result is at most the sum of the sizes, as of a sum and a difference
 module _ (o : Arithmetic) (size : (a b : ℤ) → natAbs (exactly o a b) ≤ natAbs a + natAbs b) (a b : ℤ)
-    (h : Within far a × Within far b) where
+    (h : Near far a × Near far b) where
   fits : SFits w64 (exactly o a b)
   fits = small (omega (sizes, size a b))
 
@@ -88,7 +84,7 @@ module _ (o : Arithmetic) (size : (a b : ℤ) → natAbs (exactly o a b) ≤ nat
   exact-asked = asked o (small (omega sizes)) (small (omega sizes)) fits
 
   pub exact-answer : (seen (exactly o (seen a) (seen b)) ≡ exactly o a b)
-      × Within (natAbs a + natAbs b) (seen (exactly o (seen a) (seen b)))
+      × Near (natAbs a + natAbs b) (seen (exactly o (seen a) (seen b)))
   exact-answer = let e = given o (small (omega sizes)) (small (omega sizes)) fits in
       (e, rw e (within-goal (natAbs a + natAbs b) (exactly o a b) (size a b)))
 

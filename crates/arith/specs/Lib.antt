@@ -1,1 +1,1 @@
-pub mod Within
+pub mod Near

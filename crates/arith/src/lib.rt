@@ -5,7 +5,7 @@ ghost use lib.IntN.{pos, natAbs, _+ℤ_, _-ℤ_};
 ghost use lib.Signed.{ltZ};
 ghost use Rattle.csl.specs.Numbers as numbers;
 ghost use Rattle.csl.specs.Numbers.{Held, calculate, plus, minus, times, quot, eqZ, inRange, laterOf};
-ghost use Rattle.arith.specs.Within.{Within, far};
+ghost use Rattle.arith.specs.Near.{Near, far};
 
 // The ends of the language's numbers.
 const BOTTOM: i64 = -1_000_000_000;
@@ -56,16 +56,16 @@ pub fn quotient(a: i64, b: i64) -> i64
 
 // A sum that is not held: a time and a number of the language.
 pub fn exact_sum(a: i64, b: i64) -> i64
-    requires { ⌜ Within far a × Within far b ⌝ }
-    ensures { λ r. ⌜ (r ≡ a +ℤ b) × Within (natAbs a + natAbs b) r ⌝ }
+    requires { ⌜ Near far a × Near far b ⌝ }
+    ensures { λ r. ⌜ (r ≡ a +ℤ b) × Near (natAbs a + natAbs b) r ⌝ }
 {
     a + b
 }
 
 // A difference that is not held.
 pub fn exact_difference(a: i64, b: i64) -> i64
-    requires { ⌜ Within far a × Within far b ⌝ }
-    ensures { λ r. ⌜ (r ≡ a -ℤ b) × Within (natAbs a + natAbs b) r ⌝ }
+    requires { ⌜ Near far a × Near far b ⌝ }
+    ensures { λ r. ⌜ (r ≡ a -ℤ b) × Near (natAbs a + natAbs b) r ⌝ }
 {
     a - b
 }
@@ -84,7 +84,7 @@ pub fn equal(a: i64, b: i64) -> bool
 
 // The later of a time, which is not below 0, and the end of a window, which may be.
 pub fn later(time: i64, last: i64) -> i64
-    ensures { λ r. ⌜ ((n : ℕ) → time ≡ pos n → r ≡ pos (laterOf n last)) × Within (max (natAbs time) (natAbs last)) r ⌝ }
+    ensures { λ r. ⌜ ((n : ℕ) → time ≡ pos n → r ≡ pos (laterOf n last)) × Near (max (natAbs time) (natAbs last)) r ⌝ }
 {
     if time < last { last } else { time }
 }

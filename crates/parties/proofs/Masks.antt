@@ -10,7 +10,6 @@ use lib.Count.{ones, ones-cat}
 use lib.Dec.{eqb, leb, ltb}
 use lib.Pow.{pow-pos, pow-lt, pow-add, shl-exact}
 use borrow.Author.Tests.{eq-eqb, ne-eqb, lt-ltb, le-ltb, le-leb, lt-leb, leb-true, eqb-true, ltb-true, ltb-false}
-use borrow.Author.Tests.{not-false}
 use Rattle.csl.specs.Lists.{all}
 use Rattle.csl.specs.Parties.{member, subset, memberCount, bitsFrom, bitsOf, membersFrom, members}
 use Rattle.csl.specs.Typing.{Names, blameOk, isConstant}
@@ -266,12 +265,6 @@ bit-party p l g =
 pub bit-none : (p : ℕ) → 16 ≤ p → (0 ≡ bitsOf (p ∷ [])) × (0 < 65_536)
 unfolding bitsOf
 bit-none p l = (sym (bits-skip 16 0 p [] (λ a b. omega arith) ∙ bits-nil 16 0), omega arith)
-
--- what a caller learns of a blame byte from its bit
-module _ (n : Names) (b : ℕ) {r : ℕ} (m : BlameMask (n .parties) (n .params) b r) where
-  pub blame-allowed : (r ≡ 0 → ⊥) → blameOk n b ≡ true
-  unfolding blameOk
-  blame-allowed e = not-false (mayBlame (n .parties) (n .params) b) (sym (m .refused) ∙ ne-eqb r 0 e)
 
 -- parties alone have no bits of party parameters
 pub mask-bits : (ps : List ℕ) → ((q : ℕ) → member q ps ≡ true → q < 16) → maskOf ps ≡ bitsOf ps

@@ -222,9 +222,6 @@ module _ {places s : List ℕ} (x : Indexed places s) where
   pub value-count : (k : ℕ) → k < byte s 10 → length (headAt s k .values) ≡ byte (pieceAt s (templatePlace s k)) 4
   value-count k l = values-length (pieceAt s (templatePlace s k)) (template-ok k l)
 
-  pub few-values : (k : ℕ) → k < byte s 10 → length (headAt s k .values) ≤ 8
-  few-values k l = omega (arith, value-count k l, template-facts k l .few)
-
   pub few-params : (k : ℕ) → k < byte s 10 → headAt s k .params ≤ 4
   few-params k l = params-few (pieceAt s (templatePlace s k)) (template-ok k l)
 

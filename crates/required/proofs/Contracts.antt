@@ -2,6 +2,9 @@
 -- lent.
 -- A contract that says less, or asks something of its caller, breaks this file.
 use mathlib.Core.Path.{_≡_}
+use mathlib.Core.List.{List}
+use Prim.Native.Nat.{ℕ}
+use lib.IntN.{ℤ}
 use contract.Lifetimes.{Lfts}
 use borrow.Fn.Kinds.{Dens, endedOf}
 use denote.Triple.Clauses.{AtExit}
@@ -12,6 +15,8 @@ use Rattle.monitor.specs.declared.Started.{Started}
 use Rattle.monitor.specs.declared.Taken.{Taken}
 use Rattle.monitor.specs.declared.Foretold.{Foretold}
 use Rattle.monitor.specs.Answers.{checkAnswer, forecastAnswer, startAnswer, takenAnswer}
+use Rattle.givuntha.specs.Numbers.{forecastNumbers}
+use Rattle.givuntha.proofs.Apart.{apart}
 use Rattle.monitor.proofs.Calls.{forecast-call, reading-call, start-call}
 use Rattle.monitor.proofs.check.Kinds as check-kinds
 use Rattle.monitor.proofs.check.Reads as check
@@ -42,3 +47,8 @@ foretells : (κs : Lfts 2) (given : Dens {n = 2} κs forecast-kinds.ps) (r : For
     (left : AtExit (endedOf 2 forecast-kinds.ps forecast-kinds.r) κs)
     → forecast.Post κs given r left → forecastAnswer r ≡ forecastOf (given .0 .now) (given .1 .0 .now)
 foretells = forecast-call
+
+-- no two forecasts have the same numbers for a caller in C
+forecasts-apart : (s s′ : List ℕ) (us us′ : List ℤ)
+    → forecastNumbers (forecastOf s us) ≡ forecastNumbers (forecastOf s′ us′) → forecastOf s us ≡ forecastOf s′ us′
+forecasts-apart = apart

@@ -2,7 +2,7 @@
 use mathlib.Core.Path.{_≡_}
 use mathlib.Core.Logic.{_↔_}
 use mathlib.Core.Bool.{Bool, true, false}
-use mathlib.Core.List.{List, [], _∷_, _++_}
+use mathlib.Core.List.{List, [], _∷_, _++_, map}
 use mathlib.Core.Option.{some}
 use Prim.Native.Nat.{ℕ}
 use lib.IntN.{ℤ}
@@ -18,6 +18,7 @@ use Rattle.telling.specs.declared.Told.{Told}
 use Rattle.watch.specs.Steps.{Comes}
 use Rattle.watch.specs.Watched.{watched, zeros}
 use Rattle.watch.proofs.Session.{BeginCall, Session, watched-is}
+use Rattle.watch.specs.Trials.{trials, trials-pass}
 
 -- the start's line and then, call by call, all that is put: the bytes that are defined for the input, however it came
 lines-are : (whole s : List ℕ) (cells₂ : List ℤ) (out₂ : List ℕ) (t : Told) (input : List ℕ) (ended : Bool)
@@ -26,6 +27,10 @@ lines-are : (whole s : List ℕ) (cells₂ : List ℤ) (out₂ : List ℕ) (t : 
     → (t .go ≡ true → Session s cells₂ 1 input ended more w) → (t .go ≡ false → w ≡ [])
     → take (t .at) out₂ ++ w ≡ watched whole
 lines-are = watched-is
+
+-- the paper's transcript and more, byte for byte
+lines-tried : map (λ t. watched (t .input)) trials ≡ map (λ t. t .written) trials
+lines-tried = trials-pass
 
 -- 7 does not apply to 3,080 cells if and only if they are the table of a well-typed run
 tables-typed : (a : Agreement) (mains : List ℕ) (cells : List ℤ) → Fair a mains → length cells ≡ 3080

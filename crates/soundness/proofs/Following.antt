@@ -17,9 +17,8 @@ use Rattle.csl.specs.Typing.{blameOk, hasType, namesOf, readingOfType, thenSigh
 use Rattle.csl.specs.Values.{evalBool, evalNum, who}
 use Rattle.csl.specs.Outcomes.{Outcome, Residue, Sight, both, breach, joined, orStuck, unit}
 use Rattle.csl.specs.Rules.{Reading, Step, activate, activating, blamed, during, following, late, taken, wants}
-use Rattle.csl.specs.Rules.{window, withValues}
+use Rattle.csl.specs.Rules.{window, withValues, across, follow}
 use Rattle.csl.specs.Places.{clauseAt}
-use Rattle.csl.specs.Rules.{across, follow}
 use Rattle.csl.specs.Table.{standFor, standsFor}
 use Rattle.laws.proofs.Bools.{both-true}
 use Rattle.laws.proofs.Options.{from-bind, from-need, some-bind, some-inj}
@@ -34,9 +33,6 @@ use Rattle.soundness.proofs.Activation.{activate-good, activating-good,
 -- a reading's values have the types of its reading type
 unfoldable pub ReadingOk : Agreement → Reading → Type 0
 ReadingOk ag r = (ts : List Ty) → readingOfType (ag .readings) (r .type) ≡ some ts → HaveTy (ag .parties) ts (r .values)
-
-unfoldable pub Within : Agreement → ℕ → ℕ → Type 0
-Within ag now t = (ag .start ≤ t) × (t ≤ now)
 
 -- what a typed wait has
 pub from-wait : {C : Type 0} (ag : Agreement) (n : ℕ) (env : List Ty) (w : Wait) (vs : List Ty)

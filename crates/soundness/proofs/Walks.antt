@@ -9,12 +9,11 @@ use native.Mathlib.Omega.{arith}
 use lib.Dec.{T, eqb, eqb→eq, leb, leb→le, ltb, ltb→lt, lt→ltb}
 use lib.IntN.{ℤ}
 use lib.ListN.{length}
-use Rattle.csl.specs.Lists.{_>>=_, all, at, orNil}
+use Rattle.csl.specs.Lists.{_>>=_, all, at}
 use Rattle.csl.specs.Numbers.{inRange}
 use Rattle.csl.specs.Syntax.{Agreement, Clause, Expr, Head, Template, Ty, Wait, badClause, choice, fulfilled, if}
 use Rattle.csl.specs.Syntax.{instance, join, number, obligation, truth}
-use Rattle.csl.specs.Typing.{blameOk, hasType, haveTypes, headsIn, joinOk, namesOf, readingOfType, typeClause}
-use Rattle.csl.specs.Typing.{typeExpr, typed}
+use Rattle.csl.specs.Typing.{blameOk, hasType, haveTypes, headsIn, joinOk, namesOf, typeClause, typeExpr, typed}
 use Rattle.csl.specs.Guards.{guardedIn}
 use Rattle.csl.specs.Values.{Val, asBool, asNum, bool, eval, evalBool, evalNum, evals, num}
 use Rattle.csl.specs.Outcomes.{Outcome, Sight, orStuck}
@@ -161,9 +160,6 @@ module _ (ps : ℕ) (env : List Ty) (vs : List Val) (h : HaveTy ps env vs) where
       (a .0 ∷ r .0, some-bind (eval vs x) _ (a .0) (a .1) ∙ some-bind (evals vs es) _ (r .0) (r .1), (a .2, r .2))
 
 -- ---- the walk, whatever the step
-abbrev wanted : Agreement → Wait → List Ty
-wanted ag w = orNil (readingOfType (ag .readings) (w .wanted))
-
 -- parties of an instance: the declared ones stand for themselves
 pub stand-instance : (params ds cs : List ℕ) → ((q : ℕ) → In q ds → q < 128)
     → Sub (ds ++ standFor params cs) (standFor params (ds ++ cs))

@@ -14,7 +14,7 @@ use borrow.Author.Tests.{eq-eqb, ne-eqb}
 use borrow.Rule.Slice.PartMut.{putMid}
 use mir.Syntax.{w64}
 use mir.Val.{Fits, SFits, toZ}
-use Rattle.arith.specs.Within.{Within, far}
+use Rattle.arith.specs.Near.{Near, far}
 use Rattle.arith.proofs.Ints.{seen, read, read! }
 use Rattle.arith.proofs.Numbers.{sizes, within-goal, held-fits, later-size}
 use Rattle.arith.proofs.Lists.{tail-put}
@@ -37,7 +37,7 @@ use Rattle.residues.proofs.Cells.{cell-of}
 pub time-size : (n : ℕ) → n ≤ farthest → natAbs (toZ w64 n) ≡ n
 time-size n h = ap natAbs (cell-of n h)
 
-pub time-within : (n : ℕ) → n ≤ farthest → Within far (toZ w64 n)
+pub time-within : (n : ℕ) → n ≤ farthest → Near far (toZ w64 n)
 time-within n h = within-goal far (toZ w64 n) (omega (arith, time-size n h))
 
 -- ---- a window
@@ -45,8 +45,8 @@ module _ (vs : List ℤ) (s : List ℕ) (i a d : ℕ) (h : a ≤ farthest) {b c 
     (ec : c ≡ recordEnd s b) (ee : e ≡ recordEnd s c) where
   pub window-is : {x y r q : ℤ} → (x ≡ evalCells vs (expr d (part s b c))) × Held x
       → (y ≡ evalCells vs (expr d (part s c e))) × Held y
-      → mag r < 2 ^ 63 → (r ≡ toZ w64 a +ℤ seen x) × Within (natAbs (toZ w64 a) + natAbs (seen x)) r
-      → mag q < 2 ^ 63 → (q ≡ seen r +ℤ seen y) × Within (natAbs (seen r) + natAbs (seen y)) q
+      → mag r < 2 ^ 63 → (r ≡ toZ w64 a +ℤ seen x) × Near (natAbs (toZ w64 a) + natAbs (seen x)) r
+      → mag q < 2 ^ 63 → (q ≡ seen r +ℤ seen y) × Near (natAbs (seen r) + natAbs (seen y)) q
       → (p : ℕ) → WindowIs vs a (waitAt (expr d) p s i) (record { first = seen r; last = seen q })
   unfolding firstOf lastOf waitAt
   window-is {x} {y} {r} {q} hx hy fr hr fq hq p =
@@ -64,7 +64,7 @@ module _ (vs rs : List ℤ) (a t k : ℕ) (ht : t ≤ farthest) (w : Wait) {r : 
   last-is : seen (r .last) ≡ lastOf vs a w
   last-is = read! fl ∙ x .last
 
-  near-is : Within (a + 2_000_000_000) (seen (r .last))
+  near-is : Near (a + 2_000_000_000) (seen (r .last))
   near-is = rw (read! fl) (x .near)
 
   pub follow-late : ltZ (seen (r .last)) (toZ w64 t) ≡ true → FateIs (following t k rs) vs a w (Late (seen (r .last)))
@@ -198,7 +198,7 @@ module _ (a : ℕ) (h : a ≤ farthest) {last r : ℤ} (f : SFits w64 last) (g :
   pub later-seen : seen r ≡ pos (laterOf a last)
   later-seen = read! g ∙ e a (cell-of a h) ∙ rw (read f)
 
-  module _ (w : Within (a + 2_000_000_000) last) where
+  module _ (w : Near (a + 2_000_000_000) last) where
     later-near : laterOf a last ≤ a + 2_000_000_000
     later-near = omega (sizes, later-size a last)
 

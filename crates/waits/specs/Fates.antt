@@ -10,7 +10,7 @@ use mathlib.Core.Bool.{Bool}
 use Rattle.csl.specs.Syntax.{Wait}
 use Rattle.csl.specs.Decode.{expr, waitAt}
 use Rattle.cells.specs.Evaluate.{isTrue, evalCells}
-use Rattle.arith.specs.Within.{Within}
+use Rattle.arith.specs.Near.{Near}
 use Rattle.waits.specs.declared.Event.{Event}
 use Rattle.waits.specs.declared.Fate.{Fate}
 use Rattle.waits.specs.declared.Fate.the-variants.{Waits, Late, Taken}
@@ -32,9 +32,9 @@ conditionOf s i d vs = isTrue (evalCells vs (waitAt (expr d) 0 s i .condition))
 pub record WindowIs (vs : List ℤ) (a : ℕ) (w : Wait) (r : Window) : Type 0 where
   pub first : r .first ≡ firstOf vs a w
   pub last : r .last ≡ lastOf vs a w
-  pub near : Within (a + 2_000_000_000) (r .last)
+  pub near : Near (a + 2_000_000_000) (r .last)
 
 unfoldable pub FateIs : Mode → List ℤ → ℕ → Wait → Fate → Type 0
 FateIs m vs a w Waits = fate m vs a w ≡ waits
-FateIs m vs a w (Late l) = (fate m vs a w ≡ late) × (l ≡ lastOf vs a w) × Within (a + 2_000_000_000) l
-FateIs m vs a w (Taken l) = (fate m vs a w ≡ taken) × (l ≡ lastOf vs a w) × Within (a + 2_000_000_000) l
+FateIs m vs a w (Late l) = (fate m vs a w ≡ late) × (l ≡ lastOf vs a w) × Near (a + 2_000_000_000) l
+FateIs m vs a w (Taken l) = (fate m vs a w ≡ taken) × (l ≡ lastOf vs a w) × Near (a + 2_000_000_000) l

@@ -5,7 +5,7 @@ ghost use Prim.Native.Nat.{ℕ, _+_, _-_, _≤_};
 ghost use lib.IntN.{ℤ, pos, _-ℤ_};
 ghost use lib.ListN.{length, take, drop};
 ghost use Rattle.csl.specs.Decode.{expr, waitAt};
-ghost use Rattle.arith.specs.Within.{Within};
+ghost use Rattle.arith.specs.Near.{Near};
 ghost use Rattle.cells.specs.Reduce.{following, thenValues};
 ghost use Rattle.residues.specs.Reduces.{farthest};
 ghost use Rattle.waits.specs.Fates.{modeAt, FateIs, WindowIs, conditionOf};
@@ -159,7 +159,7 @@ pub fn then_values(
     cells: &mut [i64],
 ) -> usize
     requires { ⌜ (length (now values) ≤ 16) × (length (now reading) ≤ 4) × (length (now cells) ≡ 24)
-        × (time ≤ farthest) × Within (farthest + 2_000_000_000) last ⌝ }
+        × (time ≤ farthest) × Near (farthest + 2_000_000_000) last ⌝ }
     ensures { λ r. ⌜ (take r (now (cells .exit)) ≡ thenValues (now (values .entry)) (now (reading .entry)) (last -ℤ pos time)) × (r ≤ 16) ⌝ }
 {
     let left = exact_difference(last, time as i64);

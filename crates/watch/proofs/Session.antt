@@ -87,11 +87,6 @@ drained {t = t} c more h = rw (
   sym (c .puts),
 ) (c .meets .same more (subst (λ b. Comes b more) (sym (c .over)) h))
 
--- where more input is waited for, it has not ended
-open-still : {s : List ℕ} {cells cells₂ : List ℤ} {n : ℕ} {input : List ℕ} {ended : Bool} {out₂ : List ℕ} {t : Turn}
-    → DrainCall s cells cells₂ n input ended out₂ t → t .stage ≡ Waiting → ended ≡ false
-open-still c w = sym (c .over) ∙ c .meets .waits w .1
-
 pub session-is : (s : List ℕ) {cells : List ℤ} {n : ℕ} {input : List ℕ} {ended : Bool} {more written : List ℕ}
     → Session s cells n input ended more written → Comes ended more
     → written ≡ readingLines s cells n (recordsOf (input ++ more))
