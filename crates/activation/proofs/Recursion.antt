@@ -167,6 +167,3 @@ fits-body {ag = ag} f {x = x} {y = y} ew h i l = rw ew (record {
   near = f .near;
   room = omega (arith, f .room);
 })
-
-pub few-more : (n m : ℕ) → n + m - n ≡ m
-few-more n m = omega arith

@@ -4,7 +4,6 @@ use mathlib.Core.Bool.{Bool, true, false, cond, not}
 use mathlib.Core.List.{List, _++_}
 use mathlib.Core.Option.{Option, none, some}
 use Prim.Native.Nat.{ℕ, zero, suc, _+_, _-_, _≤_, _<_}
-use native.Mathlib.Nat.{not-suc-le-zero}
 use native.Mathlib.Omega.{arith}
 use native.Mathlib.Decide.{decLe}
 use lib.IntN.{ℤ, pos, _-ℤ_}
@@ -12,7 +11,7 @@ use lib.Dec.{eqb}
 use lib.ListN.{length, take, drop}
 use lib.Seq.{drop-at, take-append-le, take-take, length-take-le}
 use borrow.Rule.Slice.PartMut.{putMid}
-use borrow.Author.Tests.{eqb-true, eqb-false, ne-eqb, eq-eqb, not-true, not-false}
+use borrow.Author.Tests.{ne-eqb, eq-eqb, not-true, not-false}
 use Rattle.laws.proofs.Clash.{impossible}
 use Rattle.arith.specs.Near.{Near}
 use Rattle.arith.proofs.Ints.{seen, read}
@@ -26,10 +25,12 @@ use Rattle.csl.specs.Numbers.{Held, laterOf}
 use Rattle.csl.specs.Bytes.{byte, part, isRecord, kindNumber, recordEnd}
 use Rattle.csl.specs.Syntax.{Expr, Join, and, or, Clause, badClause, Wait, Template, Head}
 use Rattle.csl.specs.Decode.{ClauseKind, clauseKind, expr, waitAt, waitEnd, clause, clauseBody, instanceOf, headsOf}
-use Rattle.csl.specs.Decode.{arguments, recordsEnd, ifKind, obligationKind, choiceKind, joinOf, instanceKind}
+use Rattle.csl.specs.Decode.{arguments, recordsEnd, ifKind, obligationKind, choiceKind, instanceKind}
+use Rattle.laws.specs.Joins.{joinOf}
 use Rattle.csl.specs.Decode.{bodyPlace, bodyOf, templateOf}
 use Rattle.cells.specs.Evaluate.{evalCells, evalsCells, isTrue}
 use Rattle.cells.specs.Reduce as cells
+use Rattle.cells.proofs.Unfolds.{unfold-at, unfold-past}
 use Rattle.cells.specs.Reduce.{Mode, activating, fate, waits, late, taken, lastOf, thenValues, blamedCells, blameBits}
 use Rattle.records.proofs.Trees.{clause-zero, clause-none, clause-at, kind-no-clause-low, kind-no-clause-high}
 use Rattle.records.proofs.Trees.{kind-fulfilled, kind-join}
@@ -170,28 +171,6 @@ module _ (e : Event) (rs : List ℤ) (ag : List ℕ) (below : ℕ) (s : List ℕ
         }
 
 -- ---- templates
-module _ (m : Mode) (th : Clause → List ℤ → List ℤ → ℕ → cells.Reduced) (ts : List Template) (ps vs : List ℤ) (a : ℕ)
-  where
-    pub unfold-at : (n k : ℕ) {t : Template} → k < n → at ts k ≡ some t
-        → cells.unfoldBelow m th ts n k ps vs a ≡ cells.walk m th (cells.unfoldBelow m th ts k) (t .body) ps vs a
-    unfolding cells.unfoldBelow
-    unfold-at zero k h e = absurd (not-suc-le-zero h)
-    unfold-at (suc n) k {t} h e = by-number (eqb k n) refl (λ l. unfold-at n k l e)
-      where
-        by-number : (b : Bool) → eqb k n ≡ b → (k < n
-            → cells.unfoldBelow m th ts n k ps vs a ≡ cells.walk m th (cells.unfoldBelow m th ts k) (t .body) ps vs a)
-            → cells.unfoldBelow m th ts (suc n) k ps vs a ≡ cells.walk m th (cells.unfoldBelow m th ts k) (t .body) ps
-            vs a
-        by-number true q ih = let r = eqb-true k n q in let f = rw r at e in
-            rw (q, cells.unfoldBelow, f) (ap (λ j. cells.walk m th (cells.unfoldBelow m th ts j) (t .body) ps vs a)
-            (sym r))
-        by-number false q ih = let r = eqb-false k n q in rw (q, cells.unfoldBelow) (ih (omega arith))
-
-    pub unfold-past : (n k : ℕ) → n ≤ k → cells.unfoldBelow m th ts n k ps vs a ≡ cells.done
-    unfolding cells.unfoldBelow
-    unfold-past zero k h = refl
-    unfold-past (suc n) k h = rw (ne-eqb k n (λ e. omega arith), cells.unfoldBelow) (unfold-past n k (omega arith))
-
 -- a template's body, by where it stands in the agreement
 module _ {places ag : List ℕ} (x : Indexed places ag) (k : ℕ) (h : k < byte ag 10) where
   body-is : bodyOf (headsOf ag) (piece ag (templatePlace ag k)) ≡ clause (headsOf ag) 22 (bodyFrom ag k)

@@ -7,7 +7,8 @@ use lib.IntN.{ℤ, pos}
 use lib.ListN.{length, take, drop}
 use Rattle.csl.specs.Bytes.{byte, part, isRecord, kindNumber, recordEnd}
 use Rattle.csl.specs.Syntax.{Clause, Template}
-use Rattle.csl.specs.Decode.{ClauseKind, clauseBody, clause, expr, headsOf, agreementOf, joinOf}
+use Rattle.csl.specs.Decode.{ClauseKind, clauseBody, clause, expr, headsOf, agreementOf}
+use Rattle.laws.specs.Joins.{joinOf}
 use Rattle.records.specs.Index.{Indexed, headAt, bodyFrom, bodyTo}
 use Rattle.cells.specs.Reduce as cells
 use Rattle.cells.specs.Reduce.{Mode, unitOf, joined}

@@ -9,7 +9,7 @@ ghost use mathlib.Core.List.{[]};
 ghost use Prim.Native.Nat.{_+_, _≤_, _<_};
 ghost use lib.ListN.{length, take, drop};
 ghost use Rattle.csl.specs.Bytes.{part};
-ghost use Rattle.csl.specs.Decode.{joinOf};
+ghost use Rattle.laws.specs.Joins.{joinOf};
 ghost use Rattle.cells.specs.Reduce.{joined};
 ghost use Rattle.residues.specs.Reduces.{Is};
 ghost use Rattle.records.specs.Index.{headAt};

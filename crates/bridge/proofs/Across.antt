@@ -12,7 +12,8 @@ use lib.ListN.{drop, getD, length, replicate, take, List·getD-append}
 use lib.Seq.{drop-at, take-at}
 use Rattle.csl.specs.Bytes.{part, recordEnd}
 use Rattle.csl.specs.Syntax.{Agreement, Clause, Join, Ty, and, or}
-use Rattle.csl.specs.Decode.{agreementOf, clause, headsOf, joinOf}
+use Rattle.csl.specs.Decode.{agreementOf, clause, headsOf}
+use Rattle.laws.specs.Joins.{joinOf}
 use Rattle.csl.specs.Typing.{namesOf, typeClause}
 use Rattle.csl.specs.Outcomes.{Residue, Sight, Sort, aChoice, anObligation, both, joined, orStuck, running, unit}
 use Rattle.csl.specs.Outcomes.{units}

@@ -3,7 +3,7 @@
 -- so.
 use mathlib.Core.Bool.{Bool, cond, false, true}
 use mathlib.Core.List.{List, [], _∷_, _++_}
-use mathlib.Core.Option.{Option, none, some}
+use mathlib.Core.Option.{none, some}
 use mathlib.Core.Path.{ap, refl, subst, sym, _∙_, _≡_}
 use Prim.Native.Nat.{_<_, ℕ, _≤_}
 use native.Mathlib.Omega.{arith}
@@ -33,7 +33,7 @@ use Rattle.soundness.proofs.Activation.{activate-good}
 use Rattle.soundness.proofs.Following.{ReadingOk, follow-good}
 use Rattle.soundness.proofs.Forecasts.{ForecastOk, forecast-ok}
 use Rattle.soundness.proofs.Readings.{reading-ok}
-use Rattle.soundness.proofs.Runs.{Since, fit-cases, isFair, reading-is, runAt, start-is, stepped}
+use Rattle.soundness.proofs.Runs.{Since, fit-cases, fitByBytes, fitByType, isFair, reading-is, runAt, start-is, stepped}
 use Rattle.soundness.proofs.ReadBack.{runOf-good, table-back}
 use Rattle.cells.specs.Reduce.{Reduced}
 use Rattle.cells.specs.Reduce as cells
@@ -85,23 +85,13 @@ module _ (a : Agreement) (q : Run) (r : List ℕ) where
   unfolding step
   step-by x e = ap (λ x. elim x [ unfit n ↦ stepped n q | fit d ↦ followed a q d ]) e
 
-  -- the reading's fit, from its bytes and from its type
-  byTime : Reading → Fit
-  byTime d = elim (ltb (d .time) (q .lastTime)) [ true ↦ unfit 10 | false ↦ fit d ]
-
-  byType : Option Reading → Fit
-  byType o = elim o [ none ↦ unfit 9 | some d ↦ byTime d ]
-
-  byBytes : Option Raw → Fit
-  byBytes o = elim o [ none ↦ unfit 8 | some w ↦ byType (typedReading a w) ]
-
   step-eight : rawReading r ≡ none → step a q r ≡ stepped 8 q
-  unfolding fitOf byTime byType byBytes
-  step-eight e = step-by (unfit 8) (ap byBytes e)
+  unfolding fitOf
+  step-eight e = step-by (unfit 8) (ap (fitByBytes a (q .lastTime)) e)
 
   step-nine : (w : Raw) → rawReading r ≡ some w → typedReading a w ≡ none → step a q r ≡ stepped 9 q
-  unfolding fitOf byTime byType byBytes
-  step-nine w e f = step-by (unfit 9) (ap byBytes e ∙ ap byType f)
+  unfolding fitOf
+  step-nine w e f = step-by (unfit 9) (ap (fitByBytes a (q .lastTime)) e ∙ ap (fitByType (q .lastTime)) f)
 
   step-ten : (d : Reading) → fitting a r ≡ some d → d .time < q .lastTime → step a q r ≡ stepped 10 q
   step-ten d f lt = fit-cases a (q .lastTime) r

@@ -2,18 +2,18 @@
 -- Main theorems: `activate-shows`, `follow-shows`, `forecast-shows`.
 use mathlib.Core.Bool.{Bool, cond, false, not, true, _&&_}
 use mathlib.Core.List.{List, [], _∷_, _++_}
-use mathlib.Core.Option.{Option, none, some}
+use mathlib.Core.Option.{Option, some}
 use mathlib.Core.Path.{ap, ap₂, refl, subst, sym, _∙_, _≡_}
 use Prim.Native.Nat.{_<_, suc, zero, ℕ, _≤_}
 use native.Mathlib.Omega.{arith}
-use lib.Dec.{T, eqb, eqb-refl, eqb→eq, leb, leb→le, ltb, ltb→lt}
+use lib.Dec.{T, eqb, eqb→eq, leb, leb→le, ltb, ltb→lt}
 use lib.IntN.{_+ℤ_, _-ℤ_, pos, ℤ}
 use lib.ListN.{length}
 use lib.Seq.{take-all}
 use lib.Signed.{ltZ}
 use Rattle.csl.specs.Lists.{_>>=_, all, at, orNil}
 use Rattle.csl.specs.Numbers.{inRange, laterOf}
-use Rattle.csl.specs.Syntax.{Agreement, Clause, Head, Template, Ty, Wait, badClause, choice, fulfilled, if, instance}
+use Rattle.csl.specs.Syntax.{Agreement, Clause, Head, Ty, Wait, badClause, choice, fulfilled, if, instance}
 use Rattle.csl.specs.Syntax.{join, number, obligation, truth}
 use Rattle.csl.specs.Typing.{blameOk, hasType, haveTypes, headsIn, namesOf, readingOfType, thenSight, typeClause}
 use Rattle.csl.specs.Typing.{typeWait}
@@ -38,40 +38,10 @@ use Rattle.soundness.proofs.Forecasts.{forecasting-good}
 use Rattle.cells.specs.Evaluate.{evalCells, isTrue}
 use Rattle.cells.specs.Reduce as cells
 use Rattle.cells.specs.Reduce.{Mode, Reduced}
+use Rattle.cells.proofs.Unfolds.{unfold-at}
 use Rattle.bridge.proofs.Evaluate.{bool-cells, evals-cells, num-cells}
 use Rattle.bridge.proofs.Shows.{Shows, blame-bits, blamed-cells, cells-++, joined-shows, shows-bind}
 use Rattle.bridge.proofs.Shows.{unit-cells}
-
--- ---- a template's instance, on cells
-module _ (md : Mode) (th : Clause → List ℤ → List ℤ → ℕ → Reduced) (ts : List Template) where
-  -- an instance of a template below n is the walk of its body, in which the templates below it are unfolded
-  pub unfold-below : (n k : ℕ) (ps vs : List ℤ) (a : ℕ) → k < n
-      → cells.unfoldBelow md th ts n k ps vs
-      a ≡ (elim (at ts k) [
-        | none ↦ cells.done
-        | some t ↦ cells.walk md th (cells.unfoldBelow md th ts k) (t .body) ps vs a
-      ])
-  unfolding cells.unfoldBelow
-  unfold-below zero k ps vs a lt = absurd (omega arith)
-  unfold-below (suc n) k ps vs a lt = go (eqb k n) refl (unfold-below n k ps vs a)
-    where
-      body : ℕ → Reduced
-      body i = elim (at ts i) [
-        | none ↦ cells.done
-        | some t ↦ cells.walk md th (cells.unfoldBelow md th ts i) (t .body) ps vs a
-      ]
-
-      go : (b : Bool) → eqb k n ≡ b → (k < n → cells.unfoldBelow md th ts n k ps vs a ≡ body k)
-          → (elim b [ true ↦ body n | false ↦ cells.unfoldBelow md th ts n k ps vs a ]) ≡ body k
-      go true e ih = ap body (sym (eqb→eq k n (subst T (sym e) tt)))
-      go false e ih = ih (below (λ s. subst T e (subst (λ i. T (eqb k i)) s (eqb-refl k))))
-        where
-          below : (k ≡ n → ⊥) → k < n
-          below ne = omega arith
-
-  pub unfold-at : (n k : ℕ) (t : Template) (ps vs : List ℤ) (a : ℕ) → k < n → at ts k ≡ some t
-      → cells.unfoldBelow md th ts n k ps vs a ≡ cells.walk md th (cells.unfoldBelow md th ts k) (t .body) ps vs a
-  unfold-at n k t ps vs a lt e = rw (unfold-below n k ps vs a lt, e) refl
 
 -- ---- the walk, whatever the step
 module _ (ag : Agreement) (mains : List ℕ) (fair : Fair ag mains) (W : ℕ → Type 0) where
@@ -170,7 +140,7 @@ module _ (ag : Agreement) (mains : List ℕ) (fair : Fair ag mains) (W : ℕ →
         at-heads (ag .templates) k h ph λ t pt eq.
         let ft = fair .templates k t pt in
         shows-bind (at (ag .templates) k) _ t _ pt
-        (rw (unfold-at md th (ag .templates) j k t (natCells ps) (cellsOf vs) u lt pt)
+        (rw (unfold-at md th (ag .templates) (natCells ps) (cellsOf vs) u j k lt pt)
         (walkIn-shows m k (omega arith) (t .body) (t .head .params) (t .head .values)
         (record { params = ps; values = vs }) u (ft .blames) (ft .guarded)
         (record {

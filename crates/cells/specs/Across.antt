@@ -9,7 +9,8 @@ use lib.IntN.{ℤ, pos, negsuc}
 use lib.ListN.{getD, take, drop}
 use Rattle.csl.specs.Bytes.{part, recordEnd}
 use Rattle.csl.specs.Syntax.{Join}
-use Rattle.csl.specs.Decode.{headsOf, agreementOf, clause, joinOf}
+use Rattle.csl.specs.Decode.{headsOf, agreementOf, clause}
+use Rattle.laws.specs.Joins.{joinOf}
 use Rattle.cells.specs.Reduce.{Reduced, joined, Mode, reduce}
 
 -- a cell that is known to be a natural number

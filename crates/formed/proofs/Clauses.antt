@@ -14,7 +14,8 @@ use Rattle.csl.specs.Bytes.{byte, part, isRecord, kindNumber, recordEnd}
 use Rattle.csl.specs.Syntax.{Expr, Join, Wait, Clause, fulfilled, choice, if, join, instance, badClause, Head}
 use Rattle.csl.specs.Decode.{expr, wholeExpr, waitAt, wholeWait, recordsEnd, arguments, instanceOf, ClauseKind}
 use Rattle.csl.specs.Decode.{fulfilledKind, obligationKind, choiceKind, ifKind, joinKind, instanceKind, noClause}
-use Rattle.csl.specs.Decode.{joinOf, waitEnd, clauseBody, clauseHead, clause, whole, headsOf}
+use Rattle.csl.specs.Decode.{waitEnd, clauseBody, clauseHead, clause, whole, headsOf}
+use Rattle.laws.specs.Joins.{joinOf}
 use Rattle.octets.proofs.Bytes.{record-end-within}
 use Rattle.arith.proofs.Lists.{length-part}
 use Rattle.records.specs.Index.{headAt, firstClause}

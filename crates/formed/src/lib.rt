@@ -1,4 +1,5 @@
-// Refusal 2: 'record, count, type byte or nesting not as under Records, or an instance naming no template', for any bytes.
+// Refusal 2, for any bytes: 'record, count, type byte or nesting not as under Records, or an instance naming no
+// template'.
 ghost use mathlib.Core.Path.{_≡_};
 ghost use mathlib.Core.Bool.{true, _&&_};
 ghost use Prim.Native.Nat.{_≤_, _<_};

@@ -14,7 +14,8 @@ use Rattle.csl.specs.Lists.{at}
 use Rattle.csl.specs.Bytes.{byte, part, kindNumber, recordEnd}
 use Rattle.csl.specs.Syntax.{Expr, Wait, Head, Clause, Join, fulfilled, obligation, choice, if, join, instance}
 use Rattle.csl.specs.Syntax.{badClause}
-use Rattle.csl.specs.Decode.{expr, waitAt, joinOf, clauseKind, clauseBody, clause, whole, wholeWait, wholeExpr}
+use Rattle.csl.specs.Decode.{expr, waitAt, clauseKind, clauseBody, clause, whole, wholeWait, wholeExpr}
+use Rattle.laws.specs.Joins.{joinOf}
 use Rattle.csl.specs.Decode.{instanceOf, recordsEnd, arguments}
 use Rattle.laws.proofs.Bools.{true→T, and-left, and-right, false-first, true-first}
 use Rattle.octets.proofs.Bytes.{whole-from}

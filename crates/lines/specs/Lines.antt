@@ -8,10 +8,12 @@ use lib.IntN.{ℤ, pos}
 use lib.ListN.{getD}
 use Rattle.csl.specs.Numbers.{eqZ}
 use Rattle.csl.specs.Bytes.{le32}
-use Rattle.csl.specs.Entries.{Answer, Forecast, refusedForecast, noBreach, breachAt, noForecast, startOf, readingOf, forecastOf}
+use Rattle.csl.specs.Entries.{Answer, Forecast, refusedForecast, noBreach, breachAt, noForecast, startOf, readingOf}
+use Rattle.csl.specs.Entries.{forecastOf}
 use Rattle.lines.specs.Text.{decimal, live, done, breach, refused, none, dash, line}
 
--- "the forecast time and party bits in decimal, or NONE"; the table that start or a reading left has a forecast, so the other two do not occur
+-- "the forecast time and party bits in decimal, or NONE"; the table that start or a reading left has a forecast, so the
+-- other two do not occur
 unfoldable pub forecastFields : Forecast → List (List ℕ)
 forecastFields (breachAt t bits) = decimal t ∷ decimal bits ∷ []
 forecastFields noBreach = none ∷ []
@@ -72,5 +74,6 @@ linesOf s cells readings =
 
 -- what a proof by computation unfolds
 unfoldable pub computes : Unit {0}
-unfolding forecastFields stateBy stateFields verdictFields refusalFields answerFields timeField startTime startLine readingTime readingLine readingLines linesOf
+unfolding forecastFields stateBy stateFields verdictFields refusalFields answerFields timeField startTime startLine
+    readingTime readingLine readingLines linesOf
 computes = tt

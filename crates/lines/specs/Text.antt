@@ -17,7 +17,10 @@ digit d = 48 + d
 -- the digits of n, the last one behind those of the tenth part; `steps` only bounds how often
 unfoldable pub digitsIn : ℕ → ℕ → List ℕ
 digitsIn zero n = []
-digitsIn (suc steps) n = elim (ltb n 10) [ true ↦ digit n ∷ [] | false ↦ digitsIn steps (n / 10) ++ (digit (n % 10) ∷ []) ]
+digitsIn (suc steps) n = elim (ltb n 10) [
+  | true ↦ digit n ∷ []
+  | false ↦ digitsIn steps (n / 10) ++ (digit (n % 10) ∷ [])
+]
 
 -- n in decimal: more than n steps are never needed
 unfoldable pub decimal : ℕ → List ℕ

@@ -53,11 +53,13 @@ use Rattle.monitor.specs.declared.Taken.the-variants.{Accepted as accept
 use Rattle.monitor.specs.declared.Run.{Run}
 use Rattle.monitor.specs.declared.Run.the-variants.{Running, Fulfilled, Breached}
 use Rattle.monitor.specs.Answers.{takenAnswer}
-use Rattle.monitor.specs.Steps.{ShowsRun, Opened, mainReduced, UnitsDue, DueBy, Due, reducedBy, reduced}
-use Rattle.monitor.specs.Steps.{advanced, Advances, Fitted, SomeReading, ReadAs}
+use Rattle.reduction.specs.Steps.{mainReduced, UnitsDue, DueBy, Due, reducedBy, reduced}
+use Rattle.monitor.specs.Steps.{ShowsRun, Opened}
+use Rattle.reduction.specs.Steps.{advanced, Advances}
+use Rattle.monitor.specs.Steps.{Fitted, SomeReading, ReadAs}
 use Rattle.monitor.proofs.Begins.{short}
 use Rattle.monitor.proofs.Opens.{accepts}
-use Rattle.monitor.proofs.Tabled.{founds, sighted, has-tree}
+use Rattle.reduction.proofs.Tabled.{founds, sighted, has-tree}
 
 fits-as : {s bytes : List ℕ} {us : List ℤ} {e : Event} {rs : List ℤ} (f : Fitted s bytes us e rs)
     → fitting (agreementOf s) bytes ≡ some (f .reading)

@@ -1,8 +1,10 @@
 -- Laws for a forecast.
-use mathlib.Core.Path.{_≡_, sym, ap, ap₂, subst, _∙_}
+use mathlib.Core.Path.{_≡_, refl, sym, ap, ap₂, subst, _∙_}
+use mathlib.Core.Logic.{inl, inr, _⊎_}
 use mathlib.Core.List.{List, [], _∷_}
 use Prim.Native.Nat.{ℕ, _-_, _*_, _^_, _<_}
 use native.Mathlib.Omega.{arith}
+use denote.Enum.Declared.{tagOf}
 use lib.Dec.{le→leb}
 use lib.IntN.{ℤ, pos}
 use lib.Signed.{mag, _≤ℤ_}
@@ -24,6 +26,7 @@ use Rattle.bridge.proofs.Entries.{foretold, forecast-done, forecast-breach, for
 use Rattle.residues.specs.Reduces.{Is}
 use Rattle.residues.specs.declared.Reduced.{Reduced}
 use Rattle.residues.specs.declared.Reduced.the-variants.{Done, Breach, Running}
+use Rattle.residues.proofs.Reduced.{the-type}
 use Rattle.residues.proofs.Reduces.{is-done, is-breach, is-running}
 use Rattle.walk.proofs.Trees.{tree-only}
 use Rattle.walk.specs.Tree.{Tree, treeReduced}
@@ -31,9 +34,9 @@ use Rattle.monitor.specs.declared.Foretold.the-variants.{Nothing, Breach
 use Rattle.monitor.specs.declared.Run.the-variants as run
 use Rattle.monitor.specs.Answers.{forecastAnswer}
 use Rattle.monitor.specs.Steps.{Opened}
-use Rattle.monitor.proofs.Advances.{behind-head}
+use Rattle.reduction.proofs.Advances.{behind-head}
 use Rattle.monitor.proofs.Opens.{accepts}
-use Rattle.monitor.proofs.Tabled.{founds, sighted}
+use Rattle.reduction.proofs.Tabled.{founds, sighted}
 use Rattle.monitor.proofs.Follows.{residue-sights, units-ready}
 
 -- ---- a time u in a cell t, read as m
@@ -80,9 +83,17 @@ module _ {s places : List ℕ} {us : List ℤ} {sights : List ℕ} {n : ℕ}
     is-for e = subst (λ q. Is (ahead .given) q out) e (subst (λ x. Is x r out)
         (tree-only (ap (table.across cells.forecasting s n sights) (behind-head us) ∙ ahead .is)) h)
 
-    pub ahead-none : r ≡ Done → forecastAnswer Nothing ≡ forecastOf s us
+    -- what is no breach is fulfilled, for nothing waits on
+    pub ahead-none : (tagOf the-type r ≡ 0) ⊎ (tagOf the-type r ≡ 2) → forecastAnswer Nothing ≡ forecastOf s us
     unfolding foretold
-    ahead-none e = sym (ahead .answers ∙ ap foretold (is-done out (ahead .given) (is-for e)))
+    ahead-none f = go r f (is-for refl)
+      where
+        go : (q : Reduced) → (tagOf the-type q ≡ 0) ⊎ (tagOf the-type q ≡ 2) → Is (ahead .given) q out
+            → forecastAnswer Nothing ≡ forecastOf s us
+        go Done f i = sym (ahead .answers ∙ ap foretold (is-done out (ahead .given) i))
+        go (Breach t b) (inl e) i = absurd (omega arith)
+        go (Breach t b) (inr e) i = absurd (omega arith)
+        go (Running n) f i = let g = is-running out (ahead .given) i in absurd (ahead .ends (g .0) (g .1))
 
     module _ {t : ℤ} {b : ℕ} (fits : mag t < 2 ^ 63) (e : r ≡ Breach t b) where
       dated : (u : ℕ) × (ahead .given ≡ cells.breach u b) × (t ≡ pos u)
@@ -95,9 +106,6 @@ module _ {s places : List ℕ} {us : List ℤ} {sights : List ℕ} {n : ℕ}
       unfolding foretold
       ahead-breach h = ap (λ u. entries.breachAt u b) (time-read fits (dated .2) h)
           ∙ sym (ahead .answers ∙ ap foretold (dated .1))
-
-    pub ahead-running : {m : ℕ} → r ≡ Running m → forecastAnswer Nothing ≡ forecastOf s us
-    ahead-running e = let g = is-running out (ahead .given) (is-for e) in absurd (ahead .ends (g .0) (g .1))
 
 -- ---- a fulfilled run, and a breached one
 module _ {s places : List ℕ} {us : List ℤ} {sights : List ℕ} where

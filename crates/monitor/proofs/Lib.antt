@@ -1,8 +1,6 @@
 pub mod Checks
 pub mod Opens
-pub mod Advances
 pub mod Begins
-pub mod Tabled
 pub mod Follows
 pub mod Foretells
 pub mod Calls

@@ -16,7 +16,8 @@ use Rattle.csl.specs.Lists.{orElse, orNil, at}
 use Rattle.csl.specs.Bytes.{byte, part, isRecord, kindNumber, recordEnd}
 use Rattle.csl.specs.Syntax.{Ty, truth, number, Expr, Join, Wait, Clause, fulfilled, obligation, choice, if, join}
 use Rattle.csl.specs.Syntax.{badClause, Head}
-use Rattle.csl.specs.Decode.{expr, waitAt, joinOf, recordsEnd, instanceOf, clauseKind, clauseBody, clause, headsOf}
+use Rattle.csl.specs.Decode.{expr, waitAt, recordsEnd, instanceOf, clauseKind, clauseBody, clause, headsOf}
+use Rattle.laws.specs.Joins.{joinOf}
 use Rattle.csl.specs.Decode.{agreementOf}
 use Rattle.csl.specs.Typing.{Names, blameOk, hasType, readingOfType, thenSight, typeWait, typeClause, namesOf}
 use Rattle.csl.specs.Places.{find}

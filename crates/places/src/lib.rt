@@ -32,7 +32,8 @@ pub enum Located {
     },
 }
 
-// Where the search goes on: nowhere, at a clause of a kind, or in the clause from a place up to a place, with so many values in sight.
+// Where the search goes on: nowhere, at a clause of a kind, or in the clause from a place up to a place, with so many
+// values in sight.
 enum Step {
     Absent,
     Here(usize),

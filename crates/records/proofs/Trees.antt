@@ -13,7 +13,8 @@ use Rattle.csl.specs.Bytes.{byte, part, isRecord, kindNumber, recordEnd}
 use Rattle.csl.specs.Syntax.{Expr, badExpr, Clause, obligation, choice, if, join, badClause, Head}
 use Rattle.csl.specs.Decode.{ExprKind, numberKind, notKind, binaryKind, noExpr, exprKind, exprBody, exprHead, expr}
 use Rattle.csl.specs.Decode.{ClauseKind, fulfilledKind, obligationKind, choiceKind, ifKind, joinKind, instanceKind}
-use Rattle.csl.specs.Decode.{noClause, joinOf, clauseKind, waitAt, clauseBody, clauseHead, clause, whole}
+use Rattle.csl.specs.Decode.{noClause, clauseKind, waitAt, clauseBody, clauseHead, clause, whole}
+use Rattle.laws.specs.Joins.{joinOf}
 use Rattle.laws.proofs.Bools.{by-test}
 use Rattle.records.specs.Index.{firstClause}
 use Rattle.records.specs.Kinds.{leafKind, arithmeticOf, opOf}

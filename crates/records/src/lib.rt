@@ -260,7 +260,7 @@ fn records_ok(agreement: &[u8], from: usize, n: usize, kind: usize) -> bool
     true
 }
 
-// Stores where each of the n records from `from` begins, in the cells from `base`, and gives where the last of them ends.
+// Stores where each of the n records from `from` begins, in the cells from `base`, and gives where the last one ends.
 fn place_records(
     agreement: &[u8],
     places: &mut [usize],

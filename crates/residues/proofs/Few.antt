@@ -14,7 +14,7 @@ use Rattle.csl.specs.Lists.{at}
 use Rattle.csl.specs.Parties.{bitsOf}
 use Rattle.csl.specs.Syntax.{Join, and, or, Wait, Clause, fulfilled, obligation, choice, if, join, instance}
 use Rattle.csl.specs.Syntax.{badClause, Template}
-use Rattle.csl.specs.Decode.{joinOf}
+use Rattle.laws.specs.Joins.{joinOf}
 use Rattle.cells.specs.Evaluate.{evalCells, isTrue}
 use Rattle.cells.specs.Reduce.{Reduced, done, breach, running, earlier, later, joined, joinBoth, joinEither}
 use Rattle.cells.specs.Reduce.{blameBits, Mode, activating, forecasting, following, Fate, waits, late, taken, fate}

@@ -18,7 +18,7 @@ use Rattle.laws.proofs.Cells.{length-join}
 use Rattle.arith.proofs.Ints.{seen, read, read! }
 use Rattle.arith.proofs.Lists.{part-put, tail-put}
 use Rattle.csl.specs.Syntax.{Join, and, or}
-use Rattle.csl.specs.Decode.{joinOf}
+use Rattle.laws.specs.Joins.{joinOf}
 use Rattle.csl.specs.Table.{padded, joinNumber, joinCells}
 use Rattle.cells.specs.Reduce.{unitOf}
 use Rattle.cells.specs.Reduce as cells

@@ -5,7 +5,7 @@ ghost use Prim.Native.Nat.{_+_, _≤_, _<_};
 ghost use lib.IntN.{pos};
 ghost use lib.ListN.{length, getD, drop};
 ghost use Rattle.csl.specs.Syntax.{and, or};
-ghost use Rattle.csl.specs.Decode.{joinOf};
+ghost use Rattle.laws.specs.Joins.{joinOf};
 ghost use Rattle.csl.specs.Table.{padded};
 ghost use Rattle.cells.specs.Reduce.{unitOf, running, earlier, later};
 ghost use Rattle.residues.specs.Reduces.{Is, farthest, roomLeft, Counted, JoinIs, BreachIs, unitsOf};

@@ -42,7 +42,16 @@ runAt t o = record { lastTime = t; outcome = o }
 abbrev pub stepped : ℕ → Run → Stepped
 stepped n r = record { number = n; run = r }
 
--- ---- a reading fits or not
+-- ---- a reading fits or not: by its time, its type and its bytes
+abbrev pub fitByTime : ℕ → Reading → Fit
+fitByTime now d = elim (ltb (d .time) now) [ true ↦ unfit 10 | false ↦ fit d ]
+
+abbrev pub fitByType : ℕ → Option Reading → Fit
+fitByType now o = elim o [ none ↦ unfit 9 | some d ↦ fitByTime now d ]
+
+abbrev pub fitByBytes : Agreement → ℕ → Option Raw → Fit
+fitByBytes a now o = elim o [ none ↦ unfit 8 | some w ↦ fitByType now (typedReading a w) ]
+
 pub fit-cases : {C : Type 0} (a : Agreement) (now : ℕ) (bytes : List ℕ)
     → ((n : ℕ) → (n ≡ 8) ⊎ (n ≡ 9) → fitting a bytes ≡ none → fitOf a now bytes ≡ unfit n → C)
     → ((d : Reading) → fitting a bytes ≡ some d → d .time < now → fitOf a now bytes ≡ unfit 10 → C)
@@ -51,31 +60,25 @@ pub fit-cases : {C : Type 0} (a : Agreement) (now : ℕ) (bytes : List ℕ)
 unfolding fitting fitOf _>>=_
 fit-cases {C = C} a now bytes k₁ k₂ k₃ = raw (rawReading bytes) refl
   where
-    late : Reading → Fit
-    late d = elim (ltb (d .time) now) [ true ↦ unfit 10 | false ↦ fit d ]
-
-    typ : Option Reading → Fit
-    typ o = elim o [ none ↦ unfit 9 | some d ↦ late d ]
-
     timed : (w : Raw) (d : Reading) → rawReading bytes ≡ some w → typedReading a w ≡ some d → (b : Bool)
         → ltb (d .time) now ≡ b → C
     timed w d e f true g = k₂ d (some-bind (rawReading bytes) (typedReading a) w e ∙ f)
         (ltb→lt (d .time) now (subst T (sym g) tt))
-        (ap (λ o. elim o [ none ↦ unfit 8 | some r ↦ typ (typedReading a r) ]) e ∙ ap typ f
+        (ap (fitByBytes a now) e ∙ ap (fitByType now) f
         ∙ ap (λ b. elim b [ true ↦ unfit 10 | false ↦ fit d ]) g)
     timed w d e f false g = k₃ w d e f (some-bind (rawReading bytes) (typedReading a) w e ∙ f)
         (nltb→le (d .time) now (subst (λ b. T (not b)) (sym g) tt))
-        (ap (λ o. elim o [ none ↦ unfit 8 | some r ↦ typ (typedReading a r) ]) e ∙ ap typ f
+        (ap (fitByBytes a now) e ∙ ap (fitByType now) f
         ∙ ap (λ b. elim b [ true ↦ unfit 10 | false ↦ fit d ]) g)
 
     typedAt : (w : Raw) → rawReading bytes ≡ some w → (o : Option Reading) → typedReading a w ≡ o → C
     typedAt w e none f = k₁ 9 (inr refl) (some-bind (rawReading bytes) (typedReading a) w e ∙ f)
-        (ap (λ o. elim o [ none ↦ unfit 8 | some r ↦ typ (typedReading a r) ]) e ∙ ap typ f)
+        (ap (fitByBytes a now) e ∙ ap (fitByType now) f)
     typedAt w e (some d) f = timed w d e f (ltb (d .time) now) refl
 
     raw : (o : Option Raw) → rawReading bytes ≡ o → C
     raw none e = k₁ 8 (inl refl) (ap (λ o. o >>= typedReading a) e)
-        (ap (λ o. elim o [ none ↦ unfit 8 | some r ↦ typ (typedReading a r) ]) e)
+        (ap (fitByBytes a now) e)
     raw (some w) e = typedAt w e (typedReading a w) refl
 
 pub tooMany-is : (o : Outcome) → tooMany o ≡ ltb 128 (needed o)

@@ -19,7 +19,8 @@ use lib.Seq.{take-add, drop-append-le, take-at, drop-drop, drop-at, length-take-
 use Rattle.csl.specs.Lists.{_>>=_, need, all, at, split}
 use Rattle.csl.specs.Syntax.{Join, and, or, Agreement}
 use Rattle.csl.specs.Parties.{member, memberCount, bitsOf}
-use Rattle.csl.specs.Decode.{joinOf, agreementOf}
+use Rattle.csl.specs.Decode.{agreementOf}
+use Rattle.laws.specs.Joins.{joinOf}
 use Rattle.csl.specs.Typing.{joinOk}
 use Rattle.csl.specs.Places.{clauseAt}
 use Rattle.csl.specs.Values.{asNat, valuesOf}

@@ -9,7 +9,8 @@ use lib.IntN.{ℤ, pos}
 use lib.ListN.{length, getD, take, drop}
 use Rattle.csl.specs.Lists.{all}
 use Rattle.csl.specs.Syntax.{Join, Agreement}
-use Rattle.csl.specs.Decode.{agreementOf, joinOf}
+use Rattle.csl.specs.Decode.{agreementOf}
+use Rattle.laws.specs.Joins.{joinOf}
 use Rattle.csl.specs.Outcomes.{Sort, Residue, unit, both, units}
 use Rattle.csl.specs.Table.{isZero, waitingUnit, waiting, joining, unitSort, residueParties, sortNumber}
 use Rattle.csl.specs.Check.{mainsOf}

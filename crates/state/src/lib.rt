@@ -6,7 +6,7 @@ ghost use Prim.Native.Nat.{ℕ, _≤_, _<_};
 ghost use lib.ListN.{length};
 ghost use Rattle.csl.specs.Parties.{member, bitsOf};
 ghost use Rattle.csl.specs.Typing.{joinOk};
-ghost use Rattle.csl.specs.Decode.{joinOf};
+ghost use Rattle.laws.specs.Joins.{joinOf};
 ghost use Rattle.csl.specs.Check.{mainsOf};
 ghost use Rattle.units.specs.Units.{Prepared};
 ghost use Rattle.state.specs.Tree.{UnitFirst, TreeRoom, FirstIs, JoinedIs, WalkIs};
@@ -266,8 +266,8 @@ fn running(
     }
 }
 
-// The state that a table shows. The sights get two numbers for each unit: its party parameters and its values in sight, or for a join
-// the units of its left side and 0.
+// The state that a table shows. The sights get two numbers for each unit: its party parameters and its values in sight,
+// or for a join the units of its left side and 0.
 pub fn state_of(
     agreement: &[u8],
     places: &[usize],

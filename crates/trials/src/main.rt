@@ -1,8 +1,8 @@
-// Runs the calls on standard input through the four entries, and writes a line for each: its number, and what came back.
+// Runs the calls on standard input through the four entries, and writes a line for each: its number and what came back.
 // Standard input is a list of steps, a byte each and what follows it (integers little-endian):
 // 1, an agreement, and 2, a reading: length (2 bytes) and bytes; 3, a table of zeros: length (2 bytes);
-// 4, a cell of it: place (2 bytes) and value (8 bytes); 5 to 8, a call of check, start, reading or forecast on what was given last;
-// 9, a name: length (2 bytes) and bytes. It takes the reading's place until the next.
+// 4, a cell of it: place (2 bytes) and value (8 bytes); 5 to 8, a call of check, start, reading or forecast on what was
+// given last; 9, a name: length (2 bytes) and bytes. It takes the reading's place until the next.
 use monitor::Checked;
 use monitor::Foretold;
 use monitor::Started;

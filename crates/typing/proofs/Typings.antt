@@ -16,7 +16,8 @@ use Rattle.csl.specs.Bytes.{byte, part, isRecord, kindNumber, recordEnd}
 use Rattle.csl.specs.Parties.{memberCount}
 use Rattle.csl.specs.Syntax.{Ty, truth, Expr, Wait, Clause, fulfilled, obligation, choice, if, join, badClause, Head}
 use Rattle.csl.specs.Decode.{expr, tysOf, ClauseKind, fulfilledKind, obligationKind, choiceKind, ifKind, joinKind}
-use Rattle.csl.specs.Decode.{instanceKind, noClause, joinOf, clauseKind, waitEnd, waitAt, instanceOf, clauseBody}
+use Rattle.csl.specs.Decode.{instanceKind, noClause, clauseKind, waitEnd, waitAt, instanceOf, clauseBody}
+use Rattle.laws.specs.Joins.{joinOf}
 use Rattle.csl.specs.Decode.{clauseHead, clause, headsOf, agreementOf}
 use Rattle.csl.specs.Typing.{Names, namesOf, blameOk, hasType, joinOk, thenSight, typeWait, typeClause}
 use Rattle.laws.proofs.Options.{some-bind}

@@ -18,7 +18,8 @@ use Rattle.csl.specs.Lists.{all, at}
 use Rattle.csl.specs.Bytes.{byte, le16, part, isRecord, kindNumber, recordEnd}
 use Rattle.csl.specs.Parties.{member, members, bitsOf}
 use Rattle.csl.specs.Syntax.{Ty, truth, Clause, fulfilled, obligation, choice, if, join, instance, badClause, Head}
-use Rattle.csl.specs.Decode.{expr, wholeExpr, wholeWait, whole, waitAt, joinOf, recordsEnd, arguments, instanceOf}
+use Rattle.csl.specs.Decode.{expr, wholeExpr, wholeWait, whole, waitAt, recordsEnd, arguments, instanceOf}
+use Rattle.laws.specs.Joins.{joinOf}
 use Rattle.csl.specs.Decode.{templateHead, clauseKind, clauseBody, clause, headsOf}
 use Rattle.csl.specs.Typing.{Names, blameOk, hasType, haveTypes, joinOk, thenSight, typeWait, typeClause}
 use Rattle.csl.specs.Rules.{blamed}

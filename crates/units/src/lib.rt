@@ -30,8 +30,8 @@ use records::first_clause;
 use records::param_count;
 use records::values::values_ok;
 
-// Behind a unit's sort stand its place and its time, then its party parameters, then its values: of these cells the first
-// parameter, the first value, and how many there are.
+// Behind a unit's sort stand its place and its time, then its party parameters, then its values: of these cells the
+// first parameter, the first value, and how many there are.
 const FIRST_PARAM: usize = cells::FIRST_PARAM - 1;
 
 const FIRST_VALUE: usize = cells::FIRST_VALUE - 1;
@@ -62,7 +62,7 @@ pub fn number_below(z: i64, end: usize) -> usize
     if n < end { n } else { end }
 }
 
-// Every cell is zero: so is what they have of ones together. (No test in the loop, so that many cells are read at once.)
+// Every cell is zero: so is what they have of ones together. (No test in the loop: many cells are read at once.)
 pub fn zeros(cells: &[i64]) -> bool
     ensures { λ r. ⌜ r ≡ all isZero (now (cells .entry)) ⌝ }
 {
@@ -157,7 +157,8 @@ fn clause_parties(agreement: &[u8], places: &[usize], s: &[u8], params: &[usize]
     }
 }
 
-// The cells behind a unit's kind hold n parties, values of the types, and else zeros; the parties go to the front of `own`.
+// The cells behind a unit's kind hold n parties, values of the types, and else zeros; the parties go to the front of
+// `own`.
 fn unit_cells(cells: &[i64], n: usize, types: &[u8], parties: usize, own: &mut [usize]) -> bool
     requires { ⌜ (length (now cells) ≡ 23) × (n ≤ 4) × (length (now types) ≤ 16) × (length (now own) ≡ 4) ⌝ }
     ensures yes { λ r. ⌜ (r ≡ true → CellsShow parties n (tysOf (now (types .entry))) (now (cells .entry)) (take n (now (own .exit)))) ⌝ }

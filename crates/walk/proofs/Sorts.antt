@@ -7,7 +7,7 @@ use lib.IntN.{ℤ, pos, negsuc}
 use lib.Signed.{ltZ, mag}
 use Rattle.arith.proofs.Ints.{seen, read! }
 use Rattle.csl.specs.Numbers.{eqZ}
-use Rattle.csl.specs.Decode.{joinOf}
+use Rattle.laws.specs.Joins.{joinOf}
 use Rattle.cells.specs.Across.{natOf}
 
 below-sort : (z : ℤ) → ltZ z (pos 20) ≡ ltb (natOf z) 20

@@ -9,7 +9,7 @@ use lib.IntN.{ℤ, pos}
 use lib.ListN.{length, getD, take, drop, length-drop}
 use lib.Seq.{drop-drop}
 use Rattle.laws.proofs.Residues.{some-units}
-use Rattle.csl.specs.Decode.{joinOf}
+use Rattle.laws.specs.Joins.{joinOf}
 use Rattle.csl.specs.Outcomes.{Residue, unit, both, units}
 use Rattle.cells.specs.Reduce.{Mode, joined}
 use Rattle.cells.specs.Reduce as cells

@@ -3,7 +3,7 @@ ghost use mathlib.Core.Path.{_≡_};
 ghost use Prim.Native.Nat.{_≤_, _<_};
 ghost use lib.IntN.{pos};
 ghost use lib.ListN.{length, getD, take};
-ghost use Rattle.csl.specs.Decode.{joinOf};
+ghost use Rattle.laws.specs.Joins.{joinOf};
 ghost use Rattle.residues.specs.Reduces.{Is, farthest};
 ghost use Rattle.records.specs.Index.{Indexed};
 ghost use Rattle.waits.specs.Fates.{modeAt};

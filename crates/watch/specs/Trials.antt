@@ -94,7 +94,8 @@ breaches = record {
   input = sample ++ mark 161;
   written = sp (48 ∷ [])
       (sp (49 ∷ 48 ∷ 48 ∷ []) (sp live (sp (49 ∷ 54 ∷ 48 ∷ [])
-      (end (49 ∷ []) (sp (49 ∷ []) (sp (49 ∷ 54 ∷ 49 ∷ []) (sp breach (sp (49 ∷ 54 ∷ 48 ∷ []) (end (49 ∷ []) [])))))))));
+      (end (49 ∷ []) (sp (49 ∷ []) (sp (49 ∷ 54 ∷ 49 ∷ [])
+      (sp breach (sp (49 ∷ 54 ∷ 48 ∷ []) (end (49 ∷ []) [])))))))));
 }
 
 unfoldable pub trials : List Trial

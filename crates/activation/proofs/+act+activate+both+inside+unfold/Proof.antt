@@ -2,9 +2,10 @@
 -- one around it did; what its answer says of a part is what the rules say of the whole.
 use Rattle.activation.proofs.Recursion.{ready-within, lighter-within, fits-within, ready-then, lighter-then}
 use Rattle.activation.proofs.Recursion.{fits-then, ready-body, lighter-body, is-as, is-ends, is-breaks, laid}
-use Rattle.activation.proofs.Recursion.{laid-length, fits-body, few-more}
+use Rattle.activation.proofs.Recursion.{laid-length, fits-body}
 use Rattle.activation.proofs.Walks.{then-is}
 use Rattle.residues.proofs.Reduces.{is-counted}
+use native.Mathlib.Nat.{add-sub-cancel-left}
 use native.Mathlib.Omega.{arith}
 use mathlib.Core.Path.{sym, _∙_}
 use lib.ListN.{length, take, drop, length-take}
@@ -696,7 +697,7 @@ unfold-returns t c =
     let h = at-body-site .before .body-span .ensures in
     rw (
       at-body-site .body-site .ensures,
-      few-more 16 (at-param-count .param-count .result),
+      add-sub-cancel-left 16 (at-param-count .param-count .result),
       h .begins,
       h .ends,
       at-param-count .param-count .ensures .0,

@@ -2,7 +2,7 @@
 use borrow.Author.Needs.{needs}
 use native.Mathlib.Omega.{arith}
 use Rattle.monitor.proofs.Begins.{short}
-use Rattle.monitor.proofs.Foretells.{ahead-tree, ahead-none, ahead-time, ahead-breach, ahead-running}
+use Rattle.monitor.proofs.Foretells.{ahead-tree, ahead-none, ahead-time, ahead-breach}
 use Rattle.monitor.proofs.breach_ahead.Statement.{statement}
 use Rattle.monitor.proofs.breach_ahead.Tie as tie
 
@@ -14,9 +14,9 @@ across-requires c κs =
 
 returns : tie.Need-returns
 returns c =
-    let at-across = c .before .before .before in
+    let at-across = c .before .before in
     let at-start = at-across .before .before .before .before .before .before .before in
-    ahead-none (at-start .pre) _ _ (at-across .across .ensures) (c .enum-told .given .1)
+    ahead-none (at-start .pre) _ _ (at-across .across .ensures) (c .match .keys2)
 
 minutes-requires : tie.Need-minutes-requires
 minutes-requires c κs =
@@ -31,14 +31,7 @@ returns-2 c =
     ahead-breach (at-start .pre) _ _ (at-across .across .ensures) (c .before .known-told .given .0 .1)
     (c .before .before .due .given .1) (c .minutes .ensures)
 
-returns-3 : tie.Need-returns-3
-returns-3 c =
-    let at-across = c .before .before .before in
-    let at-start = at-across .before .before .before .before .before .before .before in
-    ahead-running (at-start .pre) _ _ (at-across .across .ensures) (c .enum-told2 .given .1)
-
 pub breach-ahead-spec : {M : Type 1} → statement M
 breach-ahead-spec = tie.close (tie.spec
     (λ c. search needs) (λ c. search needs) (λ c. search needs) (λ c. search needs) (λ c. search needs)
-    (λ c. search needs) across-requires (λ c. search needs) (λ c. search needs) minutes-requires
-    (λ c. search needs) returns returns-2 returns-3)
+    (λ c. search needs) across-requires (λ c. search needs) returns minutes-requires returns-2)

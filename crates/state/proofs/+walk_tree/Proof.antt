@@ -7,7 +7,7 @@ use Prim.Native.Nat.{ℕ, _+_, _-_, _*_, _≤_, _<_}
 use native.Mathlib.Omega.{arith}
 use lib.ListN.{length, drop}
 use Rattle.arith.proofs.Lists.{length-part}
-use Rattle.csl.specs.Decode.{joinOf}
+use Rattle.laws.specs.Joins.{joinOf}
 use Rattle.state.specs.Tree.{JoinsFirst, TreeAs}
 use Rattle.state.proofs.Trees.{no-units, no-first, is-waits, is-joins, left-damaged, right-damaged, tree-of}
 use Rattle.state.proofs.Trees.{tree-bits, lent, lent-length, lent-room, sides-read}

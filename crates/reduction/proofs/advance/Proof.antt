@@ -1,9 +1,9 @@
 -- What has room in 16 units is written, over 128 are 11, and what lies between is tried anew with more room.
 use borrow.Author.Needs.{needs}
 use native.Mathlib.Omega.{arith}
-use Rattle.monitor.proofs.Advances.{tried-over, due-again, advances-again}
-use Rattle.monitor.proofs.advance.Statement.{statement}
-use Rattle.monitor.proofs.advance.Tie as tie
+use Rattle.reduction.proofs.Advances.{tried-over, due-again, advances-again}
+use Rattle.reduction.proofs.advance.Statement.{statement}
+use Rattle.reduction.proofs.advance.Tie as tie
 
 returns-2 : tie.Need-returns-2
 returns-2 c = tried-over (c .before .before .before .reduce-within .ensures) (omega arith) (c .if2 .taken)

@@ -1,9 +1,9 @@
 -- What the step comes to is settled where its units have room in `out`, and else nothing is written.
 use borrow.Author.Needs.{needs}
 use native.Mathlib.Omega.{arith}
-use Rattle.monitor.proofs.Advances.{time-cell, units-counted, reduced-few, tried-none, tried-room}
-use Rattle.monitor.proofs.reduce_within.Statement.{statement}
-use Rattle.monitor.proofs.reduce_within.Tie as tie
+use Rattle.reduction.proofs.Advances.{time-cell, units-counted, reduced-few, tried-none, tried-room}
+use Rattle.reduction.proofs.reduce_within.Statement.{statement}
+use Rattle.reduction.proofs.reduce_within.Tie as tie
 
 mul-if1 : tie.Need-mul-if1
 mul-if1 c =

@@ -1,9 +1,9 @@
 -- At the start the main clause is activated, else the table's units go through the rules.
 use borrow.Author.Needs.{needs}
 use native.Mathlib.Omega.{arith}
-use Rattle.monitor.proofs.Advances.{units-due, reduced-main, reduced-units}
-use Rattle.monitor.proofs.reduce.Statement.{statement}
-use Rattle.monitor.proofs.reduce.Tie as tie
+use Rattle.reduction.proofs.Advances.{units-due, reduced-main, reduced-units}
+use Rattle.reduction.proofs.reduce.Statement.{statement}
+use Rattle.reduction.proofs.reduce.Tie as tie
 
 returns : tie.Need-returns
 returns c =

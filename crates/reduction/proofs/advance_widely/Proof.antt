@@ -1,9 +1,9 @@
 -- A room for 128 units has all that a table can have.
 use borrow.Author.Needs.{needs}
 use native.Mathlib.Omega.{arith}
-use Rattle.monitor.proofs.Advances.{tried-over}
-use Rattle.monitor.proofs.advance_widely.Statement.{statement}
-use Rattle.monitor.proofs.advance_widely.Tie as tie
+use Rattle.reduction.proofs.Advances.{tried-over}
+use Rattle.reduction.proofs.advance_widely.Statement.{statement}
+use Rattle.reduction.proofs.advance_widely.Tie as tie
 
 returns : tie.Need-returns
 returns c = tried-over (c .before .before .before .reduce-within .ensures) (omega arith) (c .if1 .taken)

@@ -31,7 +31,7 @@ use Rattle.residues.specs.declared.Reduced.the-variants.{Done, Breach, Running}
 use Rattle.waits.proofs.Step.{the-type}
 use Rattle.residues.proofs.Few.{reduce-few, outcome-few, answer-few}
 use Rattle.walk.proofs.Trees.{tree-only}
-use Rattle.monitor.specs.Steps.{mainReduced, UnitsDue, DueBy, Due, reducedBy, reduced, Advances, Tried}
+use Rattle.reduction.specs.Steps.{mainReduced, UnitsDue, DueBy, Due, reducedBy, reduced, Advances, Tried}
 
 -- a time's cell
 pub time-cell : {t : ℕ} → t < 4_294_967_296 → (toZ w64 t ≡ pos (natOf (toZ w64 t))) × (natOf (toZ w64 t) ≡ t)

@@ -1,8 +1,8 @@
 -- The main clause stands where the index says, and nothing is in sight of it.
 use borrow.Author.Needs.{needs}
-use Rattle.monitor.proofs.Begins.{main-ready, main-fits, main-is}
-use Rattle.monitor.proofs.activate_main.Statement.{statement}
-use Rattle.monitor.proofs.activate_main.Tie as tie
+use Rattle.reduction.proofs.Main.{main-ready, main-fits, main-is}
+use Rattle.reduction.proofs.activate_main.Statement.{statement}
+use Rattle.reduction.proofs.activate_main.Tie as tie
 
 activate-requires : tie.Need-activate-requires
 activate-requires c κs =

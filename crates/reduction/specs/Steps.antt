@@ -1,0 +1,73 @@
+-- A step by the rules on cells: what it asks, and what it makes of the main clause or of a table's units.
+use mathlib.Core.Path.{_≡_}
+use mathlib.Core.Bool.{Bool, true, false}
+use mathlib.Core.List.{List, [], _∷_}
+use Prim.Native.Nat.{ℕ, _*_, _≤_, _<_}
+use lib.IntN.{ℤ}
+use lib.ListN.{length, drop}
+use Rattle.csl.specs.Decode.{agreementOf, mainOf}
+use Rattle.csl.specs.Table.{tableLength}
+use Rattle.csl.specs.Entries.{Answer}
+use Rattle.records.specs.Index.{Indexed}
+use Rattle.cells.specs.Reduce as cells
+use Rattle.cells.specs.Across.{across}
+use Rattle.bridge.proofs.Entries.{keptCells}
+use Rattle.waits.specs.Fates.{modeAt}
+use Rattle.walk.specs.Tree.{Tree, treeReduced}
+use Rattle.waits.specs.declared.Event.{Event}
+use Rattle.waits.specs.declared.Step.{Step}
+use Rattle.waits.specs.declared.Step.the-variants.{Activate, Forecast, Follow}
+
+-- the cells of as many units as a table has
+abbrev pub roomLength : ℕ
+roomLength = 3072
+
+-- "the main clause is activated at the start time"
+unfoldable pub mainReduced : List ℕ → cells.Reduced
+mainReduced s = cells.reduce cells.activating (agreementOf s .templates) (mainOf s) [] [] (agreementOf s .start)
+
+-- n units of a table with what is in sight at them, and that an event makes one outcome of them
+pub record UnitsDue (s sights : List ℕ) (us : List ℤ) (n : ℕ) (e : Event) (rs : List ℤ) : Type 0 where
+  pub tree : Tree (length s) sights (drop 8 us) n
+  pub outcome : cells.Reduced
+  pub one : across (modeAt e rs) s n sights (drop 8 us) ≡ outcome ∷ []
+
+abbrev pub DueBy : Step → Type 0 → Type 0
+DueBy Activate units = Unit {0}
+DueBy Forecast units = units
+DueBy Follow units = units
+
+-- what is asked for an event: at the start nothing but the agreement, else the units
+pub record Due (s places sights : List ℕ) (us : List ℤ) (n : ℕ) (e : Event) (rs : List ℤ) : Type 0 where
+  pub indexed : Indexed places s
+  pub short : length s ≤ 16_384
+  pub isTable : length us ≡ tableLength
+  pub few : length rs ≤ 4
+  pub soon : e .time < 4_294_967_296
+  pub units : DueBy (e .step) (UnitsDue s sights us n e rs)
+
+abbrev pub reducedBy : Step → cells.Reduced → cells.Reduced → cells.Reduced
+reducedBy Activate main units = main
+reducedBy Forecast main units = units
+reducedBy Follow main units = units
+
+-- what an event makes of the main clause, or of n units
+unfoldable pub reduced : List ℕ → List ℕ → List ℤ → ℕ → Event → List ℤ → cells.Reduced
+reduced s sights us n e rs = reducedBy (e .step) (mainReduced s) (treeReduced (modeAt e rs) s n sights (drop 8 us))
+
+-- "over 128 units it is 11 and nothing changes, otherwise 0"
+abbrev pub advanced : Bool → List ℤ → Answer
+advanced true after = record { number = 0; table = after }
+advanced false after = record { number = 11; table = after }
+
+pub record Advances (s sights : List ℕ) (us : List ℤ) (n : ℕ) (e : Event) (rs after : List ℤ) (fits : Bool)
+    : Type 0 where
+  pub is : advanced fits after ≡ keptCells (e .time) us (reduced s sights us n e rs)
+
+-- what comes of it needs so many units: where `room` has cells for them, the table is written, else not; over 128 are
+-- too many for a table
+pub record Tried (s sights : List ℕ) (us : List ℤ) (n : ℕ) (e : Event) (rs room after : List ℤ) (units : ℕ)
+    : Type 0 where
+  pub fits : 24 * units ≤ length room → Advances s sights us n e rs after true
+  pub kept : length room < 24 * units → after ≡ us
+  pub over : 128 < units → Advances s sights us n e rs us false
