@@ -45,9 +45,9 @@ pub ruleset sizes = (arith, leb→le, within-seen, held-seen, fits-seen, seen-go
 pub held-held : (z : ℤ) → Held (held z)
 unfolding held up dn
 held-held z =
-    by (λ t. Held (cond t top (cond (ltZ z bottom) bottom z))) (ltZ top z) (λ e. record { within = lit≤ tt })
-    (λ e. by (λ t. Held (cond t bottom z)) (ltZ z bottom) (λ f. record { within = lit≤ tt })
-    (λ f. record { within = omega (ints, parts z, lt-false top z e, lt-false z bottom f) }))
+    by (λ t. Held (cond t top (cond (ltZ z bottom) bottom z))) (ltZ top z) (λ e. record { bounded = lit≤ tt })
+    (λ e. by (λ t. Held (cond t bottom z)) (ltZ z bottom) (λ f. record { bounded = lit≤ tt })
+    (λ f. record { bounded = omega (ints, parts z, lt-false top z e, lt-false z bottom f) }))
 
 pub held-is : (z : ℤ) {r : ℤ} → r ≡ held z → (r ≡ held z) × Held r
 held-is z e = (e, rw e (held-held z))
@@ -94,7 +94,7 @@ quot-size a b = omega (arith, abs-quot a b, div-le-self (natAbs a) (natAbs b))
 bound : (o : Arithmetic) {a b : ℤ} → Held a × Held b → natAbs (exactly o a b) ≤ 1_000_000_000_000_000_000
 bound plus {a} {b} h = omega (arith, abs-add a b)
 bound minus {a} {b} h = omega (arith, abs-minus a b)
-bound times {a} {b} h = rw abs-mul (mul-le-mul (h .0 .within) (h .1 .within))
+bound times {a} {b} h = rw abs-mul (mul-le-mul (h .0 .bounded) (h .1 .bounded))
 bound quot {a} {b} h = omega (arith, quot-size a b)
 
 quotient-is : (a b : ℤ) → quotZ a b ≡ quotient a b
@@ -115,7 +115,7 @@ unfolding calculate
 calculate-is plus h = refl
 calculate-is minus h = refl
 calculate-is times h = refl
-calculate-is quot {a} {b} h = sym (quotient-is a b) ∙ held-same (record { within = omega (arith, quot-size a b) })
+calculate-is quot {a} {b} h = sym (quotient-is a b) ∙ held-same (record { bounded = omega (arith, quot-size a b) })
 
 pub calculate-held : (o : Arithmetic) {a b : ℤ} → Held a → Held b → Held (calculate o a b)
 calculate-held o {a} {b} h k = rw (calculate-is o (h, k)) (held-held (exactly o a b))

@@ -70,8 +70,8 @@ unfoldable pub obeys : String → List ℕ → List (List ℕ) → List Seen →
 obeys n b rs es = record { name = n; shown = runSeen (checked b) rs; expected = es }
 
 -- a number, the last reading time, the outcome and what would become of it
-unfoldable pub after : ℕ → ℕ → Outcome → Outcome → Seen
-after n now o f = steps (record { number = n; run = record { lastTime = now; outcome = o } }) f
+unfoldable pub leads : ℕ → ℕ → Outcome → Outcome → Seen
+leads n now o f = steps (record { number = n; run = record { lastTime = now; outcome = o } }) f
 
 unfoldable pub waits : Sort → ℕ → ℕ → List ℕ → List Val → Outcome
 waits s p a qs vs = running (unit s p a (record { params = qs; values = vs }))
@@ -197,7 +197,7 @@ equations =
 
 unfoldable pub taken : String → List ℕ → Trial
 taken n e = obeys n (main (asking e)) (reading 110 (pos 1) ∷ [])
-    (after 0 100 (owed 17 100) (by 160 0) ∷ after 0 110 done done ∷ [])
+    (leads 0 100 (owed 17 100) (by 160 0) ∷ leads 0 110 done done ∷ [])
 
 -- three templates: the third names the second, which names the first with its parameters crossed
 unfoldable pub chain : List ℕ
@@ -220,52 +220,52 @@ runs =
     ∷ obeys "a choice waits, is taken, and its `then` does not see the reading again"
     (main (may (op 42 (lit (pos 5)) (var 0)) (pos 0) (pos 50) (simply 1 (pos 20)) nothing))
     (reading 110 (pos 5) ∷ reading 120 (pos 7) ∷ []) (
-    after 0 100 (chosen 17 100) done
-    ∷ after 0 110 (chosen 17 100) done
-    ∷ after 0 120 (waits anObligation 55 120 [] (nums (7 ∷ 30 ∷ []))) (by 140 1) ∷ [])
+    leads 0 100 (chosen 17 100) done
+    ∷ leads 0 110 (chosen 17 100) done
+    ∷ leads 0 120 (waits anObligation 55 120 [] (nums (7 ∷ 30 ∷ []))) (by 140 1) ∷ [])
     ∷ obeys "an if by a value, its first side"
     (main (next (ifs (op 42 (var 0) (lit (pos 5))) (simply 0 (pos 60)) (simply 1 (pos 50)))))
     (reading 110 (pos 3) ∷ []) (
-    after 0 100 (owed 17 100) (by 160 0) ∷ after 0 110 (waits anObligation 65 110 [] (nums (3 ∷ 50 ∷ []))) (by 170 0)
+    leads 0 100 (owed 17 100) (by 160 0) ∷ leads 0 110 (waits anObligation 65 110 [] (nums (3 ∷ 50 ∷ []))) (by 170 0)
     ∷ [])
     ∷ obeys "an if by a value, its second side"
     (main (next (ifs (op 42 (var 0) (lit (pos 5))) (simply 0 (pos 60)) (simply 1 (pos 50)))))
     (reading 110 (pos 5) ∷ []) (
-    after 0 100 (owed 17 100) (by 160 0) ∷ after 0 110 (waits anObligation 96 110 [] (nums (5 ∷ 50 ∷ []))) (by 160 1)
+    leads 0 100 (owed 17 100) (by 160 0) ∷ leads 0 110 (waits anObligation 96 110 [] (nums (5 ∷ 50 ∷ []))) (by 160 1)
     ∷ [])
     ∷ obeys "only the wanted reading type, only from `first` on"
     (agreementWith 2 (readingTypeOf [] ∷ aNumber ∷ []) [] (owesTyped 0 2 yes′ (lit (pos 30)) (lit (pos 60)) nothing))
     (readingWith 140 1 [] ∷ reading 150 (pos 1) ∷ readingWith 150 2 (pos 1 ∷ []) ∷ []) (
-    after 0 100 (owed 22 100) (by 190 0) ∷ after 0 140 (owed 22 100) (by 190 0) ∷ after 9 140 (owed 22 100) (by 190 0)
-    ∷ after 0 150 done done ∷ [])
+    leads 0 100 (owed 22 100) (by 190 0) ∷ leads 0 140 (owed 22 100) (by 190 0) ∷ leads 9 140 (owed 22 100) (by 190 0)
+    ∷ leads 0 150 done done ∷ [])
     ∷ obeys "before `first` and at it" (main (owes 0 yes′ (pos 30) (pos 20) nothing))
     (reading 129 (pos 1) ∷ reading 130 (pos 1) ∷ []) (
-    after 0 100 (owed 17 100) (by 150 0) ∷ after 0 129 (owed 17 100) (by 150 0) ∷ after 0 130 done done ∷ [])
+    leads 0 100 (owed 17 100) (by 150 0) ∷ leads 0 129 (owed 17 100) (by 150 0) ∷ leads 0 130 done done ∷ [])
     ∷ obeys "three templates: values, parameters, and a `then` that sees both" chain
     (reading 110 (pos 5) ∷ reading 115 (pos 8) ∷ reading 120 (pos 8) ∷ mark 134 ∷ []) (
-    after 0 100 (owed 135 100) (by 160 0)
-    ∷ after 0 110 (waits anObligation 27 110 (0 ∷ 1 ∷ []) (nums (6 ∷ 9 ∷ []))) (by 125 1)
-    ∷ after 0 115 (waits anObligation 27 110 (0 ∷ 1 ∷ []) (nums (6 ∷ 9 ∷ []))) (by 125 1)
-    ∷ after 0 120 (waits anObligation 48 120 (0 ∷ 1 ∷ []) (nums (6 ∷ 9 ∷ 8 ∷ 5 ∷ []))) (by 133 0)
-    ∷ after 0 134 (by 133 0) (by 133 0) ∷ [])
+    leads 0 100 (owed 135 100) (by 160 0)
+    ∷ leads 0 110 (waits anObligation 27 110 (0 ∷ 1 ∷ []) (nums (6 ∷ 9 ∷ []))) (by 125 1)
+    ∷ leads 0 115 (waits anObligation 27 110 (0 ∷ 1 ∷ []) (nums (6 ∷ 9 ∷ []))) (by 125 1)
+    ∷ leads 0 120 (waits anObligation 48 120 (0 ∷ 1 ∷ []) (nums (6 ∷ 9 ∷ 8 ∷ 5 ∷ []))) (by 133 0)
+    ∷ leads 0 134 (by 133 0) (by 133 0) ∷ [])
     ∷ obeys "the second template's clause waits"
     (agreement (template 0 nothing ∷ template 1 (simply 0 (pos 60)) ∷ []) (call 1)) (mark 161 ∷ [])
-    (after 0 100 (owed 37 100) (by 160 0) ∷ after 0 161 (by 160 0) (by 160 0) ∷ [])
+    (leads 0 100 (owed 37 100) (by 160 0) ∷ leads 0 161 (by 160 0) (by 160 0) ∷ [])
     ∷ obeys "an else sees the values and the parameters"
     (agreement (templateWith (1 ∷ 1 ∷ []) 2 0
     (mayTyped 1 yes′ (lit (pos 0)) (var 0) nothing (owesTyped 129 1 yes′ (lit (pos 0)) (var 1) nothing)) ∷ [])
     (inst 0 (lit (pos 30) ∷ lit (pos 20) ∷ []) (0 ∷ 1 ∷ []))) (mark 131 ∷ []) (
-    after 0 100 (waits aChoice 27 100 (0 ∷ 1 ∷ []) (nums (30 ∷ 20 ∷ []))) (by 150 1)
-    ∷ after 0 131 (waits anObligation 54 130 (0 ∷ 1 ∷ []) (nums (30 ∷ 20 ∷ []))) (by 150 1) ∷ [])
+    leads 0 100 (waits aChoice 27 100 (0 ∷ 1 ∷ []) (nums (30 ∷ 20 ∷ []))) (by 150 1)
+    ∷ leads 0 131 (waits anObligation 54 130 (0 ∷ 1 ∷ []) (nums (30 ∷ 20 ∷ []))) (by 150 1) ∷ [])
     ∷ obeys "a window that ended below 0" (main (simply 0 (negsuc 199))) (mark 100 ∷ [])
-    (after 0 100 (owed 17 100) (by 100 0) ∷ after 0 100 (by 100 0) (by 100 0) ∷ [])
+    (leads 0 100 (owed 17 100) (by 100 0) ∷ leads 0 100 (by 100 0) (by 100 0) ∷ [])
     ∷ obeys "a choice's window that ended below 0" (main (may yes′ (pos 0) (negsuc 199) nothing (simply 1 (pos 20))))
-    (mark 100 ∷ []) (after 0 100 (chosen 17 100) (by 120 1) ∷ after 0 100 (owed 47 100) (by 120 1) ∷ [])
+    (mark 100 ∷ []) (leads 0 100 (chosen 17 100) (by 120 1) ∷ leads 0 100 (owed 47 100) (by 120 1) ∷ [])
     ∷ obeys "a window beyond a number's end" (main (owes 0 yes′ most most nothing)) []
-    (after 0 100 (owed 17 100) (by 2_000_000_100 0) ∷ [])
+    (leads 0 100 (owed 17 100) (by 2_000_000_100 0) ∷ [])
     ∷ obeys "a start of four bytes" (recordOf 1 (le4 16_909_060 ++ (2 ∷ 1 ∷ 0 ∷ (aNumber ++ simply 0 (pos 60)))))
     (reading 16_909_061 (pos 1) ∷ []) (
-    after 0 16_909_060 (owed 17 16_909_060) (by 16_909_120 0) ∷ after 0 16_909_061 done done ∷ [])
+    leads 0 16_909_060 (owed 17 16_909_060) (by 16_909_120 0) ∷ leads 0 16_909_061 done done ∷ [])
     ∷ []
 
 -- ---- joining
@@ -304,9 +304,9 @@ joins =
     (becoming (breach 5 (0 ∷ 1 ∷ []) ∷ stuck ∷ stuck ∷ by 5 1 ∷ []))
     ∷ obeys "a tie of an `or`, seen with its party" (main (any′ (simply 1 (pos 60)) (simply 1 (pos 60))))
     (mark 161 ∷ []) (
-    after 0 100 (running (both or (unit anObligation 21 100 (record { params = []; values = [] }))
+    leads 0 100 (running (both or (unit anObligation 21 100 (record { params = []; values = [] }))
     (unit anObligation 52 100 (record { params = []; values = [] })))) (by 160 1)
-    ∷ after 0 161 (by 160 1) (by 160 1) ∷ [])
+    ∷ leads 0 161 (by 160 1) (by 160 1) ∷ [])
     ∷ []
 
 -- ---- readings: 8, 9 and 10
@@ -315,7 +315,7 @@ unfoldable pub values : ℕ → ℤ → ℤ → ℤ → List ℕ
 values t a b c = readingWith t 1 (a ∷ b ∷ c ∷ [])
 
 unfoldable pub refused′ : ℕ → ℕ → Seen
-refused′ n now = after n now done done
+refused′ n now = leads n now done done
 
 unfoldable pub readings : List Trial
 readings =
@@ -339,11 +339,11 @@ readings =
     (pos 1) (pos 2) ∷ mark 4_294_967_295 ∷ [])
     (refused′ 0 100 ∷ refused′ 10 100 ∷ refused′ 0 100 ∷ refused′ 0 120 ∷ refused′ 0 120 ∷ refused′ 10 120
     ∷ refused′ 0 4_294_967_295 ∷ [])
-    ∷ obeys "8, 9 and 10 also after a breach, and nothing else" (main (simply 0 (pos 60)))
+    ∷ obeys "8, 9 and 10 also leads a breach, and nothing else" (main (simply 0 (pos 60)))
     (mark 170 ∷ [] ∷ mark 161 ∷ reading 171 (pos 1_000_000_001) ∷ mark 180 ∷ mark 170 ∷ []) (
-    after 0 100 (owed 17 100) (by 160 0)
-    ∷ after 0 170 (by 160 0) (by 160 0) ∷ after 8 170 (by 160 0) (by 160 0) ∷ after 10 170 (by 160 0) (by 160 0)
-    ∷ after 9 170 (by 160 0) (by 160 0) ∷ after 0 170 (by 160 0) (by 160 0) ∷ after 0 170 (by 160 0) (by 160 0) ∷ [])
+    leads 0 100 (owed 17 100) (by 160 0)
+    ∷ leads 0 170 (by 160 0) (by 160 0) ∷ leads 8 170 (by 160 0) (by 160 0) ∷ leads 10 170 (by 160 0) (by 160 0)
+    ∷ leads 9 170 (by 160 0) (by 160 0) ∷ leads 0 170 (by 160 0) (by 160 0) ∷ leads 0 170 (by 160 0) (by 160 0) ∷ [])
     ∷ []
 
 -- ---- 1 and 2: records
@@ -408,7 +408,7 @@ records =
     ∷ refuses "a byte left behind the main clause" 2 (main (nothing ++ (0 ∷ [])))
     ∷ refuses "no first operand" 2 (main (asking (op 41 nothing yes′)))
     ∷ refuses "no `where`" 2 (main (asking nothing))
-    ∷ refuses "no `after`" 2 (main (afterIs nothing))
+    ∷ refuses "no `leads`" 2 (main (afterIs nothing))
     ∷ refuses "no `within`" 2 (main (withinIs nothing))
     ∷ refuses "no `where` of a choice" 2 (main (mayTyped 1 nothing one one nothing nothing))
     ∷ refuses "no `then` of a choice" 2 (main (chooses one))
@@ -453,11 +453,11 @@ types =
     ∷ refuses "a party = true" 3 (main (asking (op 43 (partyOf 0) yes′)))
     ∷ refuses "not 1" 3 (main (asking (opposite one)))
     ∷ refuses "`where` a sum" 3 (main (asking (op 37 one one)))
-    ∷ refuses "`after` a truth" 3 (main (afterIs (op 41 yes′ yes′)))
+    ∷ refuses "`leads` a truth" 3 (main (afterIs (op 41 yes′ yes′)))
     ∷ refuses "`within` a comparison" 3 (main (withinIs (op 42 one one)))
     ∷ refuses "`within` an equation" 3 (main (withinIs (op 43 one one)))
     ∷ refuses "`within` a not" 3 (main (withinIs (opposite yes′)))
-    ∷ refuses "`after` of a choice" 3 (main (mayTyped 1 yes′ yes′ one nothing nothing))
+    ∷ refuses "`leads` of a choice" 3 (main (mayTyped 1 yes′ yes′ one nothing nothing))
     ∷ refuses "an if's condition" 3 (main (ifs one nothing nothing))
     ∷ refuses "an if's first side" 3 (main (ifs yes′ (asking one) nothing))
     ∷ refuses "an if's second side" 3 (main (ifs yes′ nothing (asking one)))
@@ -475,7 +475,7 @@ types =
     ∷ refuses "truth 2" 3 (main (asking (truthOf 2)))
     ∷ refuses "a party at the count" 3 (main (asking (op 43 (partyOf 0) (partyOf 2))))
     ∷ refuses "`where` sees one value" 3 (main (asking (is (var 1) (pos 0))))
-    ∷ refuses "`after` sees no reading" 3 (main (afterIs (var 0)))
+    ∷ refuses "`leads` sees no reading" 3 (main (afterIs (var 0)))
     ∷ refuses "`within` sees no reading" 3 (main (withinIs (var 0)))
     ∷ refuses "an else sees no reading" 3 (main (otherwise (withinIs (var 0))))
     ∷ accepts "a `then` sees a value and the remaining time" 1
@@ -771,7 +771,7 @@ tables =
     ∷ alter 1 0 (pos 17) ∷ alter 1 0 (pos 19) ∷ [])
     ∷ rejects "7: a place that is no waiting clause"
     (alter 4 1 (pos 0) ∷ alter 4 1 (negsuc 0) ∷ alter 4 1 (pos 68) ∷ alter 4 1 (pos 210) ∷ [])
-    ∷ rejects "7: an A before the start or after the last reading"
+    ∷ rejects "7: an A before the start or leads the last reading"
     (alter 4 2 (pos 99) ∷ alter 4 2 (pos 111) ∷ alter 4 2 (negsuc 0) ∷ [])
     ∷ rejects "7: a parameter" (short 110 (lent 1 3 ∷ []) ∷ alter 3 4 (negsuc 0) ∷ alter 3 5 (pos 1) ∷ alter 3 7
     (pos 1) ∷ alter 4 3 (pos 1) ∷ [])
@@ -872,7 +872,7 @@ further = runs ++ (joins ++ (readings ++
     (records ++ (types ++ (guards ++ (widths ++ (tables ++ (entries ++ unreached))))))))
 
 pub further-pass : map (λ t. t .shown) further ≡ map (λ t. t .expected) further
-unfolding harness says accepts refuses mains five refusesAll stepsOf runSeen obeys after waits owed chosen by shows
+unfolding harness says accepts refuses mains five refusesAll stepsOf runSeen obeys leads waits owed chosen by shows
     saying nested one asking afterIs withinIs next otherwise chooses main aNumber counting template beside call
     lending every is isNot calculated most least sums equations taken chain nums runs pairs becoming left right joins
     values refused′ readings records named inSight types guards ladder wide calls both′ body ladder′ wide′ waiting

@@ -81,9 +81,9 @@ pub record Stepped : Type 0 where
 
 -- "over 128 units it is 11 and nothing changes, otherwise 0"
 unfoldable pub kept : Run → Run → Stepped
-kept before after = elim (tooMany (after .outcome)) [
+kept before next = elim (tooMany (next .outcome)) [
   | true ↦ record { number = 11; run = before }
-  | false ↦ record { number = 0; run = after }
+  | false ↦ record { number = 0; run = next }
 ]
 
 -- "the main clause is activated at the start time, which is the last reading time at first"

@@ -34,10 +34,10 @@ pub told-as : {z x y : ℤ} → mag z < 2 ^ 63 → (z ≡ x) × Held z → x ≡
 told-as h p e = told h (p .0 ∙ e, p .1)
 
 pub nought-held : Held (pos 0)
-nought-held = record { within = lit≤ tt }
+nought-held = record { bounded = lit≤ tt }
 
 pub one-held : Held (pos 1)
-one-held = record { within = lit≤ tt }
+one-held = record { bounded = lit≤ tt }
 
 -- any cell but 0 is true
 pub true-is : {t b : Bool} → b ≡ t → not b ≡ cond t false true
@@ -96,7 +96,7 @@ module _ (vs : List ℤ) (s : List ℕ) (k : ℕ) where
 
 -- a byte as a cell
 pub byte-held : {b n : ℕ} {x : ℤ} → b ≡ n → b < 256 → pos n ≡ x → (toZ w64 b ≡ x) × Held (toZ w64 b)
-byte-held {b} e l h = rw (toZ-pos w64 b (omega arith)) (ap pos e ∙ h, record { within = omega arith })
+byte-held {b} e l h = rw (toZ-pos w64 b (omega arith)) (ap pos e ∙ h, record { bounded = omega arith })
 
 -- a value that is not there
 pub past-held : (vs : List ℤ) (b : ℕ) {n : ℕ} → b ≡ n → length vs ≤ b → pos 0 ≡ held (getD vs n (pos 0))

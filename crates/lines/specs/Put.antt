@@ -4,6 +4,6 @@ use mathlib.Core.List.{List, _++_}
 use Prim.Native.Nat.{ℕ, _+_}
 use lib.ListN.{length, take}
 
-pub record Put (bytes before : List ℕ) (at : ℕ) (after : List ℕ) (to : ℕ) : Type 0 where
+pub record Put (bytes before : List ℕ) (at : ℕ) (left : List ℕ) (to : ℕ) : Type 0 where
   pub place : to ≡ at + length bytes
-  pub kept : take to after ≡ take at before ++ bytes
+  pub kept : take to left ≡ take at before ++ bytes

@@ -42,14 +42,14 @@ module _ {s places : List ℕ} {p : ℕ} (g : Goes s places p) {us : List ℤ} (
     units = tt;
   }
 
-  module _ {fits : Bool} {after : List ℤ} (a : Advances s sights us 0 (startEvent t) rs after fits)
+  module _ {fits : Bool} {left : List ℤ} (a : Advances s sights us 0 (startEvent t) rs left fits)
       (et : t ≡ le32 s 4) where
-    begun : advanced fits after ≡ startOf s us
+    begun : advanced fits left ≡ startOf s us
     unfolding reduced mainReduced agreementOf
     begun = a .is ∙ ap (λ k. keptCells k us (mainReduced s)) et ∙ sym (start-reduce s (g .mains) (g .isAccepted) us l)
 
-    pub begin-no : not fits ≡ true → startAnswer (refusedStart Units) after ≡ startOf s us
-    begin-no e = ap (λ b. advanced b after) (sym (not-true fits e)) ∙ begun
+    pub begin-no : not fits ≡ true → startAnswer (refusedStart Units) left ≡ startOf s us
+    begin-no e = ap (λ b. advanced b left) (sym (not-true fits e)) ∙ begun
 
-    pub begin-yes : not fits ≡ false → startAnswer Begun after ≡ startOf s us
-    begin-yes e = ap (λ b. advanced b after) (sym (not-false fits e)) ∙ begun
+    pub begin-yes : not fits ≡ false → startAnswer Begun left ≡ startOf s us
+    begin-yes e = ap (λ b. advanced b left) (sym (not-false fits e)) ∙ begun

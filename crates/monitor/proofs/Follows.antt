@@ -138,8 +138,8 @@ module _ {s places : List ℕ} {us : List ℤ} {sights : List ℕ} {n : ℕ} (o 
     follows-as = ap (λ k. reducedBy k (mainReduced s) (treeReduced (modeAt e rs) s n sights (drop 8 us))) (f .follows)
         ∙ tree-only (following .is)
 
-    reads-as : {fits : Bool} {after : List ℤ} → Advances s sights us n e rs after fits
-        → advanced fits after ≡ readingOf s us bytes
+    reads-as : {fits : Bool} {left : List ℤ} → Advances s sights us n e rs left fits
+        → advanced fits left ≡ readingOf s us bytes
     reads-as a = a .is ∙ ap (keptCells (e .time) us) follows-as ∙ sym (following .reads)
 
   module _ {e : Event} {rs : List ℤ} where
@@ -160,12 +160,12 @@ module _ {s places : List ℕ} {us : List ℤ} {sights : List ℕ} {n : ℕ} (o 
           units = subst (λ k. DueBy k (UnitsDue s sights us n e rs)) (sym (f .follows)) all;
         }
 
-    module _ {fits : Bool} {after : List ℤ} (a : Advances s sights us n e rs after fits) where
-      pub follow-no : not fits ≡ true → ReadAs s us e rs (refusedReading tooManyUnits) after
-      follow-no q = record { is = λ bytes f. ap (λ b. advanced b after) (sym (not-true fits q)) ∙ reads-as f a }
+    module _ {fits : Bool} {left : List ℤ} (a : Advances s sights us n e rs left fits) where
+      pub follow-no : not fits ≡ true → ReadAs s us e rs (refusedReading tooManyUnits) left
+      follow-no q = record { is = λ bytes f. ap (λ b. advanced b left) (sym (not-true fits q)) ∙ reads-as f a }
 
-      pub follow-yes : not fits ≡ false → ReadAs s us e rs acceptedReading after
-      follow-yes q = record { is = λ bytes f. ap (λ b. advanced b after) (sym (not-false fits q)) ∙ reads-as f a }
+      pub follow-yes : not fits ≡ false → ReadAs s us e rs acceptedReading left
+      follow-yes q = record { is = λ bytes f. ap (λ b. advanced b left) (sym (not-false fits q)) ∙ reads-as f a }
 
 -- ---- a breached run, and a fulfilled one
 module _ {s places : List ℕ} {us : List ℤ} {sights : List ℕ} {e : Event} {rs : List ℤ} where
@@ -218,8 +218,8 @@ module _ {s places : List ℕ} {us : List ℤ} {sights : List ℕ} {r : Run} (o 
       sym (reading-nine s (mainsOf s) (ck o) us (o .isTable) (shown .run) (shown .is) bytes (f .raw) (f .is)
       (f .untyped))
 
-  module _ {time sort n : ℕ} (g : t ≡ Fits time sort n) where
-    abbrev fitting-read : FittingRead s bytes values time sort n
+  module _ {time tag n : ℕ} (g : t ≡ Fits time tag n) where
+    abbrev fitting-read : FittingRead s bytes values time tag n
     fitting-read = rw g at h
 
     pub read-few : n ≤ 4
@@ -247,7 +247,7 @@ module _ {s places : List ℕ} {us : List ℤ} {sights : List ℕ} {r : Run} (o 
         → Fitted s bytes us (record {
           step = Follow;
           time = time;
-          tag = sort;
+          tag = tag;
         }) (take n values)
     read-fitted ez eb t =
         let f = fitting-read in

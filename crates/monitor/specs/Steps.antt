@@ -99,6 +99,6 @@ pub record Fitted (s bytes : List ℕ) (us : List ℤ) (e : Event) (rs : List �
 abbrev pub SomeReading : List ℕ → List ℤ → Event → List ℤ → Type 0
 SomeReading s us e rs = (bytes : List ℕ) × Fitted s bytes us e rs
 
--- r and the table `after` answer every reading that says the event
-pub record ReadAs (s : List ℕ) (us : List ℤ) (e : Event) (rs : List ℤ) (r : Taken) (after : List ℤ) : Type 0 where
-  pub is : (bytes : List ℕ) → Fitted s bytes us e rs → takenAnswer r after ≡ readingOf s us bytes
+-- r and the table `left` answer every reading that says the event
+pub record ReadAs (s : List ℕ) (us : List ℤ) (e : Event) (rs : List ℤ) (r : Taken) (left : List ℤ) : Type 0 where
+  pub is : (bytes : List ℕ) → Fitted s bytes us e rs → takenAnswer r left ≡ readingOf s us bytes

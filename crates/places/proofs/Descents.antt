@@ -166,8 +166,8 @@ module _ {places A : List ℕ} {k a n : ℕ} (x : Indexed places A) (l : k < byt
         length-part A t (recordEnd A t) (record-end-within A t),
       )) in
       let place : t + (5 + byte s 4) ≡ a + 5 + n = omega arith in
-      let start : t + 5 ≡ a + 5 = omega arith in
-      ap tysOf ((rw long at h) ∙ sym (same ∙ rw (place, start)))
+      let types-begin : t + 5 ≡ a + 5 = omega arith in
+      ap tysOf ((rw long at h) ∙ sym (same ∙ rw (place, types-begin)))
 
 -- ---- its body: from and to are what a call gave
 module _ {A : List ℕ} {k from to : ℕ} (l : k < byte A 10) (b : Spans A k from to) where

@@ -73,30 +73,30 @@ module _ {e f : List ℕ → Expr} (same : (u : List ℕ) → T (wholeExpr (e u)
       rw (same (part s (i + 1) a) h₁, same (part s a b) h₂, same (part s b z) h₃)
 
   module _ (hs : List Head) {inner outer : ℕ → List ℕ → Clause}
-      (within : (q : ℕ) (u : List ℕ) → T (whole (inner q u)) → outer q u ≡ inner q u) (p : ℕ) where
+      (agrees : (q : ℕ) (u : List ℕ) → T (whole (inner q u)) → outer q u ≡ inner q u) (p : ℕ) where
     clause-body-same : (k : ClauseKind) → T (whole (clauseBody hs e inner p s k))
         → clauseBody hs f outer p s k ≡ clauseBody hs e inner p s k
     unfolding clauseBody whole
     clause-body-same fulfilledKind t = refl
     clause-body-same obligationKind t =
         let c = waitEnd s 5 in
-        both-true (wholeWait (waitAt e p s 5)) _ t λ a b. rw (wait-same p 5 a, within (p + c) (part s c (length s)) b)
+        both-true (wholeWait (waitAt e p s 5)) _ t λ a b. rw (wait-same p 5 a, agrees (p + c) (part s c (length s)) b)
     clause-body-same choiceKind t =
         let c = waitEnd s 4 in
         let z = recordEnd s c in
         both-true (wholeWait (waitAt e p s 4) && whole (inner (p + c) (part s c z))) _ t λ t₁ h₃.
         both-true (wholeWait (waitAt e p s 4)) _ t₁ λ h₁ h₂.
-        rw (wait-same p 4 h₁, within (p + c) (part s c z) h₂, within (p + z) (part s z (length s)) h₃)
+        rw (wait-same p 4 h₁, agrees (p + c) (part s c z) h₂, agrees (p + z) (part s z (length s)) h₃)
     clause-body-same ifKind t =
         let c = recordEnd s 4 in
         let z = recordEnd s c in
         both-true (wholeExpr (e (part s 4 c)) && whole (inner (p + c) (part s c z))) _ t λ t₁ h₃.
         both-true (wholeExpr (e (part s 4 c))) _ t₁ λ h₁ h₂.
-        rw (same (part s 4 c) h₁, within (p + c) (part s c z) h₂, within (p + z) (part s z (length s)) h₃)
+        rw (same (part s 4 c) h₁, agrees (p + c) (part s c z) h₂, agrees (p + z) (part s z (length s)) h₃)
     clause-body-same (joinKind j) t =
         let z = recordEnd s 4 in
         both-true (whole (inner (p + 4) (part s 4 z))) _ t λ h₁ h₂.
-        rw (within (p + 4) (part s 4 z) h₁, within (p + z) (part s z (length s)) h₂)
+        rw (agrees (p + 4) (part s 4 z) h₁, agrees (p + z) (part s z (length s)) h₂)
     clause-body-same instanceKind t = instance-same (at hs (byte s 4)) t
     clause-body-same noClause t = refl
 

@@ -104,14 +104,14 @@ module _ {places s : List ℕ} (x : Indexed places s) {k b a e : ℕ} (f : k ≡
   cut : part s a e ≡ pieceAt s (readingPlace s (k - 1))
   cut = part-piece s q g
 
-  within : e ≤ length s
-  within = omega (arith, record-end-within s a)
+  bounded : e ≤ length s
+  bounded = omega (arith, record-end-within s a)
 
   pub types-from : a + 5 ≤ e
   types-from = omega (arith, reading-end x listed q g)
 
   types-many : length (part s (a + 5) e) ≡ byte (part s a e) 4
-  types-many = rw cut (omega (arith, reading-end x listed q g, length-part s (a + 5) e within))
+  types-many = rw cut (omega (arith, reading-end x listed q g, length-part s (a + 5) e bounded))
 
   wanted : (w : run.Raw) → k ≡ w .type → valuesWanted (agreementOf s) (w .type) ≡ some (tysOf (part s (a + 5) e))
   wanted w h = rw (← h) (wanted-at (agreementOf s) k (some-bits f) ∙ readings-at s (k - 1) listed

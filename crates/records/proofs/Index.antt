@@ -285,8 +285,8 @@ module _ {places s : List ℕ} (x : Indexed places s) {k a e : ℕ} (l : k < byt
   unfolding readingType
   reading-types =
       let cut = part-piece s p q in
-      let within : e ≤ length s = rw q (record-end-within s a) in
-      let n : a + length (part s a e) ≡ e = omega (arith, reading-end, length-part s a e within) in
+      let bounded : e ≤ length s = rw q (record-end-within s a) in
+      let n : a + length (part s a e) ≡ e = omega (arith, reading-end, length-part s a e bounded) in
       rw (← cut) (ap tysOf (rw n at (part-part s a e 5 (length (part s a e)) (omega arith))))
 
 -- a template's head, read where it stands in the agreement

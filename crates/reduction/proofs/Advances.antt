@@ -46,8 +46,8 @@ behind-head us = take-all (length us - 8) (drop 8 us) (rw (length-drop 8 us) (om
 over : (u : ℕ) {n l : ℕ} → n ≡ min u 129 → l ≡ 24 * u → 128 < n → 128 < l / 24
 over u e f h = omega arith
 
-within : (u : ℕ) {n l : ℕ} → n ≡ min u 129 → l ≡ 24 * u → n ≤ 128 → l / 24 ≤ 128
-within u e f h = omega arith
+few-enough : (u : ℕ) {n l : ℕ} → n ≡ min u 129 → l ≡ 24 * u → n ≤ 128 → l / 24 ≤ 128
+few-enough u e f h = omega arith
 
 counted : (u : ℕ) {n : ℕ} → n ≡ min u 129 → n ≤ 129
 counted u e = omega arith
@@ -68,7 +68,8 @@ module _ (out : List ℤ) where
   few-units (cells.breach u c) r i h = refl
   few-units (cells.running cs) Done i h = absurd i
   few-units (cells.running cs) (Breach t b) i h = absurd i
-  few-units (cells.running cs) (Running n) i h = le-ltb 128 (length cs / 24) (within (i .units) (i .count) (i .size) h)
+  few-units (cells.running cs) (Running n) i h = le-ltb 128 (length cs / 24)
+      (few-enough (i .units) (i .count) (i .size) h)
 
   pub units-counted : (x : cells.Reduced) (r : Reduced) → Is x r out → unitsOf r ≤ 129
   unfolding Is
@@ -83,8 +84,8 @@ module _ (r : Reduced) (out : List ℤ) (x : cells.Reduced) (i : Is x r out) (no
   unfolding keptCells
   kept-over h = rw (more-units out x r i h) refl
 
-  kept-few : {after : List ℤ} {q : Bool} → Settles now r out before after q → unitsOf r ≤ 128
-      → answer 0 after ≡ keptCells now before x
+  kept-few : {left : List ℤ} {q : Bool} → Settles now r out before left q → unitsOf r ≤ 128
+      → answer 0 left ≡ keptCells now before x
   unfolding keptCells
   kept-few settles h = rw (
     few-units out x r i h,
@@ -157,12 +158,12 @@ module _ {s places sights : List ℕ} {us : List ℤ} {n : ℕ} {e : Event} {rs 
         over = λ k. record { is = kept-over r out (reduced s sights us n e rs) i (e .time) us (omega (arith, eu)) };
       }
 
-      pub tried-room : {room : List ℤ} {u t : ℕ} {after : List ℤ} {q : Bool} → length room ≡ length out
-          → u ≡ unitsOf r → 24 * u ≤ length out → length out ≤ 3072 → t ≡ e .time → Settles t r out us after q
-          → Tried s sights us n e rs room after u
-      tried-room {after = after} same eu h l et settles = record {
+      pub tried-room : {room : List ℤ} {u t : ℕ} {left : List ℤ} {q : Bool} → length room ≡ length out
+          → u ≡ unitsOf r → 24 * u ≤ length out → length out ≤ 3072 → t ≡ e .time → Settles t r out us left q
+          → Tried s sights us n e rs room left u
+      tried-room {left = left} same eu h l et settles = record {
         fits = λ k. record {
-          is = subst (λ t. answer 0 after ≡ keptCells t us (reduced s sights us n e rs)) et
+          is = subst (λ t. answer 0 left ≡ keptCells t us (reduced s sights us n e rs)) et
               (kept-few r out (reduced s sights us n e rs) i _ us settles (omega (arith, eu)));
         };
         kept = λ k. absurd (omega arith);
@@ -170,15 +171,15 @@ module _ {s places sights : List ℕ} {us : List ℤ} {n : ℕ} {e : Event} {rs 
       }
 
 -- ---- one room after another
-module _ {s sights : List ℕ} {us : List ℤ} {n : ℕ} {e : Event} {rs room after : List ℤ} {u : ℕ}
-    (t : Tried s sights us n e rs room after u) where
-  pub tried-over : length room ≤ 3072 → 128 < u → Advances s sights us n e rs after false
+module _ {s sights : List ℕ} {us : List ℤ} {n : ℕ} {e : Event} {rs room left : List ℤ} {u : ℕ}
+    (t : Tried s sights us n e rs room left u) where
+  pub tried-over : length room ≤ 3072 → 128 < u → Advances s sights us n e rs left false
   tried-over l h = subst (λ a. Advances s sights us n e rs a false) (sym (t .kept (omega arith))) (t .over h)
 
   module _ (h : length room < 24 * u) where
-    pub due-again : {places : List ℕ} → Due s places sights us n e rs → Due s places sights after n e rs
+    pub due-again : {places : List ℕ} → Due s places sights us n e rs → Due s places sights left n e rs
     due-again {places = places} d = subst (λ a. Due s places sights a n e rs) (sym (t .kept h)) d
 
-    pub advances-again : {last : List ℤ} {fits : Bool} → Advances s sights after n e rs last fits
+    pub advances-again : {last : List ℤ} {fits : Bool} → Advances s sights left n e rs last fits
         → Advances s sights us n e rs last fits
     advances-again {last = last} {fits = fits} a = subst (λ a. Advances s sights a n e rs last fits) (t .kept h) a

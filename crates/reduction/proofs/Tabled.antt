@@ -92,7 +92,7 @@ module _ (s mains : List ℕ) (ck : checked s ≡ accepted (agreementOf s) mains
             len-typed (ag .parties) (ok .found .sight) (e .values) (ok .sight .values),
           );
           place = refl;
-          within = place-within s p (ok .found .clause) (f .0) (f .1);
+          bounded = place-within s p (ok .found .clause) (f .0) (f .1);
           since = refl;
           dated = omega (arith, ok .when .1);
         }

@@ -57,17 +57,17 @@ reduced s sights us n e rs = reducedBy (e .step) (mainReduced s) (treeReduced (m
 
 -- "over 128 units it is 11 and nothing changes, otherwise 0"
 abbrev pub advanced : Bool → List ℤ → Answer
-advanced true after = record { number = 0; table = after }
-advanced false after = record { number = 11; table = after }
+advanced true left = record { number = 0; table = left }
+advanced false left = record { number = 11; table = left }
 
-pub record Advances (s sights : List ℕ) (us : List ℤ) (n : ℕ) (e : Event) (rs after : List ℤ) (fits : Bool)
+pub record Advances (s sights : List ℕ) (us : List ℤ) (n : ℕ) (e : Event) (rs left : List ℤ) (fits : Bool)
     : Type 0 where
-  pub is : advanced fits after ≡ keptCells (e .time) us (reduced s sights us n e rs)
+  pub is : advanced fits left ≡ keptCells (e .time) us (reduced s sights us n e rs)
 
 -- what comes of it needs so many units: where `room` has cells for them, the table is written, else not; over 128 are
 -- too many for a table
-pub record Tried (s sights : List ℕ) (us : List ℤ) (n : ℕ) (e : Event) (rs room after : List ℤ) (units : ℕ)
+pub record Tried (s sights : List ℕ) (us : List ℤ) (n : ℕ) (e : Event) (rs room left : List ℤ) (units : ℕ)
     : Type 0 where
-  pub fits : 24 * units ≤ length room → Advances s sights us n e rs after true
-  pub kept : length room < 24 * units → after ≡ us
+  pub fits : 24 * units ≤ length room → Advances s sights us n e rs left true
+  pub kept : length room < 24 * units → left ≡ us
   pub over : 128 < units → Advances s sights us n e rs us false

@@ -33,8 +33,8 @@ breach-is-breach : (t : ℕ) (ps : List ℕ) → IsBreach (breach t ps)
 unfolding IsBreach
 breach-is-breach t ps = tt
 
-abbrev after : Agreement → List Call → Run
-after a calls = runAfter a ((started a) .run) (readingsIn calls)
+abbrev ran : Agreement → List Call → Run
+ran a calls = runAfter a ((started a) .run) (readingsIn calls)
 
 -- for an accepted, started agreement and every list of readings, whatever their bytes
 module _ (s : List ℕ) (lent : List ℤ) (a : Agreement) (mains : List ℕ) (r : Started) (us : List ℤ) (calls : List Call)
@@ -49,7 +49,7 @@ module _ (s : List ℕ) (lent : List ℤ) (a : Agreement) (mains : List ℕ) (r 
     notEleven = few;
   }) begun made
 
-  never-stuck : (before later : List Call) → calls ≡ before ++ later → NotStuck (after a before .outcome)
+  never-stuck : (before later : List Call) → calls ≡ before ++ later → NotStuck (ran a before .outcome)
   unfolding runBy
   never-stuck = claim .neverStuck
 
@@ -65,34 +65,34 @@ module _ (s : List ℕ) (lent : List ℤ) (a : Agreement) (mains : List ℕ) (r 
   table-typed : (q : Run) × (runOf a mains (lastTable us calls) ≡ some q)
   table-typed = claim .wellTyped
 
-  table-is : lastTable us calls ≡ tableOf (after a calls)
+  table-is : lastTable us calls ≡ tableOf (ran a calls)
   unfolding runBy
   table-is = claim .table
 
   module _ (before : List Call) (one : Call) (later : List Call) (split : calls ≡ before ++ (one ∷ later)) where
     is-eleven : (numberIn one ≡ 11) ↔ ((d : Reading) × (fitting a (one .bytes) ≡ some d)
-        × (after a before .lastTime ≤ d .time)
-        × (128 < needed (reached a (after a before .outcome) d)))
+        × (ran a before .lastTime ≤ d .time)
+        × (128 < needed (reached a (ran a before .outcome) d)))
     unfolding runBy
     is-eleven = claim .eleven before one later split
 
     is-taken : (numberIn one ≡ 0) ↔ ((d : Reading) × (fitting a (one .bytes) ≡ some d)
-        × (after a before .lastTime ≤ d .time)
-        × (needed (reached a (after a before .outcome) d) ≤ 128))
+        × (ran a before .lastTime ≤ d .time)
+        × (needed (reached a (ran a before .outcome) d) ≤ 128))
     unfolding runBy
     is-taken = claim .taken before one later split
 
     is-refused : numberIn one ≢ 0 → one .left ≡ lastTable us before
     is-refused = claim .refused before one later split
 
-    is-breached : (IsBreach (after a before .outcome) → ⊥)
-        → (t : ℕ) (ps : List ℕ) → (step a (after a before) (one .bytes)) .run .outcome ≡ breach t ps
+    is-breached : (IsBreach (ran a before .outcome) → ⊥)
+        → (t : ℕ) (ps : List ℕ) → (step a (ran a before) (one .bytes)) .run .outcome ≡ breach t ps
         → (d : Reading) × (fitting a (one .bytes) ≡ some d) × (ps ≢ []) × T (subset ps mains) × (a .start ≤ t)
         × (t ≤ d .time)
     unfolding runBy
     is-breached = claim .breached before one later split
 
-    stays-breached : IsBreach (after a before .outcome) → one .left ≡ lastTable us before
+    stays-breached : IsBreach (ran a before .outcome) → one .left ≡ lastTable us before
     unfolding runBy
     stays-breached = claim .final before one later split
 

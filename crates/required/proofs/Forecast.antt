@@ -31,10 +31,10 @@ module _ (s : List ℕ) (a : Agreement) (mains : List ℕ) (us : List ℤ) (q : 
     (r′ : Foretold)
     (acc : checked s ≡ accepted a mains) (long : length us ≡ 3080) (typed : runOf a mains us ≡ some q)
     (told : forecastAnswer r ≡ forecastOf s us) (all : AllBytes (readingsIn marks)) (made : Calls s us marks)
-    (taken : AcceptedMarks a marks) (after : forecastAnswer r′ ≡ forecastOf s (lastTable us marks)) where
+    (taken : AcceptedMarks a marks) (told-later : forecastAnswer r′ ≡ forecastOf s (lastTable us marks)) where
   claim : Foretells a mains us (forecastAnswer r) marks (forecastAnswer r′)
   unfolding ForecastClaim
-  claim = forecasts s a mains us q r marks r′ acc long typed told all made taken after
+  claim = forecasts s a mains us q r marks r′ acc long typed told all made taken told-later
 
   fits : ForecastFits a mains (forecastAnswer r)
   fits = claim .fits

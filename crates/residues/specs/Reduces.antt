@@ -51,8 +51,8 @@ Counted (Breach t b) = Unit {0}
 Counted (Running n) = n ≤ 129
 
 -- a is what the sides make, whatever sides l and r are the answers for
-pub record JoinIs (j : Join) (l r : Reduced) (before : List ℤ) (a : Reduced) (after : List ℤ) : Type 0 where
-  pub is : (left right : cells.Reduced) → Sides left right l r before → Is (cells.joined j left right) a after
+pub record JoinIs (j : Join) (l r : Reduced) (before : List ℤ) (a : Reduced) (written : List ℤ) : Type 0 where
+  pub is : (left right : cells.Reduced) → Sides left right l r before → Is (cells.joined j left right) a written
 
 -- the same of two breaches, by their times
 pub record BreachIs (f : ℕ → ℕ → ℕ → ℕ → cells.Reduced) (t : ℤ) (b : ℕ) (u : ℤ) (c : ℕ) (a : Reduced) : Type 0 where

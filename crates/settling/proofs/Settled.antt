@@ -51,16 +51,16 @@ module _ (h : List ℤ) (eight : length h ≡ 8) where
       tail-put 8 t u (omega arith) ∙ rw (f, rest, e, padded-first, padded-rest) (padded-more 3080 h cs)
 
 -- ---- the table
-module _ {now : ℕ} {r : Reduced} {out before after : List ℤ} where
-  pub unsettled : 128 < unitsOf r → before ≡ after → Settles now r out before after false
+module _ {now : ℕ} {r : Reduced} {out before left : List ℤ} where
+  pub unsettled : 128 < unitsOf r → before ≡ left → Settles now r out before left false
   unsettled h e = record {
     fits = sym (lt-leb (unitsOf r) 128 h);
     kept = λ _. sym e;
     wrote = λ f. absurd (false≢true f);
   }
 
-  pub settled : unitsOf r ≤ 128 → ((x : cells.Reduced) → Is x r out → after ≡ reducedTable now x)
-      → Settles now r out before after true
+  pub settled : unitsOf r ≤ 128 → ((x : cells.Reduced) → Is x r out → left ≡ reducedTable now x)
+      → Settles now r out before left true
   settled h f = record {
     fits = sym (le-leb (unitsOf r) 128 h);
     kept = λ e. absurd (false≢true (sym e));
@@ -71,11 +71,11 @@ counted : {n u : ℕ} → n ≡ min u 129 → n ≤ 128 → n ≡ u
 counted e h = omega arith
 
 module _ (now : ℕ) (out before : List ℤ) {time : ℤ} (is-now : time ≡ pos now) where
-  pub settled-done : {r : Reduced} (after : List ℤ) → r ≡ Done
-      → after ≡ padded 3080 (pos 2 ∷ time ∷ pos 0 ∷ pos 0 ∷ pos 0 ∷ pos 0 ∷ pos 0 ∷ pos 0 ∷ [])
-      → Settles now r out before after true
+  pub settled-done : {r : Reduced} (left : List ℤ) → r ≡ Done
+      → left ≡ padded 3080 (pos 2 ∷ time ∷ pos 0 ∷ pos 0 ∷ pos 0 ∷ pos 0 ∷ pos 0 ∷ pos 0 ∷ [])
+      → Settles now r out before left true
   unfolding reducedTable headCells natCells
-  settled-done after e f = rw e (settled (omega arith) (λ x h. f ∙ rw (is-done out x h, is-now) refl))
+  settled-done left e f = rw e (settled (omega arith) (λ x h. f ∙ rw (is-done out x h, is-now) refl))
 
   breach-table : {t : ℤ} {u : ℕ} (b : ℕ) → t ≡ pos u
       → padded 3080 (pos 3 ∷ time ∷ t ∷ pos b ∷ pos 0 ∷ pos 0 ∷ pos 0 ∷ pos 0 ∷ []) ≡ reducedTable now
@@ -83,10 +83,10 @@ module _ (now : ℕ) (out before : List ℤ) {time : ℤ} (is-now : time ≡ pos
   unfolding reducedTable headCells natCells
   breach-table b e = rw (e, is-now) refl
 
-  pub settled-breach : {r : Reduced} (after : List ℤ) (t : ℤ) (b : ℕ) → r ≡ Breach t b
-      → after ≡ padded 3080 (pos 3 ∷ time ∷ t ∷ pos b ∷ pos 0 ∷ pos 0 ∷ pos 0 ∷ pos 0 ∷ [])
-      → Settles now r out before after true
-  settled-breach after t b e f = rw e (settled (omega arith)
+  pub settled-breach : {r : Reduced} (left : List ℤ) (t : ℤ) (b : ℕ) → r ≡ Breach t b
+      → left ≡ padded 3080 (pos 3 ∷ time ∷ t ∷ pos b ∷ pos 0 ∷ pos 0 ∷ pos 0 ∷ pos 0 ∷ [])
+      → Settles now r out before left true
+  settled-breach left t b e f = rw e (settled (omega arith)
       (λ x h. let g = is-breach out x h in f ∙ breach-table b (g .2) ∙ ap (reducedTable now) (sym (g .1))))
 
   module _ (n : ℕ) (few : n ≤ 128) (room : 24 * n ≤ length out) (t u : List ℤ)

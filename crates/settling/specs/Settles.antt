@@ -16,8 +16,8 @@ pub record Whole (r : Reduced) (out : List ℤ) : Type 0 where
   pub room : unitsOf r ≤ 128 → 24 * unitsOf r ≤ length out
 
 -- ---- a run's table after a reading
--- `after` is the table of what r answers for, where its units fit; where they do not nothing is written
-pub record Settles (now : ℕ) (r : Reduced) (out before after : List ℤ) (settled : Bool) : Type 0 where
+-- `left` is the table of what r answers for, where its units fit; where they do not nothing is written
+pub record Settles (now : ℕ) (r : Reduced) (out before left : List ℤ) (settled : Bool) : Type 0 where
   pub fits : settled ≡ leb (unitsOf r) 128
-  pub kept : settled ≡ false → after ≡ before
-  pub wrote : settled ≡ true → (x : cells.Reduced) → Is x r out → after ≡ reducedTable now x
+  pub kept : settled ≡ false → left ≡ before
+  pub wrote : settled ≡ true → (x : cells.Reduced) → Is x r out → left ≡ reducedTable now x

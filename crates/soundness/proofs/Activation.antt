@@ -137,7 +137,7 @@ module _ (ag : Agreement) (mains : List ℕ) (fair : Fair ag mains) where
       one b j ok′ = T-or (ltb b (ag .parties)) (leb 128 b && ltb b (128 + t .head .params)) ok′
           (λ c. let h : b < 128 = omega (arith, ltb→lt b (ag .parties) c, fair .few) in
           subst (λ z. In z (t .head .declared ++ ps)) (sym (stands-blamed ps b b (blamed-constant ps b h)))
-          (in-left b (t .head .declared) ps (ft .within b j h)))
+          (in-left b (t .head .declared) ps (ft .allDeclared b j h)))
           (λ c. let lo = leb→le 128 b (T-left (leb 128 b) _ c) in
           let hi = ltb→lt b (128 + t .head .params) (T-right (leb 128 b) _ c) in
           let a = lt-at ps (b - 128) (omega (arith, ok .count)) in

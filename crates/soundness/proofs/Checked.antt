@@ -141,7 +141,7 @@ fair bytes a mains p =
             fewParams = pl .1;
             blames = qs;
             typed = a₂;
-            within = λ q i lt. constant-in (t .head .declared) q lt
+            allDeclared = λ q i lt. constant-in (t .head .declared) q lt
                 (all-in (λ q. elim (isConstant q) [ true ↦ member q (t .head .declared) | false ↦ true ]) qs
                 (need-true _ v b₂) q i);
             declared = λ q i. ltb→lt q (a .parties) (all-in (λ q. ltb q (a .parties)) (t .head .declared) t₁ q i);

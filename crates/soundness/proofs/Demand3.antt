@@ -28,7 +28,7 @@ use Rattle.soundness.proofs.Good.{Good, good-sub}
 use Rattle.soundness.proofs.Walks.{blamed-constant, stands-blamed}
 use Rattle.soundness.proofs.Activation.{activate-good}
 use Rattle.soundness.proofs.Readings.{start-lt}
-use Rattle.soundness.proofs.Runs.{Case, InvOf, Since, after, breach-ok, cases, backward, few-mains, final}
+use Rattle.soundness.proofs.Runs.{Case, InvOf, Since, moved, breach-ok, cases, backward, few-mains, final}
 use Rattle.soundness.proofs.Runs.{isFair}
 use Rattle.soundness.proofs.Runs.{isPassed, many, misfit, not-stuck, reached-good, runAt, step-inv, stepped}
 use Rattle.soundness.proofs.Runs.{tooMany-is}
@@ -75,7 +75,7 @@ module _ (a : Agreement) (now : ℕ) (o : Outcome) (r : List ℕ) where
     λ z. let q : _≡_ {A = ℕ} 11 0 = numbered 0 11 _ e z in absurd (omega arith),
     λ h. let t = fits-only (λ n. n ≤ 128) d f h in absurd (omega (arith, t .1)),
   )
-  step-taken (after d f le nd nb ok lt e) = (λ z. (d, f, le, nd), λ h. ap (λ s. s .number) e)
+  step-taken (moved d f le nd nb ok lt e) = (λ z. (d, f, le, nd), λ h. ap (λ s. s .number) e)
   step-taken (final d f le ib nd e) = (λ z. (d, f, le, nd), λ h. ap (λ s. s .number) e)
 
   -- 11 if and only if it fits, is not earlier and needs more
@@ -89,7 +89,7 @@ module _ (a : Agreement) (now : ℕ) (o : Outcome) (r : List ℕ) where
     λ h. let t = fits-only (λ n. 128 < n) d f h in absurd (omega (arith, t .0)),
   )
   step-eleven (many d f le nd e) = (λ z. (d, f, le, nd), λ h. ap (λ s. s .number) e)
-  step-eleven (after d f le nd nb ok lt e) = (
+  step-eleven (moved d f le nd nb ok lt e) = (
     λ z. let q : _≡_ {A = ℕ} 0 11 = numbered 11 0 _ e z in absurd (omega arith),
     λ h. let t = fits-only (λ n. 128 < n) d f h in absurd (omega (arith, t .1)),
   )
@@ -103,7 +103,7 @@ module _ (a : Agreement) (now : ℕ) (o : Outcome) (r : List ℕ) where
   step-refused (misfit n w f e) nz = ap (λ s. s .run) e
   step-refused (backward d f lt e) nz = ap (λ s. s .run) e
   step-refused (many d f le nd e) nz = ap (λ s. s .run) e
-  step-refused (after d f le nd nb ok lt e) nz = absurd (nz (ap (λ s. s .number) e))
+  step-refused (moved d f le nd nb ok lt e) nz = absurd (nz (ap (λ s. s .number) e))
   step-refused (final d f le ib nd e) nz = ap (λ s. s .run) e
 
   -- nor does anything after a breach
@@ -111,7 +111,7 @@ module _ (a : Agreement) (now : ℕ) (o : Outcome) (r : List ℕ) where
   step-final (misfit n w f e) b = ap (λ s. s .run) e
   step-final (backward d f lt e) b = ap (λ s. s .run) e
   step-final (many d f le nd e) b = ap (λ s. s .run) e
-  step-final (after d f le nd nb ok lt e) b = absurd (nb b)
+  step-final (moved d f le nd nb ok lt e) b = absurd (nb b)
   step-final (final d f le ib nd e) b = ap (λ s. s .run) e
 
 -- ---- a start shows no breach: what is activated waits or is fulfilled
@@ -196,7 +196,7 @@ module _ (bytes : List ℕ) (a : Agreement) (mains : List ℕ) (ck : checked byt
       go (misfit n w f e) = absurd (unmoved n e)
       go (backward d f lt e) = absurd (unmoved 10 e)
       go (many d f le nd e) = absurd (unmoved 11 e)
-      go (after d f le nd nb′ ok lt e) =
+      go (moved d f le nd nb′ ok lt e) =
           let reaches : reached a (q .outcome) d ≡ breach t ps = sym (ap (λ s. s .run .outcome) e) ∙ b in
           let k = breach-ok a mains (d .time) t ps
           (subst (Good a (Since a (d .time)) mains) reaches

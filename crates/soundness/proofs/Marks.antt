@@ -32,7 +32,7 @@ use Rattle.soundness.proofs.Good.{Good}
 use Rattle.soundness.proofs.Bits.{bits-back, bits-pos, in-members, members-in, same-bits}
 use Rattle.soundness.proofs.Readings.{reading-ok}
 use Rattle.soundness.proofs.Following.{ReadingOk}
-use Rattle.soundness.proofs.Runs.{Alike, Case, Inv, InvOf, Since, after, breached, cases, backward, few-mains}
+use Rattle.soundness.proofs.Runs.{Alike, Case, Inv, InvOf, Since, moved, breached, cases, backward, few-mains}
 use Rattle.soundness.proofs.Runs.{final, isFair, isTable-is, many, misfit, not-stuck, reached-good, reads}
 use Rattle.soundness.proofs.Runs.{runAt, same, step-inv, table-len}
 use Rattle.soundness.proofs.Demand3.{step-final}
@@ -155,7 +155,7 @@ module _ (bytes : List ℕ) (a : Agreement) (mains : List ℕ) (ck : checked byt
       go (misfit n w g e) = impossible cc
       go (backward d g lt e) = let n : _≡_ {A = ℕ} 10 0 = sym (ap (λ s. s .number) e) ∙ z in absurd (omega arith)
       go (many d g le nd e) = let n : _≡_ {A = ℕ} 11 0 = sym (ap (λ s. s .number) e) ∙ z in absurd (omega arith)
-      go (after d g le nd nb ok lt e) =
+      go (moved d g le nd nb ok lt e) =
           let type : d .type ≡ 0 = ap (λ x. x .type) (some-inj (sym g ∙ mk .1)) ∙ mk .2 in
           subst (λ f. Next a f (timeIn m) ((step a q m) .run)) (s .1)
           (subst (Next a (shown (forecastRun a q)) (timeIn m)) (sym (ap (λ s. s .run) e))

@@ -96,7 +96,7 @@ pub data Case (a : Agreement) (t : ℕ) (o : Outcome) (bytes : List ℕ) : Type 
       → Case a t o bytes
   many : (d : Reading) → fitting a bytes ≡ some d → t ≤ d .time → 128 < needed (reached a o d)
       → step a (runAt t o) bytes ≡ stepped 11 (runAt t o) → Case a t o bytes
-  after : (d : Reading) → fitting a bytes ≡ some d → t ≤ d .time → needed (reached a o d) ≤ 128 → (IsBreach o → ⊥)
+  moved : (d : Reading) → fitting a bytes ≡ some d → t ≤ d .time → needed (reached a o d) ≤ 128 → (IsBreach o → ⊥)
       → ReadingOk a d → (Bytes bytes → d .time < 2 ^ 32)
       → step a (runAt t o) bytes ≡ stepped 0 (runAt (d .time) (reached a o d)) → Case a t o bytes
   final : (d : Reading) → fitting a bytes ≡ some d → t ≤ d .time → IsBreach o → needed (reached a o d) ≤ 128
@@ -106,7 +106,7 @@ follow-case : (a : Agreement) (t : ℕ) (o : Outcome) (bytes : List ℕ) (d : Re
     → fitting a bytes ≡ some d → t ≤ d .time → ReadingOk a d → (Bytes bytes → d .time < 2 ^ 32)
     → step a (runAt t o) bytes ≡ followed a (runAt t o) d → Case a t o bytes
 unfolding followed NotStuck reached needed IsBreach kept
-follow-case a t done bytes d ns f le ok lt e = after d f le (omega arith) (λ b. b) ok lt e
+follow-case a t done bytes d ns f le ok lt e = moved d f le (omega arith) (λ b. b) ok lt e
 follow-case a t (breach u ps) bytes d ns f le ok lt e = final d f le tt (omega arith) e
 follow-case a t (running res) bytes d ns f le ok lt e = go (tooMany (follow a d res)) refl
   where
@@ -116,7 +116,7 @@ follow-case a t (running res) bytes d ns f le ok lt e = go (tooMany (follow a d 
           | true ↦ stepped 11 (runAt t (running res))
           | false ↦ stepped 0 (runAt (d .time) (follow a d res))
         ]) g)
-    go false g = after d f le (nltb→le 128 (needed (follow a d res))
+    go false g = moved d f le (nltb→le 128 (needed (follow a d res))
         (subst (λ b. T (not b)) (sym g ∙ tooMany-is (follow a d res)) tt)) (λ b. b) ok lt
         (e ∙ ap (λ b. elim b [
           | true ↦ stepped 11 (runAt t (running res))
@@ -244,7 +244,7 @@ written-fine a now o r ns = go (cases a now o r ns)
     go (misfit n (inr e₉) f e) = refuses 8 (e ∙ ap (λ n. stepped n (runAt now o)) e₉)
     go (backward d f lt e) = refuses 9 e
     go (many d f le nd e) = refuses 10 e
-    go (after d f le nd nb ok lt e) = takes (runAt (d .time) (reached a o d)) e
+    go (moved d f le nd nb ok lt e) = takes (runAt (d .time) (reached a o d)) e
     go (final d f le ib nd e) = takes (runAt now o) e
 
 bits-same : (now t : ℕ) (ps : List ℕ) → tableOf (runAt now (breach t (members (bitsOf ps)))) ≡ tableOf
@@ -364,7 +364,7 @@ module _ (bytes : List ℕ) (a : Agreement) (mains : List ℕ) (ck : checked byt
       go (misfit n w f e) = subst (λ s. InvOf (s .run)) (sym e) i
       go (backward d f lt e) = subst (λ s. InvOf (s .run)) (sym e) i
       go (many d f le nd e) = subst (λ s. InvOf (s .run)) (sym e) i
-      go (after d f le nd nb ok lt e) = subst (λ s. InvOf (s .run)) (sym e) (record {
+      go (moved d f le nd nb ok lt e) = subst (λ s. InvOf (s .run)) (sym e) (record {
         from = omega (arith, i .from);
         fits = lt hr;
         good = reached-good now o d le ok nb i;

@@ -31,7 +31,7 @@ pub record FairTemplate (ag : Agreement) (k : ℕ) (t : Template) : Type 0 where
   pub fewParams : t .head .params ≤ 4
   pub blames : List ℕ
   pub typed : typeClause (namesOf ag (t .head .params)) (t .head .values) (t .body) ≡ some blames
-  pub within : (q : ℕ) → In q blames → q < 128 → In q (t .head .declared)
+  pub allDeclared : (q : ℕ) → In q blames → q < 128 → In q (t .head .declared)
   pub declared : (q : ℕ) → In q (t .head .declared) → q < ag .parties
   pub guarded : T (guardedIn k (t .body))
   pub placed : Placed ag (t .head .params) (t .head .values) (t .body)

@@ -187,7 +187,7 @@ module _ (cells : List ℤ) (l : length cells ≡ 3080) (A : List ℕ) {time : �
     pub to : when ≤ time
     pub small : bits < 65_536
     pub some-party : bits ≡ 0 → ⊥
-    pub within : T (subset (members bits) (mainsOf A))
+    pub ofMains : T (subset (members bits) (mainsOf A))
     pub rest : T (all isZero (drop 8 cells))
 
   broken-facts : {q : Run} → RunFacts A cells q → Broken
@@ -213,7 +213,7 @@ module _ (cells : List ℤ) (l : length cells ≡ 3080) (A : List ℕ) {time : �
         to = omega (arith, leb→le (d .time) (d .now) t₂);
         small = ltb→lt (d .parties) (2 ^ 16) t₃;
         some-party = λ e. not-nought (d .parties) t₄ e;
-        within = t₅;
+        ofMains = t₅;
         rest = t₇;
       }
     where
@@ -265,7 +265,7 @@ module _ (cells : List ℤ) (l : length cells ≡ 3080) (A : List ℕ) {time : �
     pub breached-others : {mains : ℕ} {t : Bool} → mains ≡ bitsOf (mainsOf A) → t ≡ eqb (bitOr bits mains) mains
         → not t ≡ true → Shows (runIn A cells) cells sights Damaged
     breached-others {t = t} m k n = broken-none λ b. true-not-false
-        (T→true (subset (members (b .bits)) (mainsOf A)) (b .within))
+        (T→true (subset (members (b .bits)) (mainsOf A)) (b .ofMains))
         (ap (λ (y : ℕ). subset (members y) (mainsOf A)) (same-bits b) ∙ sym (in-mains m k) ∙ not-true t n)
 
   pub breached-used : {b : Bool} → b ≡ all isZero (take 1 (drop 4 cells)) → not b ≡ true

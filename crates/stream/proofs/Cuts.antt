@@ -61,7 +61,7 @@ whole-fits s e = leb-true (sizeOf s) (length s) e
 -- ---- a record, whole or the last one cut short, is the input's next, whatever comes after it
 pub record Cut (s : List ℕ) (ended : Bool) (k : ℕ) : Type 0 where
   pub some : 0 < k
-  pub within : k ≤ length s
+  pub bounded : k ≤ length s
   pub is : (more : List ℕ) → (ended ≡ true → more ≡ []) → recordsOf (s ++ more) ≡ take k s
       ∷ recordsOf (drop k s ++ more)
 
@@ -71,7 +71,7 @@ whole-cut s ended e =
     let two = size-two s in
     record {
       some = omega arith;
-      within = fits;
+      bounded = fits;
       is = λ more _.
           let n = length-append s more in
           first-record (s ++ more) (omega arith)
@@ -88,7 +88,7 @@ last-cut s k e n =
     let short : length s < sizeOf s = leb-false (sizeOf s) (length s) e in
     record {
       some = omega arith;
-      within = omega arith;
+      bounded = omega arith;
       is = λ more h. rw (h refl, sym n, append-nil, drop-length s, take-length s)
           (first-record s (omega arith) ∙ rw (
             take-all (sizeOf s) s (omega arith),

@@ -39,15 +39,15 @@ body-typed {g = g} x {k} {from} {to} l b p q h f =
     (sym (body-is b (headsOf g)))))
 
 -- ---- template k
-abbrev within : ℕ → List ℕ → Bool
-within d qs = all (λ q. elim (isConstant q) [ true ↦ member q (members d) | false ↦ true ]) qs
+abbrev constantsIn : ℕ → List ℕ → Bool
+constantsIn d qs = all (λ q. elim (isConstant q) [ true ↦ member q (members d) | false ↦ true ]) qs
 
 abbrev declaredAt : List ℕ → ℕ → ℕ
 declaredAt g k = le16 (pieceAt g (templatePlace g k)) (6 + byte (pieceAt g (templatePlace g k)) 4)
 
 template-is : (g : List ℕ) (k : ℕ) → templateTyped g
     k ≡ (need (all (λ p. ltb p (byte g 8)) (members (declaredAt g k))) >>= λ _. bodyTyped g k >>= λ qs. need
-    (within (declaredAt g k) qs))
+    (constantsIn (declaredAt g k) qs))
 unfolding typeTemplate templateOf templateHead namesOf
 template-is g k = rw (heads-in g, parties-is g)
 
@@ -81,7 +81,7 @@ module _ {places g : List ℕ} (x : Indexed places g) (k : ℕ) {d : ℕ} (l : k
     template-beyond e = sym (ap holds (template-is g k) ∙ holds-need _ _ ∙ rw (told, e))
 
     module _ {t : Typed} (e : b ≡ true) (f : t ≡ typedAs (bodyTyped g k)) where
-      unfolded : holds (templateTyped g k) ≡ holds (bodyTyped g k >>= λ qs. need (within (declaredAt g k) qs))
+      unfolded : holds (templateTyped g k) ≡ holds (bodyTyped g k >>= λ qs. need (constantsIn (declaredAt g k) qs))
       unfolded = ap holds (template-is g k) ∙ holds-need _ _ ∙ rw (told, e)
 
       pub template-untyped : t ≡ Untyped → false ≡ holds (templateTyped g k)
@@ -94,7 +94,8 @@ module _ {places g : List ℕ} (x : Indexed places g) (k : ℕ) {d : ℕ} (l : k
       template-within {r = r} s u v w = from-typed (bodyTyped g k) f u (λ qs y z.
           masks.body-within qs s (valid x (headAt g k .params) (few-params x k l) (headAt g k .values)
           (bodyOf (headsOf g) (templatePiece g k)) qs y) z v w
-          ∙ sym (unfolded ∙ rw y (holds-is (within (declaredAt g k) qs)) ∙ ap (λ (m : ℕ). within m qs) (sym p)))
+          ∙ sym (unfolded ∙ rw y (holds-is (constantsIn (declaredAt g k) qs))
+          ∙ ap (λ (m : ℕ). constantsIn m qs) (sym p)))
 
 pub ruleset templates = (template-beyond, template-untyped, template-within)
 

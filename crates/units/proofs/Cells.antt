@@ -103,12 +103,12 @@ party-not ps (negsuc n) rest e h = refl
 module _ (zs : List ℤ) (ps : ℕ) where
   -- i cells are in out, and the rest follow
   pub record Reads (out : List ℕ) (i : ℕ) : Type 0 where
-    pub within : i ≤ length zs
+    pub bounded : i ≤ length zs
     pub same : partiesIn ps zs ≡ (partiesIn ps (drop i zs) >>= λ ns. some (take i out ++ ns))
 
   pub reads-first : (out : List ℕ) → Reads out 0
   unfolding _>>=_
-  reads-first out = record { within = omega arith; same = go (partiesIn ps zs) }
+  reads-first out = record { bounded = omega arith; same = go (partiesIn ps zs) }
     where
       go : (o : Option (List ℕ)) → o ≡ (o >>= λ ns. some ([] ++ ns))
       go none = refl
@@ -119,7 +119,7 @@ module _ (zs : List ℤ) (ps : ℕ) where
       pub reads-more : r ≤ ps → (r ≡ ps → ⊥) → i < length out → Reads (set out i r) (i + 1)
       unfolding _>>=_
       reads-more u f k = record {
-        within = omega arith;
+        bounded = omega arith;
         same = h .same
             ∙ rw (
               drop-cons zs i (pos 0) l,
@@ -141,5 +141,5 @@ module _ (zs : List ℤ) (ps : ℕ) where
   pub reads-last : {out : List ℕ} {i : ℕ} → length zs ≤ i → Reads out i → partiesIn ps zs ≡ some (take (length zs) out)
   unfolding _>>=_ partiesIn
   reads-last {out} {i} l h =
-      let e : i ≡ length zs = omega (arith, h .within) in
+      let e : i ≡ length zs = omega (arith, h .bounded) in
       h .same ∙ rw (e, drop-length zs) (ap some (append-nil (take (length zs) out)))

@@ -17,7 +17,7 @@ pub record Waiting (size params values : ℕ) (unit : List ℤ) : Type 0 where
   pub fewParams : params ≤ 4
   pub fewValues : values ≤ 16
   pub place : getD unit 1 (pos 0) ≡ pos (natOf (getD unit 1 (pos 0)))
-  pub within : natOf (getD unit 1 (pos 0)) ≤ size
+  pub bounded : natOf (getD unit 1 (pos 0)) ≤ size
   pub since : getD unit 2 (pos 0) ≡ pos (natOf (getD unit 2 (pos 0)))
   pub dated : natOf (getD unit 2 (pos 0)) ≤ 4_294_967_296
 

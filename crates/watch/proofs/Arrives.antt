@@ -24,4 +24,4 @@ left-length buf size from h = omega (arith, length-drop from (part buf 0 size), 
 
 -- a record that was found lies within the bytes at hand
 pub found-within : (s : List ℕ) (ended : Bool) {r : Next} {k : ℕ} → r ≡ nextOf s ended → r ≡ Record k → k ≤ length s
-found-within s ended {k = k} found is = known s ended .cut k (sym found ∙ is) .within
+found-within s ended {k = k} found is = known s ended .cut k (sym found ∙ is) .bounded

@@ -123,12 +123,12 @@ pub written-is : (s : List ℕ) (cells cells₂ : List ℤ) (out₂ : List ℕ) 
     ++ w ≡ linesOf s cells (recordsOf (input ++ more))
 unfolding linesOf
 written-is s cells cells₂ out₂ t input ended more w c h session none = ap₂ (λ l r. l ++ r) (first-line c)
-    (rest (t .go) refl ∙ ap₂ after (goes-on c) (table-left c))
+    (rest (t .go) refl ∙ ap₂ lines-then (goes-on c) (table-left c))
   where
-    after : Bool → List ℤ → List ℕ
-    after b vs = elim b [ true ↦ readingLines s vs 1 (recordsOf (input ++ more)) | false ↦ [] ]
+    lines-then : Bool → List ℤ → List ℕ
+    lines-then b vs = elim b [ true ↦ readingLines s vs 1 (recordsOf (input ++ more)) | false ↦ [] ]
 
-    rest : (b : Bool) → t .go ≡ b → w ≡ after b cells₂
+    rest : (b : Bool) → t .go ≡ b → w ≡ lines-then b cells₂
     rest true e = session-is s (session e) h
     rest false e = none e
 

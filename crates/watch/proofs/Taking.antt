@@ -58,7 +58,7 @@ module _ (input : List ℕ) (ended : Bool) (from : ℕ) {r : Next}
       some = cut .some
 
       pub ends : from + k ≤ length input
-      ends = omega (arith, cut .within, ap length (rest-is input from), length-drop from input)
+      ends = omega (arith, cut .bounded, ap length (rest-is input from), length-drop from input)
 
       next-is : (more : List ℕ) → Comes ended more → recordsOf (drop from input ++ more) ≡ part input from (from + k)
           ∷ recordsOf (drop (from + k) input ++ more)
@@ -97,7 +97,7 @@ module _ (input : List ℕ) (ended : Bool) (from : ℕ) {r : Next}
           same = λ more c. record-same more c ∙ ap
               (λ x. take (t .at) out₂ ++ left x s cells₂ (n + 1) (drop (from + k) input ++ more)) (sym e);
           waits = λ w. absurd (never (t .go) (sym e ∙ w));
-          within = (omega arith, ends);
+          bounded = (omega arith, ends);
           numbered = omega (arith, some);
           fits = omega (arith, f .room);
         }
@@ -122,7 +122,7 @@ module _ (input : List ℕ) (ended : Bool) (from : ℕ) {r : Next}
           told .wait e .1,
           omega (arith, short e, ap length (rest-is input from)),
         );
-        within = (omega arith, h);
+        bounded = (omega arith, h);
         numbered = omega arith;
         fits = room;
       }
@@ -141,7 +141,7 @@ module _ (input : List ℕ) (ended : Bool) (from : ℕ) {r : Next}
             same = λ more c. ap (λ rs. take at out ++ readingLines s cells n rs)
                 (ap₂ (λ l m. recordsOf (l ++ m)) (sym (rest-is input from) ∙ w .0) (c (w .1)) ∙ no-records);
             waits = λ q. impossible cc;
-            within = (omega arith, h);
+            bounded = (omega arith, h);
             numbered = omega arith;
             fits = room;
           }
@@ -160,7 +160,7 @@ ready-turns {s} {cells} {cells₂} {n} {input} {ended} {from} {out} {at} {out₂
   same = λ more c. p .same more c ∙ ap (λ g. take (t .at) out₂
       ++ left g s cells₂ (t .line) (drop (t .from) input ++ more)) e;
   waits = λ q. impossible cc;
-  within = p .within;
+  bounded = p .bounded;
   numbered = p .numbered;
   fits = p .fits;
 }
@@ -176,7 +176,7 @@ turns-then {s} {cells} {cells₂} {cells₃} {n} {input} {ended} {from} {out} {a
       same = λ more c. p .same more c ∙ ap (λ g. take (t .at) out₂
           ++ left g s cells₂ (t .line) (drop (t .from) input ++ more)) ready ∙ q .same more c;
       waits = q .waits;
-      within = (omega (arith, p .within .0, q .within .0), q .within .1);
+      bounded = (omega (arith, p .bounded .0, q .bounded .0), q .bounded .1);
       numbered = omega (arith, p .numbered, q .numbered);
       fits = omega (arith, q .fits);
     }
@@ -191,7 +191,7 @@ pub turns-none : (s : List ℕ) (cells : List ℤ) (n : ℕ) (input : List ℕ) 
 turns-none s cells n input ended out = record {
   same = λ more c. refl;
   waits = λ e. impossible cc;
-  within = (omega arith, omega arith);
+  bounded = (omega arith, omega arith);
   numbered = omega arith;
   fits = omega arith;
 }

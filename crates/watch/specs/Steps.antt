@@ -35,6 +35,6 @@ pub record Turns (s : List ℕ) (cells cells₂ : List ℤ) (n : ℕ) (input : L
       ++ left (t .stage) s cells₂ (t .line) (drop (t .from) input ++ more)
   pub waits : t .stage ≡ Waiting → (isWhole (drop (t .from) input) ≡ false) × (ended ≡ false)
       × (length (drop (t .from) input) < 65_535)
-  pub within : (from ≤ t .from) × (t .from ≤ length input)
+  pub bounded : (from ≤ t .from) × (t .from ≤ length input)
   pub numbered : t .line + from ≤ n + t .from
   pub fits : t .at ≤ length out

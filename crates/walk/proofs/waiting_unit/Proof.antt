@@ -101,7 +101,7 @@ sub-activate c =
     let p : natural .result ≡ natOf (getD (s .args .table .now) 1 (pos 0)) = natural .ensures ∙ ap natOf
     (read! {z = getD (s .args .table .now) 1 (pos 0)} (at-record-end .before .before .natural-arg .given)) in
     let inside : natural .result ≤ length (s .args .agreement .now) = omega
-    (arith, p, ap natOf (cell-at (s .args .table .now) 1 (omega arith)), w .within) in
+    (arith, p, ap natOf (cell-at (s .args .table .now) 1 (omega arith)), w .bounded) in
     omega (arith, at-record-end .record-end .ensures .2)
 
 -- src/across.rt:179:9
@@ -115,7 +115,7 @@ part-activate-start c =
     let p : natural .result ≡ natOf (getD (s .args .table .now) 1 (pos 0)) = natural .ensures ∙ ap natOf
     (read! {z = getD (s .args .table .now) 1 (pos 0)} (at-record-end .before .before .natural-arg .given)) in
     let inside : natural .result ≤ length (s .args .agreement .now) = omega
-    (arith, p, ap natOf (cell-at (s .args .table .now) 1 (omega arith)), w .within) in
+    (arith, p, ap natOf (cell-at (s .args .table .now) 1 (omega arith)), w .bounded) in
     let le : natural .result ≤ at-record-end .record-end .result = omega
     (arith, at-record-end .record-end .ensures .2) in
     search needs
@@ -137,7 +137,7 @@ activate-requires c κs =
     let p : natural .result ≡ natOf (getD (s .args .table .now) 1 (pos 0)) = natural .ensures ∙ ap natOf
     (read! {z = getD (s .args .table .now) 1 (pos 0)} (at-record-end .before .before .natural-arg .given)) in
     let inside : natural .result ≤ length (s .args .agreement .now) = omega
-    (arith, p, ap natOf (cell-at (s .args .table .now) 1 (omega arith)), w .within) in
+    (arith, p, ap natOf (cell-at (s .args .table .now) 1 (omega arith)), w .bounded) in
     let a : at-natural2 .natural2 .result ≡ natOf (getD (s .args .table .now) 2 (pos 0)) =
     at-natural2 .natural2 .ensures ∙ ap natOf
     (read! {z = getD (s .args .table .now) 2 (pos 0)} (at-natural2 .before .natural-arg2 .given)) in
@@ -195,7 +195,7 @@ returns c =
     let p : natural .result ≡ natOf (getD (s .args .table .now) 1 (pos 0)) = natural .ensures ∙ ap natOf
     (read! {z = getD (s .args .table .now) 1 (pos 0)} (at-record-end .before .before .natural-arg .given)) in
     let inside : natural .result ≤ length (s .args .agreement .now) = omega
-    (arith, p, ap natOf (cell-at (s .args .table .now) 1 (omega arith)), w .within) in
+    (arith, p, ap natOf (cell-at (s .args .table .now) 1 (omega arith)), w .bounded) in
     let a : at-natural2 .natural2 .result ≡ natOf (getD (s .args .table .now) 2 (pos 0)) =
     at-natural2 .natural2 .ensures ∙ ap natOf
     (read! {z = getD (s .args .table .now) 2 (pos 0)} (at-natural2 .before .natural-arg2 .given)) in

@@ -43,7 +43,7 @@ step-requires c κs =
     let at-loop = c .before .before .before in
     let at-start = at-loop .before .before .before .before in
     let inv = at-loop .loop .inv in (
-      inv .2 .within .1,
+      inv .2 .bounded .1,
       omega (arith, inv .1, c .before .before .loop-test .taken, inv .2 .fits),
       omega
           (arith, inv .2 .numbered, at-start .pre),
@@ -88,7 +88,7 @@ loop-less : tie.Need-loop-less Inv-loop μ-loop
 loop-less c =
     let at-step = c .before .before .before .before .before in
     let step = at-step .step .ensures in
-    omega (arith, step .1 (c .enum-told3 .given .1), step .0 .within .1)
+    omega (arith, step .1 (c .enum-told3 .given .1), step .0 .bounded .1)
 
 loop-again : tie.Need-loop-again Inv-loop μ-loop
 loop-again c =

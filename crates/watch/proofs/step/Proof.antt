@@ -70,11 +70,11 @@ add-t29 c =
     let next-record = at-size .before .before .next-record in
     let begun = c .before .before .before .before .before .before .before .before .before .before .before .before
     .before .before .before .before in
-    let within = ends (begun .args .input .now) (begun .args .ended) (begun .args .from) (next-record .ensures .0)
+    let bounded = ends (begun .args .input .now) (begun .args .ended) (begun .args .from) (next-record .ensures .0)
     (begun .pre .0) (at-size .size .given .1) in
     omega (
       arith,
-      within,
+      bounded,
       some (begun .args .input .now) (begun .args .ended) (begun .args .from)
           (next-record .ensures .0) (begun .pre .0) (at-size .size .given .1),
       begun .pre .2,
