@@ -13,6 +13,7 @@ use Rattle.csl.specs.Numbers.{plus}
 use Rattle.csl.specs.Syntax.{number, truth, party, arithmetic, conj, less, equal, Expr, numberLit, truthLit}
 use Rattle.csl.specs.Syntax.{partyLit, binary, badExpr, Op, Join, and, or, Wait, Clause, fulfilled, obligation}
 use Rattle.csl.specs.Syntax.{choice, if, join, instance, badClause, Template, Agreement}
+use Rattle.csl.specs.Bytes.{byte}
 use Rattle.csl.specs.Parties.{bitsOf}
 use Rattle.csl.specs.Decode.{countsOk, sized}
 use Rattle.csl.specs.Check.{CheckResult, refused, accepted, checked, checkDecoded, checkTyped, checkOf, mainsOf}
@@ -20,8 +21,10 @@ use Rattle.csl.specs.Values.{Val, num, bool, who, valuesOf, eval}
 use Rattle.csl.specs.Outcomes.{Sight, Sort, anObligation, aChoice, Residue, unit, both, Outcome, done, breach}
 use Rattle.csl.specs.Outcomes.{running, stuck, joined}
 use Rattle.csl.specs.Run.{Run, Stepped, started, step}
+use Rattle.csl.specs.Places.{clauseAt}
 use Rattle.csl.specs.Rules.{activate}
-use Rattle.csl.specs.Table.{cellsOf, isSort, tableOf, runOf}
+use Rattle.csl.specs.Widths.{narrowAll}
+use Rattle.csl.specs.Table.{addUnit, cellsOf, isSort, tableOf, runOf}
 use Rattle.csl.specs.Entries.{refusedForecast, noForecast, shown, startOf, readingOf, forecastOf, forecastRun}
 use Rattle.csl.specs.Build.{le2, le4, recordOf, lit, truthOf, yes′, partyOf, var, opposite, op, nothing}
 use Rattle.csl.specs.Build.{owesTyped, owes, simply, may, mayTyped, ifs, all′, any′, inst, readingTypeOf}
@@ -339,7 +342,7 @@ readings =
     (pos 1) (pos 2) ∷ mark 4_294_967_295 ∷ [])
     (refused′ 0 100 ∷ refused′ 10 100 ∷ refused′ 0 100 ∷ refused′ 0 120 ∷ refused′ 0 120 ∷ refused′ 10 120
     ∷ refused′ 0 4_294_967_295 ∷ [])
-    ∷ obeys "8, 9 and 10 also leads a breach, and nothing else" (main (simply 0 (pos 60)))
+    ∷ obeys "8, 9 and 10 also after a breach, and nothing else" (main (simply 0 (pos 60)))
     (mark 170 ∷ [] ∷ mark 161 ∷ reading 171 (pos 1_000_000_001) ∷ mark 180 ∷ mark 170 ∷ []) (
     leads 0 100 (owed 17 100) (by 160 0)
     ∷ leads 0 170 (by 160 0) (by 160 0) ∷ leads 8 170 (by 160 0) (by 160 0) ∷ leads 10 170 (by 160 0) (by 160 0)
@@ -360,6 +363,7 @@ records =
     ∷ refuses "kind 272 for a clause" 2 (main (recordOf 272 []))
     ∷ refuses "kind 31 for an expression" 2 (main (asking (recordOf 31 (1 ∷ []))))
     ∷ refuses "kind 44 for an expression" 2 (main (asking (recordOf 44 (one ++ one))))
+    ∷ refuses "kind 44 for a number" 2 (main (afterIs (recordOf 44 (le4 1))))
     ∷ refuses "not kind 1" 2 (recordOf 2 (le4 100 ++ (2 ∷ 1 ∷ 0 ∷ (aNumber ++ nothing))))
     ∷ refuses "not kind 2, the second reading type" 2
     (counting 2 2 0 (aNumber ++ (recordOf 3 (1 ∷ 1 ∷ []) ++ nothing)))
@@ -408,7 +412,7 @@ records =
     ∷ refuses "a byte left behind the main clause" 2 (main (nothing ++ (0 ∷ [])))
     ∷ refuses "no first operand" 2 (main (asking (op 41 nothing yes′)))
     ∷ refuses "no `where`" 2 (main (asking nothing))
-    ∷ refuses "no `leads`" 2 (main (afterIs nothing))
+    ∷ refuses "no `after`" 2 (main (afterIs nothing))
     ∷ refuses "no `within`" 2 (main (withinIs nothing))
     ∷ refuses "no `where` of a choice" 2 (main (mayTyped 1 nothing one one nothing nothing))
     ∷ refuses "no `then` of a choice" 2 (main (chooses one))
@@ -453,11 +457,11 @@ types =
     ∷ refuses "a party = true" 3 (main (asking (op 43 (partyOf 0) yes′)))
     ∷ refuses "not 1" 3 (main (asking (opposite one)))
     ∷ refuses "`where` a sum" 3 (main (asking (op 37 one one)))
-    ∷ refuses "`leads` a truth" 3 (main (afterIs (op 41 yes′ yes′)))
+    ∷ refuses "`after` a truth" 3 (main (afterIs (op 41 yes′ yes′)))
     ∷ refuses "`within` a comparison" 3 (main (withinIs (op 42 one one)))
     ∷ refuses "`within` an equation" 3 (main (withinIs (op 43 one one)))
     ∷ refuses "`within` a not" 3 (main (withinIs (opposite yes′)))
-    ∷ refuses "`leads` of a choice" 3 (main (mayTyped 1 yes′ yes′ one nothing nothing))
+    ∷ refuses "`after` of a choice" 3 (main (mayTyped 1 yes′ yes′ one nothing nothing))
     ∷ refuses "an if's condition" 3 (main (ifs one nothing nothing))
     ∷ refuses "an if's first side" 3 (main (ifs yes′ (asking one) nothing))
     ∷ refuses "an if's second side" 3 (main (ifs yes′ nothing (asking one)))
@@ -475,7 +479,7 @@ types =
     ∷ refuses "truth 2" 3 (main (asking (truthOf 2)))
     ∷ refuses "a party at the count" 3 (main (asking (op 43 (partyOf 0) (partyOf 2))))
     ∷ refuses "`where` sees one value" 3 (main (asking (is (var 1) (pos 0))))
-    ∷ refuses "`leads` sees no reading" 3 (main (afterIs (var 0)))
+    ∷ refuses "`after` sees no reading" 3 (main (afterIs (var 0)))
     ∷ refuses "`within` sees no reading" 3 (main (withinIs (var 0)))
     ∷ refuses "an else sees no reading" 3 (main (otherwise (withinIs (var 0))))
     ∷ accepts "a `then` sees a value and the remaining time" 1
@@ -771,7 +775,7 @@ tables =
     ∷ alter 1 0 (pos 17) ∷ alter 1 0 (pos 19) ∷ [])
     ∷ rejects "7: a place that is no waiting clause"
     (alter 4 1 (pos 0) ∷ alter 4 1 (negsuc 0) ∷ alter 4 1 (pos 68) ∷ alter 4 1 (pos 210) ∷ [])
-    ∷ rejects "7: an A before the start or leads the last reading"
+    ∷ rejects "7: an A before the start or after the last reading"
     (alter 4 2 (pos 99) ∷ alter 4 2 (pos 111) ∷ alter 4 2 (negsuc 0) ∷ [])
     ∷ rejects "7: a parameter" (short 110 (lent 1 3 ∷ []) ∷ alter 3 4 (negsuc 0) ∷ alter 3 5 (pos 1) ∷ alter 3 7
     (pos 1) ∷ alter 4 3 (pos 1) ∷ [])
@@ -836,9 +840,9 @@ op′ o a b = evaluates (eval [] (binary o a b))
 unfoldable pub still : Outcome → Run
 still o = record { lastTime = 5; outcome = o }
 
-unfoldable pub tooFew : Option (List Val × List ℤ) → Bool
-tooFew none = true
-tooFew (some vs) = false
+unfoldable pub absent : {A : Type 0} → Option A → Bool
+absent none = true
+absent (some x) = false
 
 unfoldable pub unreached : List Trial
 unreached =
@@ -857,10 +861,15 @@ unreached =
     ∷ evaluates (eval [] badExpr) ∷ evaluates (eval [] (truthLit 2)) ∷ []) (replicate 12 (evaluates none))
     ∷ shows "a stuck run" (gives 0 (tableOf (still stuck)) ∷ forecasts (shown stuck) ∷ forecasts
     (shown (running left)) ∷ becomes (forecastRun (laddered [] fulfilled) (still stuck)) ∷ steps
-    (step (laddered [] fulfilled) (still stuck) (mark 9)) done ∷ [])
+    (step (laddered [] fulfilled) (still stuck) (mark 9)) done ∷ steps (started (laddered [] badClause)) done ∷ [])
     (gives 0 [] ∷ forecasts noForecast ∷ forecasts noForecast ∷ becomes stuck ∷ steps
-    (record { number = 0; run = still stuck }) done ∷ [])
-    ∷ shows "fewer values than types" (holds (tooFew (valuesOf 2 (number ∷ []) [])) ∷ []) (holds true ∷ [])
+    (record { number = 0; run = still stuck }) done ∷ leads 0 100 stuck done ∷ [])
+    ∷ shows "fewer values than types" (holds (absent (valuesOf 2 (number ∷ []) [])) ∷ []) (holds true ∷ [])
+    ∷ shows "a unit without cells" (holds (absent (addUnit (laddered [] fulfilled) [] [])) ∷ []) (holds true ∷ [])
+    ∷ shows "a byte that is not there" (says (byte [] 0) 0 ∷ []) (says 0 0 ∷ [])
+    ∷ shows "a place where nothing stands" (holds (absent (clauseAt (laddered [] badClause) 99_999)) ∷ [])
+    (holds true ∷ [])
+    ∷ shows "the width of no template" (holds (narrowAll (laddered [] (calls 99))) ∷ []) (holds true ∷ [])
     ∷ shows "only what waits has a sort"
     (map (λ c. holds (isSort anObligation c))
     (fulfilled ∷ if′ fulfilled fulfilled ∷ both′ fulfilled fulfilled ∷ calls 0 ∷ badClause ∷ []))
@@ -878,5 +887,5 @@ unfolding harness says accepts refuses mains five refusesAll stepsOf runSeen obe
     values refused′ readings records named inSight types guards ladder wide calls both′ body ladder′ wide′ waiting
     next′ either′ if′ widest tooWide laddered narrow over widths mixed lent offered units′ short good ended broke full
     set alter readBy rejects running′ lent′ residue sound ends sights alone alone′ inPlace tables begun two crowd
-    entries bare asked op′ still tooFew unreached further
+    entries bare asked op′ still absent unreached further
 further-pass = refl
