@@ -23,6 +23,7 @@ use crate::sites::then_event;
 use crate::sites::then_site;
 use octets::byte;
 use records::IN_SIGHT;
+use records::TEMPLATES_AT;
 use records::body_span;
 use records::param_count;
 use records::value_count;
@@ -139,7 +140,7 @@ fn act(
             values: n,
         } => {
             let first = then_event(event);
-            let then = then_site(site, x, event.time, byte(agreement, 10));
+            let then = then_site(site, x, event.time, byte(agreement, TEMPLATES_AT));
             let us = &cells[..n];
             activate(agreement, places, first, rs, then, &s[x..y], ps, us, out)
         }

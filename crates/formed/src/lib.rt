@@ -16,6 +16,7 @@ use octets::kind;
 use octets::record_end;
 use records::BODY_DEPTH;
 use records::MAIN_DEPTH;
+use records::TEMPLATES_AT;
 use records::body_span;
 use records::fill_index;
 use records::first_clause;
@@ -100,7 +101,7 @@ fn instance_formed(agreement: &[u8], places: &[usize], s: &[u8], depth: usize) -
         return false;
     }
     let k = byte(s, 4);
-    if k >= byte(agreement, 10) {
+    if k >= byte(agreement, TEMPLATES_AT) {
         return false;
     }
     let n = value_count(agreement, places, k);
@@ -156,7 +157,7 @@ fn bodies_formed(agreement: &[u8], places: &[usize]) -> bool
     requires { ⌜ Indexed (now places) (now agreement) ⌝ }
     ensures { λ r. ⌜ r ≡ bodiesWhole (now (agreement .entry)) ⌝ }
 {
-    for k in 0..byte(agreement, 10) {
+    for k in 0..byte(agreement, TEMPLATES_AT) {
         if !body_formed(agreement, places, k) {
             return false;
         }

@@ -16,9 +16,16 @@ use octets::kind;
 use octets::record_end;
 use records::BODY_DEPTH;
 use records::MAIN_DEPTH;
+use records::TEMPLATES_AT;
 use records::body_span;
 use records::first_clause;
 use records::main_place;
+
+// The widest that a clause may be.
+const WIDEST: usize = 256;
+
+// What is wider counts as this.
+const TOO_WIDE: usize = WIDEST + 1;
 
 // In template n's body an unguarded instance names only a template below n; a `then` is guarded.
 fn guarded_in(s: &[u8], n: usize, depth: usize) -> bool
@@ -47,18 +54,22 @@ fn width_of(widths: &[usize], k: usize) -> usize
     ensures { λ r. ⌜ (r ≡ min (getD (now (widths .entry)) k 0) 257) × (r ≤ 257) ⌝ }
 {
     if k < widths.len() {
-        if widths[k] < 257 { widths[k] } else { 257 }
+        if widths[k] < TOO_WIDE {
+            widths[k]
+        } else {
+            TOO_WIDE
+        }
     } else {
         0
     }
 }
 
-// One clause and those on its sides; what is wider than 256 counts as 257.
+// One clause and those on its sides, counted up to what is too wide.
 fn with_sides(a: usize, b: usize) -> usize
     requires { ⌜ (a ≤ 257) × (b ≤ 257) ⌝ }
     ensures { λ r. ⌜ (r ≡ min (1 + a + b) 257) × (r ≤ 257) ⌝ }
 {
-    if a + b < 256 { 1 + a + b } else { 257 }
+    if a + b < WIDEST { 1 + a + b } else { TOO_WIDE }
 }
 
 // The counted width of a clause: it ends at each `then`.
@@ -84,7 +95,7 @@ fn width(s: &[u8], widths: &[usize], depth: usize) -> usize
     }
 }
 
-// The same, or 257 where some inner `then` is wider than 256: such a side makes the whole too wide.
+// The same, or too wide where some inner `then` is: such a side makes the whole too wide.
 fn strict_width(s: &[u8], widths: &[usize], depth: usize) -> usize
     requires { ⌜ Formed depth (now s) ⌝ }
     ensures { λ r. ⌜ Answers (strictWidth (now (widths .entry))) depth (now (s .entry)) r × (r ≤ 257) ⌝ }
@@ -93,19 +104,19 @@ fn strict_width(s: &[u8], widths: &[usize], depth: usize) -> usize
     match k {
         17 => {
             let c = first_clause(s, k);
-            if strict_width(&s[c..], widths, depth - 1) <= 256 {
+            if strict_width(&s[c..], widths, depth - 1) <= WIDEST {
                 1
             } else {
-                257
+                TOO_WIDE
             }
         }
         18 => {
             let c = first_clause(s, k);
             let f = record_end(s, c);
-            if strict_width(&s[c..f], widths, depth - 1) <= 256 {
+            if strict_width(&s[c..f], widths, depth - 1) <= WIDEST {
                 with_sides(0, strict_width(&s[f..], widths, depth - 1))
             } else {
-                257
+                TOO_WIDE
             }
         }
         19..=21 => {
@@ -124,7 +135,7 @@ fn all_narrow(s: &[u8], widths: &[usize], depth: usize) -> bool
     requires { ⌜ Formed depth (now s) ⌝ }
     ensures { λ r. ⌜ Answers (allNarrow (now (widths .entry))) depth (now (s .entry)) r ⌝ }
 {
-    strict_width(s, widths, depth) <= 256
+    strict_width(s, widths, depth) <= WIDEST
 }
 
 fn body_guarded(agreement: &[u8], places: &[usize], k: usize) -> bool
@@ -144,7 +155,7 @@ pub fn guarded(agreement: &[u8], places: &[usize]) -> bool
     requires { ⌜ wellFormed (now agreement) ≡ true ⌝ }
     ensures { λ r. ⌜ r ≡ guardedFrom 0 (agreementOf (now (agreement .entry)) .templates) ⌝ }
 {
-    for k in 0..byte(agreement, 10) {
+    for k in 0..byte(agreement, TEMPLATES_AT) {
         if !body_guarded(agreement, places, k) {
             return false;
         }
@@ -170,7 +181,7 @@ fn fill_widths(agreement: &[u8], places: &[usize], widths: &mut [usize])
     requires { ⌜ now widths ≡ replicate 32 0 ⌝ }
     ensures { λ _. ⌜ AsWide (widthsFrom [] (agreementOf (now (agreement .entry)) .templates)) (now (widths .exit)) ⌝ }
 {
-    for k in 0..byte(agreement, 10) {
+    for k in 0..byte(agreement, TEMPLATES_AT) {
         let w = body_width(agreement, places, widths, k);
         widths[k] = w;
     }
@@ -192,7 +203,7 @@ fn bodies_narrow(agreement: &[u8], places: &[usize], widths: &[usize]) -> bool
     requires { ⌜ wellFormed (now agreement) ≡ true ⌝ }
     ensures { λ r. ⌜ r ≡ all (λ t. allNarrow (now (widths .entry)) (t .body)) (agreementOf (now (agreement .entry)) .templates) ⌝ }
 {
-    for k in 0..byte(agreement, 10) {
+    for k in 0..byte(agreement, TEMPLATES_AT) {
         if !body_narrow(agreement, places, widths, k) {
             return false;
         }

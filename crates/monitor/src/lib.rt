@@ -16,7 +16,7 @@ use cells::MOST_UNITS;
 use cells::TABLE_CELLS;
 use octets::unsigned32;
 use readings::Taken as Fitting;
-use reduction::START;
+use records::START_AT;
 use reduction::advance;
 use residues::Reduced;
 use state::State;
@@ -163,7 +163,7 @@ fn begin(agreement: &[u8], places: &[usize], table: &mut [i64]) -> Started
     let none = [0i64; 1];
     let event = Event {
         step: Step::Activate,
-        time: unsigned32(agreement, START),
+        time: unsigned32(agreement, START_AT),
         tag: 0,
     };
     if !advance(agreement, places, &sights, table, 0, event, &none) {

@@ -13,6 +13,7 @@ ghost use Rattle.csl.specs.Check.{Accepted};
 use octets::byte;
 use octets::kind;
 use octets::record_end;
+use records::TEMPLATES_AT;
 use records::append;
 use records::body_span;
 use records::first_clause;
@@ -234,7 +235,7 @@ pub fn locate(agreement: &[u8], places: &[usize], place: usize, types: &mut [u8]
     if m <= place {
         return descend(agreement, places, &agreement[m..], m, place, 0, 0, types);
     }
-    for k in 0..byte(agreement, 10) {
+    for k in 0..byte(agreement, TEMPLATES_AT) {
         let a = template_place(agreement, places, k);
         if place < record_end(agreement, a) {
             return in_template(agreement, places, k, place, types);

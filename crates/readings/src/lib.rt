@@ -12,6 +12,8 @@ use octets::kind;
 use octets::record_end;
 use octets::signed32;
 use octets::unsigned32;
+use records::PARTIES_AT;
+use records::READINGS_AT;
 use records::reading_place;
 use records::values::values_ok;
 
@@ -99,7 +101,7 @@ fn is_typed(agreement: &[u8], places: &[usize], ty: usize, n: usize, values: &[i
     if ty == 0 {
         return n == 0;
     }
-    if byte(agreement, 9) < ty {
+    if byte(agreement, READINGS_AT) < ty {
         return false;
     }
     let a = reading_place(agreement, places, ty - 1);
@@ -107,7 +109,7 @@ fn is_typed(agreement: &[u8], places: &[usize], ty: usize, n: usize, values: &[i
     if byte(&agreement[a..e], 4) != n {
         return false;
     }
-    let parties = byte(agreement, 8);
+    let parties = byte(agreement, PARTIES_AT);
     let from = a + 5;
     values_ok(&agreement[from..e], &values[..n], parties)
 }

@@ -21,6 +21,16 @@ use octets::kind;
 use octets::record_end;
 use octets::unsigned16;
 
+// The byte place of an agreement's start time.
+pub const START_AT: usize = 4;
+
+// The byte places of its numbers of parties, of reading types and of templates.
+pub const PARTIES_AT: usize = 8;
+
+pub const READINGS_AT: usize = 9;
+
+pub const TEMPLATES_AT: usize = 10;
+
 // The most bytes, parties, reading types and templates of an agreement.
 const MOST_BYTES: usize = 16_384;
 
@@ -291,13 +301,13 @@ fn counts_ok(agreement: &[u8]) -> bool
     if kind(agreement) != 1 {
         return false;
     }
-    if !between(1, MOST_PARTIES, byte(agreement, 8)) {
+    if !between(1, MOST_PARTIES, byte(agreement, PARTIES_AT)) {
         return false;
     }
-    if !between(1, MOST_READINGS, byte(agreement, 9)) {
+    if !between(1, MOST_READINGS, byte(agreement, READINGS_AT)) {
         return false;
     }
-    byte(agreement, 10) <= MOST_TEMPLATES
+    byte(agreement, TEMPLATES_AT) <= MOST_TEMPLATES
 }
 
 // Whether kind, counts, reading types and templates' heads are as listed; where they are, `places` is the index.
@@ -314,8 +324,8 @@ pub fn fill_index(agreement: &[u8], places: &mut [usize]) -> bool
     if !counts_ok(agreement) {
         return false;
     }
-    let readings = byte(agreement, 9);
-    let templates = byte(agreement, 10);
+    let readings = byte(agreement, READINGS_AT);
+    let templates = byte(agreement, TEMPLATES_AT);
     if !records_ok(agreement, 11, readings, 2) {
         return false;
     }

@@ -12,6 +12,8 @@ use cells::UNIT_CELLS;
 use octets::byte;
 use octets::unsigned32;
 use records::MAIN_DEPTH;
+use records::START_AT;
+use records::TEMPLATES_AT;
 use records::main_place;
 use residues::Reduced;
 use residues::units_of;
@@ -19,12 +21,6 @@ use settling::settle;
 use waits::Event;
 use waits::Step;
 use walk::across;
-
-// The byte place of an agreement's start time.
-pub const START: usize = 4;
-
-// The byte place of its number of templates.
-const TEMPLATES: usize = 10;
 
 // Room for as many units as a table has.
 const ROOM: usize = MOST_UNITS * UNIT_CELLS;
@@ -49,9 +45,9 @@ fn activate_main(agreement: &[u8], places: &[usize], out: &mut [i64]) -> Reduced
         tag: 0,
     };
     let site = Site {
-        below: byte(agreement, TEMPLATES),
+        below: byte(agreement, TEMPLATES_AT),
         place: from,
-        a: unsigned32(agreement, START),
+        a: unsigned32(agreement, START_AT),
         depth: MAIN_DEPTH,
     };
     let s = &agreement[from..];

@@ -18,6 +18,7 @@ use octets::unsigned32;
 use parties::is_subset;
 use parties::member_count;
 use parties::union;
+use records::START_AT;
 use units::Waiting;
 use units::number_below;
 use units::waiting_unit;
@@ -204,7 +205,7 @@ fn breached(agreement: &[u8], mains: usize, time: usize, table: &[i64]) -> State
     if when > time {
         return State::Damaged;
     }
-    if when < unsigned32(agreement, 4) {
+    if when < unsigned32(agreement, START_AT) {
         return State::Damaged;
     }
     let bits = number_below(table[3], NO_PARTIES);
@@ -282,7 +283,7 @@ pub fn state_of(
     if time == NO_TIME {
         return State::Damaged;
     }
-    if time < unsigned32(agreement, 4) {
+    if time < unsigned32(agreement, START_AT) {
         return State::Damaged;
     }
     if !zeros(&table[5..HEAD_CELLS]) {

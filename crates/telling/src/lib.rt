@@ -18,6 +18,7 @@ use monitor::Foretold;
 use monitor::Started;
 use monitor::Taken;
 use octets::unsigned32;
+use records::START_AT;
 
 // No line is longer.
 pub const LINE_ROOM: usize = 96;
@@ -101,7 +102,7 @@ pub fn begin(agreement: &[u8], table: &mut [i64], out: &mut [u8]) -> Told
             }
         }
         Started::Begun => {
-            let a = put_time(out, 0, 0, unsigned32(agreement, 4));
+            let a = put_time(out, 0, 0, unsigned32(agreement, START_AT));
             Told {
                 go: true,
                 at: put_verdict(out, a, agreement, table),

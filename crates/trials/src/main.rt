@@ -18,6 +18,12 @@ use stream::put_decimal;
 use stream::put_next;
 use stream::read_part;
 
+// The bytes of each buffer.
+const ROOM: usize = 65_536;
+
+// More cells than a table has.
+const MOST_CELLS: usize = 4096;
+
 // Whether to go on; the lengths of agreement, reading and table; how many bytes of the output's buffer are in use.
 struct Turn {
     go: bool,
@@ -318,10 +324,10 @@ fn run(
 
 fn main() {
     let mut head = [0u8; 10];
-    let mut agreement = [0u8; 65536];
-    let mut reading = [0u8; 65536];
-    let mut table = [0i64; 4096];
-    let mut out = [0u8; 65536];
+    let mut agreement = [0u8; ROOM];
+    let mut reading = [0u8; ROOM];
+    let mut table = [0i64; MOST_CELLS];
+    let mut out = [0u8; ROOM];
     let at = run(
         &mut head,
         &mut agreement,

@@ -31,6 +31,9 @@ use parties::union;
 use records::BODY_DEPTH;
 use records::IN_SIGHT;
 use records::MAIN_DEPTH;
+use records::PARTIES_AT;
+use records::READINGS_AT;
+use records::TEMPLATES_AT;
 use records::append;
 use records::body_span;
 use records::declared_bits;
@@ -217,7 +220,7 @@ fn then_sight(
     if wanted == 0 {
         return UNSEEN;
     }
-    if wanted > byte(agreement, 9) {
+    if wanted > byte(agreement, READINGS_AT) {
         return UNSEEN;
     }
     let a = reading_place(agreement, places, wanted - 1);
@@ -259,7 +262,14 @@ fn wait_sight(
     if n > IN_SIGHT {
         return UNSEEN;
     }
-    if wait_typed(s, i, &out[..n - 1], types, byte(agreement, 8), depth) {
+    if wait_typed(
+        s,
+        i,
+        &out[..n - 1],
+        types,
+        byte(agreement, PARTIES_AT),
+        depth,
+    ) {
         n
     } else {
         UNSEEN
@@ -288,7 +298,7 @@ fn first_sight(
     requires { ⌜ Indexed (now places) (now agreement) × (length (now types) ≤ 16) × (length (now out) ≡ 16) × (params ≤ 4) ⌝ }
     ensures { λ r. ⌜ firstIn (now (agreement .entry)) params (now (types .entry)) depth kind (now (s .entry)) ≡ seenAs r (now (out .exit)) ⌝ }
 {
-    let parties = byte(agreement, 8);
+    let parties = byte(agreement, PARTIES_AT);
     match kind {
         17 => {
             if blame_mask(byte(s, 4), parties, params) == 0 {
@@ -384,7 +394,7 @@ fn instance_arguments(
         5,
         types,
         &agreement[a + 5..a + 5 + n],
-        byte(agreement, 8),
+        byte(agreement, PARTIES_AT),
         depth,
     )
 }
@@ -417,7 +427,7 @@ fn instance_parties(
     ensures { λ r. ⌜ r ≡ typedAs (typedIn (now (agreement .entry)) params (now (types .entry)) (instanceIn (now (agreement .entry)) depth (now (s .entry)))) ⌝ }
 {
     let k = byte(s, 4);
-    if k >= byte(agreement, 10) {
+    if k >= byte(agreement, TEMPLATES_AT) {
         return Typed::Untyped;
     }
     let i = instance_arguments(agreement, places, s, k, types, depth);
@@ -431,7 +441,7 @@ fn instance_parties(
     if s.len() - i != m {
         return Typed::Untyped;
     }
-    let blames = blamed_parties(&s[i..], byte(agreement, 8), params);
+    let blames = blamed_parties(&s[i..], byte(agreement, PARTIES_AT), params);
     blamed(declared_bits(agreement, places, k), blames)
 }
 
@@ -484,7 +494,10 @@ fn clause_parties(
             let f = first_end(s, kind, c);
             let first = clause_parties(agreement, places, &s[c..f], &next[..n], params, d);
             if kind == 17 {
-                return blamed(blame_mask(byte(s, 4), byte(agreement, 8), params), first);
+                return blamed(
+                    blame_mask(byte(s, 4), byte(agreement, PARTIES_AT), params),
+                    first,
+                );
             }
             let second = clause_parties(agreement, places, &s[f..], types, params, d);
             joined(kind, first, second)
@@ -520,7 +533,7 @@ fn template_typed(agreement: &[u8], places: &[usize], k: usize) -> bool
     ensures { λ r. ⌜ r ≡ holds (templateTyped (now (agreement .entry)) k) ⌝ }
 {
     let declared = declared_bits(agreement, places, k);
-    if below(declared, byte(agreement, 8)) {
+    if below(declared, byte(agreement, PARTIES_AT)) {
         match body_parties(agreement, places, k) {
             Typed::Parties(m) => is_subset(constants(m), declared),
             Typed::Untyped => false,
@@ -535,7 +548,7 @@ fn templates_typed(agreement: &[u8], places: &[usize], k: usize) -> bool
     requires { ⌜ Indexed (now places) (now agreement) ⌝ }
     ensures { λ r. ⌜ r ≡ holds (templatesTyped (now (agreement .entry)) k) ⌝ }
 {
-    if k >= byte(agreement, 10) {
+    if k >= byte(agreement, TEMPLATES_AT) {
         return true;
     }
     if template_typed(agreement, places, k) {

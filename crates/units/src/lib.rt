@@ -25,6 +25,8 @@ use parties::union;
 use places::Located;
 use places::locate;
 use records::IN_SIGHT;
+use records::PARTIES_AT;
+use records::START_AT;
 use records::declared_bits;
 use records::first_clause;
 use records::param_count;
@@ -190,7 +192,7 @@ fn located_unit(
     ensures { λ r. ⌜ LocatedIs (now (agreement .entry)) place n (now (types .entry)) (now (cells .entry)) r ⌝ }
 {
     let mut own = [0usize; 4];
-    if !unit_cells(cells, n, types, byte(agreement, 8), &mut own) {
+    if !unit_cells(cells, n, types, byte(agreement, PARTIES_AT), &mut own) {
         return Waiting::Damaged;
     }
     let e = record_end(agreement, place);
@@ -226,7 +228,7 @@ pub fn waiting_unit(
     if when > time {
         return Waiting::Damaged;
     }
-    if when < unsigned32(agreement, 4) {
+    if when < unsigned32(agreement, START_AT) {
         return Waiting::Damaged;
     }
     let mut types = [0u8; IN_SIGHT];

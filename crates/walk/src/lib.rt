@@ -20,6 +20,7 @@ use cells::UNIT_CELLS;
 use octets::byte;
 use octets::record_end;
 use records::MAIN_DEPTH;
+use records::TEMPLATES_AT;
 use residues::AND;
 use residues::OR;
 use residues::Reduced;
@@ -74,7 +75,7 @@ fn waiting_unit(
     let place = natural(table[1]);
     let end = record_end(agreement, place);
     let site = Site {
-        below: byte(agreement, 10),
+        below: byte(agreement, TEMPLATES_AT),
         place,
         a: natural(table[2]),
         depth: MAIN_DEPTH,

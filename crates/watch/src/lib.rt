@@ -7,6 +7,7 @@ ghost use Rattle.lines.specs.Text.{line};
 ghost use Rattle.telling.specs.Told.{lineRoom};
 ghost use Rattle.watch.specs.Steps.{stageAfter, Turns};
 ghost use Rattle.watch.specs.declared.Stage.the-variants.{Ready, Waiting};
+use cells::TABLE_CELLS;
 use stream::Got;
 use stream::Next;
 use stream::emit;
@@ -17,6 +18,9 @@ use telling::LINE_ROOM;
 use telling::Told;
 use telling::begin;
 use telling::follow;
+
+// The bytes of each buffer: no record is longer, and input that is there is read in large pieces.
+const ROOM: usize = 65_536;
 
 // Where a run stands: a record may be there, or more input is needed, or it has ended.
 enum Stage {
@@ -331,10 +335,10 @@ fn go_on(agreement: &[u8], table: &mut [i64], buf: &mut [u8], first: First, out:
 
 // Reads the agreement and readings from standard input, and writes a line for each.
 pub fn watch() {
-    let mut table = [0i64; 3080];
-    let mut buf = [0u8; 65536];
-    let mut agreement = [0u8; 65536];
-    let mut out = [0u8; 65536];
+    let mut table = [0i64; TABLE_CELLS];
+    let mut buf = [0u8; ROOM];
+    let mut agreement = [0u8; ROOM];
+    let mut out = [0u8; ROOM];
     let first = first_record(&mut buf);
     if first.failed {
         os::fail(b"brinewatch: standard input");
