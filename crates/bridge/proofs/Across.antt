@@ -15,8 +15,7 @@ use Rattle.csl.specs.Syntax.{Agreement, Clause, Join, Ty, and, or}
 use Rattle.csl.specs.Decode.{agreementOf, clause, headsOf}
 use Rattle.laws.specs.Joins.{joinOf}
 use Rattle.csl.specs.Typing.{namesOf, typeClause}
-use Rattle.csl.specs.Outcomes.{Residue, Sight, Sort, aChoice, anObligation, both, joined, orStuck, running, unit}
-use Rattle.csl.specs.Outcomes.{units}
+use Rattle.csl.specs.Outcomes.{Residue, Sight, Sort, aChoice, anObligation, both, joined, orStuck, running, unit, units}
 use Rattle.csl.specs.Rules.{Reading, Step, during, following, forecasting}
 use Rattle.csl.specs.Places.{Found, clauseAt}
 use Rattle.csl.specs.Rules.{across}

@@ -16,8 +16,7 @@ use Rattle.csl.specs.Syntax.{Agreement}
 use Rattle.csl.specs.Decode.{agreementOf, mainOf}
 use Rattle.csl.specs.Check.{accepted, checked}
 use Rattle.csl.specs.Outcomes.{Outcome, Residue, breach, done, running, stuck, units}
-use Rattle.csl.specs.Rules.{Reading, activate}
-use Rattle.csl.specs.Rules.{follow, forecast}
+use Rattle.csl.specs.Rules.{Reading, activate, follow, forecast}
 use Rattle.csl.specs.Run.{Fit, Raw, Run, Stepped, fit, fitOf, followed, kept, rawReading, started, step, typedReading}
 use Rattle.csl.specs.Run.{unfit}
 use Rattle.csl.specs.Table.{cellsOf, natCells, runOf, standFor, tableOf}

@@ -40,8 +40,7 @@ use Rattle.cells.specs.Reduce as cells
 use Rattle.cells.specs.Reduce.{Mode, Reduced}
 use Rattle.cells.proofs.Unfolds.{unfold-at}
 use Rattle.bridge.proofs.Evaluate.{bool-cells, evals-cells, num-cells}
-use Rattle.bridge.proofs.Shows.{Shows, blame-bits, blamed-cells, cells-++, joined-shows, shows-bind}
-use Rattle.bridge.proofs.Shows.{unit-cells}
+use Rattle.bridge.proofs.Shows.{Shows, blame-bits, blamed-cells, cells-++, joined-shows, shows-bind, unit-cells}
 
 -- ---- the walk, whatever the step
 module _ (ag : Agreement) (mains : List ℕ) (fair : Fair ag mains) (W : ℕ → Type 0) where

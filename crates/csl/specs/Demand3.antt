@@ -7,8 +7,7 @@ use lib.Dec.{T, ltb}
 use Rattle.csl.specs.Lists.{_>>=_, all}
 use Rattle.csl.specs.Syntax.{Agreement}
 use Rattle.csl.specs.Outcomes.{Outcome, done, breach, running, stuck, units}
-use Rattle.csl.specs.Rules.{Reading}
-use Rattle.csl.specs.Rules.{follow}
+use Rattle.csl.specs.Rules.{Reading, follow}
 use Rattle.csl.specs.Run.{Run, rawReading, typedReading, step}
 
 unfoldable pub Bytes : List ℕ → Type 0

@@ -13,8 +13,7 @@ use Rattle.csl.specs.Syntax.{Ty, Agreement}
 use Rattle.csl.specs.Decode.{between}
 use Rattle.csl.specs.Values.{valuesOf}
 use Rattle.csl.specs.Outcomes.{units, Outcome, done, breach, running, stuck}
-use Rattle.csl.specs.Rules.{Reading, activate}
-use Rattle.csl.specs.Rules.{follow}
+use Rattle.csl.specs.Rules.{Reading, activate, follow}
 
 -- ---- a reading's bytes
 pub record Raw : Type 0 where

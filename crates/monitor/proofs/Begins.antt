@@ -13,7 +13,6 @@ use Rattle.csl.specs.Table.{tableLength}
 use Rattle.csl.specs.Entries.{startOf}
 use Rattle.laws.proofs.Bools.{both-true}
 use Rattle.soundness.proofs.Checked.{passed}
-use Rattle.cells.specs.Reduce as cells
 use Rattle.bridge.proofs.Entries.{keptCells, start-reduce}
 use Rattle.monitor.specs.declared.Refusal.the-variants.{Units}
 use Rattle.monitor.specs.declared.Started.the-variants.{Begun, Refused as refusedStart}

@@ -32,7 +32,6 @@ use Rattle.cells.specs.Across as table
 use Rattle.csl.specs.Check.{mainsOf}
 use Rattle.laws.proofs.Integers.{pos-inj}
 use Rattle.bridge.proofs.Across.{follow-across}
-use Rattle.bridge.proofs.Tables as bridge
 use Rattle.bridge.proofs.Refusals.{answer}
 use Rattle.cells.specs.Tables.{reducedTable}
 use Rattle.bridge.proofs.Entries.{keptCells, reading-eight, reading-nine, reading-ten, reading-done, reading-breach}

@@ -8,7 +8,6 @@ use lib.ListN.{length}
 use Rattle.arith.proofs.Ints.{seen, read! }
 use Rattle.csl.specs.Parties.{bitsOf}
 use Rattle.csl.specs.Decode.{agreementOf}
-use Rattle.csl.specs.Check as check
 use Rattle.csl.specs.Check.{checked, accepted}
 use Rattle.csl.specs.Table.{tableLength}
 use Rattle.records.specs.Index.{Indexed}

@@ -15,7 +15,6 @@ use Rattle.csl.specs.Run.{Raw, rawReading, typedReading}
 use Rattle.csl.specs.Table.{tableLength, cellsOf}
 use Rattle.csl.specs.Entries.{startOf, readingOf, forecastOf}
 use Rattle.records.specs.Index.{Indexed}
-use Rattle.cells.specs.Reduce as cells
 use Rattle.waits.specs.declared.Event.{Event}
 use Rattle.waits.specs.declared.Step.the-variants.{Follow}
 use Rattle.state.specs.Shown.{RunShows, RunningAs, BreachedAs, runIn}

@@ -33,8 +33,7 @@ use Rattle.places.specs.declared.Step.{Step}
 use Rattle.places.specs.declared.Step.the-variants.{Absent, Here, Into}
 use Rattle.places.proofs.Found.{found-is}
 use Rattle.places.proofs.Steps.{TypedSide, obligation-typed, choice-typed, if-typed, join-typed}
-use Rattle.places.specs.Locate.{sightOf, Locates, TypedAt, Typed, GoesInto, StepAt, StepIs, DescentIs}
-use Rattle.places.specs.Locate.{inTemplate}
+use Rattle.places.specs.Locate.{sightOf, Locates, TypedAt, Typed, GoesInto, StepAt, StepIs, DescentIs, inTemplate}
 use Rattle.csl.specs.Check.{mainsOf, Accepted}
 
 module _ {A : List ℕ} {p : ℕ} {s : List ℕ} {place c : ℕ} {types out : List ℕ} {r : Step}

@@ -1,6 +1,6 @@
 -- Laws for a step: what the rules on cells give is written where there is room for it, and over 128 units are 11.
 use mathlib.Core.Path.{_≡_, refl, sym, ap, subst, _∙_}
-use mathlib.Core.Bool.{Bool, true, false}
+use mathlib.Core.Bool.{Bool, false}
 use mathlib.Core.Logic.{inl, inr, _⊎_}
 use mathlib.Core.List.{List}
 use Prim.Native.Nat.{ℕ, _-_, _*_, _/_, _≤_, _<_, min}
@@ -10,7 +10,6 @@ use denote.Enum.Declared.{tagOf}
 use mir.Syntax.{w64}
 use mir.Val.{toZ}
 use mir.ValLaws.{toZ-pos}
-use lib.Dec.{ltb}
 use lib.IntN.{ℤ, pos}
 use lib.ListN.{length, take, drop, length-drop}
 use lib.Seq.{take-all}
@@ -42,53 +41,34 @@ time-cell {t = t} h = rw (toZ-pos w64 t (omega arith)) (refl, refl)
 pub behind-head : (us : List ℤ) → take (length us - 8) (drop 8 us) ≡ drop 8 us
 behind-head us = take-all (length us - 8) (drop 8 us) (rw (length-drop 8 us) (omega arith))
 
--- ---- the units that an answer counts
-over : (u : ℕ) {n l : ℕ} → n ≡ min u 129 → l ≡ 24 * u → 128 < n → 128 < l / 24
-over u e f h = omega arith
+-- ---- the units that an answer counts are the residue's, up to 129
+counted : (u : ℕ) {n l : ℕ} → n ≡ min u 129 → l ≡ 24 * u → n ≡ min (l / 24) 129
+counted u e f = omega arith
 
-few-enough : (u : ℕ) {n l : ℕ} → n ≡ min u 129 → l ≡ 24 * u → n ≤ 128 → l / 24 ≤ 128
-few-enough u e f h = omega arith
+pub units-counted : (out : List ℤ) (x : cells.Reduced) (r : Reduced) → Is x r out → unitsOf r ≡ min (unitsIn x) 129
+unfolding Is unitsIn
+units-counted out cells.done Done i = refl
+units-counted out cells.done (Breach t b) i = absurd i
+units-counted out cells.done (Running n) i = absurd i
+units-counted out (cells.breach u c) Done i = absurd i
+units-counted out (cells.breach u c) (Breach t b) i = refl
+units-counted out (cells.breach u c) (Running n) i = absurd i
+units-counted out (cells.running cs) Done i = absurd i
+units-counted out (cells.running cs) (Breach t b) i = absurd i
+units-counted out (cells.running cs) (Running n) i = counted (i .units) (i .count) (i .size)
 
-counted : (u : ℕ) {n : ℕ} → n ≡ min u 129 → n ≤ 129
-counted u e = omega arith
-
--- they are over 128 just where the residue's are
-module _ (out : List ℤ) where
-  more-units : (x : cells.Reduced) (r : Reduced) → Is x r out → 128 < unitsOf r → ltb 128 (unitsIn x) ≡ true
-  unfolding Is unitsIn
-  more-units x Done i h = absurd (omega arith)
-  more-units x (Breach t b) i h = absurd (omega arith)
-  more-units cells.done (Running n) i h = absurd i
-  more-units (cells.breach u c) (Running n) i h = absurd i
-  more-units (cells.running cs) (Running n) i h = lt-ltb 128 (length cs / 24) (over (i .units) (i .count) (i .size) h)
-
-  few-units : (x : cells.Reduced) (r : Reduced) → Is x r out → unitsOf r ≤ 128 → ltb 128 (unitsIn x) ≡ false
-  unfolding Is unitsIn
-  few-units cells.done r i h = refl
-  few-units (cells.breach u c) r i h = refl
-  few-units (cells.running cs) Done i h = absurd i
-  few-units (cells.running cs) (Breach t b) i h = absurd i
-  few-units (cells.running cs) (Running n) i h = le-ltb 128 (length cs / 24)
-      (few-enough (i .units) (i .count) (i .size) h)
-
-  pub units-counted : (x : cells.Reduced) (r : Reduced) → Is x r out → unitsOf r ≤ 129
-  unfolding Is
-  units-counted x Done i = omega arith
-  units-counted x (Breach t b) i = omega arith
-  units-counted cells.done (Running n) i = absurd i
-  units-counted (cells.breach u c) (Running n) i = absurd i
-  units-counted (cells.running cs) (Running n) i = counted (i .units) (i .count)
+-- over 128 are 11, others are written
+kept-over : (x : cells.Reduced) (now : ℕ) (before : List ℤ) {u : ℕ} → u ≡ min (unitsIn x) 129 → 128 < u
+    → answer 11 before ≡ keptCells now before x
+unfolding keptCells
+kept-over x now before e h = rw (lt-ltb 128 (unitsIn x) (omega arith)) refl
 
 module _ (r : Reduced) (out : List ℤ) (x : cells.Reduced) (i : Is x r out) (now : ℕ) (before : List ℤ) where
-  kept-over : 128 < unitsOf r → answer 11 before ≡ keptCells now before x
-  unfolding keptCells
-  kept-over h = rw (more-units out x r i h) refl
-
   kept-few : {left : List ℤ} {q : Bool} → Settles now r out before left q → unitsOf r ≤ 128
       → answer 0 left ≡ keptCells now before x
   unfolding keptCells
   kept-few settles h = rw (
-    few-units out x r i h,
+    le-ltb 128 (unitsIn x) (omega (arith, units-counted out x r i)),
     settles .wrote (settles .fits ∙ le-leb (unitsOf r) 128 h) x i,
   ) refl
 
@@ -153,28 +133,30 @@ module _ {s places sights : List ℕ} {us : List ℤ} {n : ℕ} {e : Event} {rs 
       pub tried-none : {room : List ℤ} {u : ℕ} → length room ≡ length out → u ≡ unitsOf r → length out < 24 * u
           → Tried s sights us n e rs room us u
       tried-none same eu h = record {
+        count = eu ∙ units-counted out (reduced s sights us n e rs) r i;
         fits = λ k. absurd (omega arith);
         kept = λ k. refl;
-        over = λ k. record { is = kept-over r out (reduced s sights us n e rs) i (e .time) us (omega (arith, eu)) };
       }
 
       pub tried-room : {room : List ℤ} {u t : ℕ} {left : List ℤ} {q : Bool} → length room ≡ length out
           → u ≡ unitsOf r → 24 * u ≤ length out → length out ≤ 3072 → t ≡ e .time → Settles t r out us left q
           → Tried s sights us n e rs room left u
       tried-room {left = left} same eu h l et settles = record {
+        count = eu ∙ units-counted out (reduced s sights us n e rs) r i;
         fits = λ k. record {
           is = subst (λ t. answer 0 left ≡ keptCells t us (reduced s sights us n e rs)) et
               (kept-few r out (reduced s sights us n e rs) i _ us settles (omega (arith, eu)));
         };
         kept = λ k. absurd (omega arith);
-        over = λ k. absurd (omega arith);
       }
 
 -- ---- one room after another
 module _ {s sights : List ℕ} {us : List ℤ} {n : ℕ} {e : Event} {rs room left : List ℤ} {u : ℕ}
     (t : Tried s sights us n e rs room left u) where
   pub tried-over : length room ≤ 3072 → 128 < u → Advances s sights us n e rs left false
-  tried-over l h = subst (λ a. Advances s sights us n e rs a false) (sym (t .kept (omega arith))) (t .over h)
+  tried-over l h = record {
+    is = ap (answer 11) (t .kept (omega arith)) ∙ kept-over (reduced s sights us n e rs) (e .time) us (t .count) h;
+  }
 
   module _ (h : length room < 24 * u) where
     pub due-again : {places : List ℕ} → Due s places sights us n e rs → Due s places sights left n e rs

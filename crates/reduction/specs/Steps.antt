@@ -2,7 +2,7 @@
 use mathlib.Core.Path.{_≡_}
 use mathlib.Core.Bool.{Bool, true, false}
 use mathlib.Core.List.{List, [], _∷_}
-use Prim.Native.Nat.{ℕ, _*_, _≤_, _<_}
+use Prim.Native.Nat.{ℕ, _*_, _≤_, _<_, min}
 use lib.IntN.{ℤ}
 use lib.ListN.{length, drop}
 use Rattle.csl.specs.Decode.{agreementOf, mainOf}
@@ -11,6 +11,7 @@ use Rattle.csl.specs.Entries.{Answer}
 use Rattle.records.specs.Index.{Indexed}
 use Rattle.cells.specs.Reduce as cells
 use Rattle.cells.specs.Across.{across}
+use Rattle.bridge.proofs.Tables.{unitsIn}
 use Rattle.bridge.proofs.Entries.{keptCells}
 use Rattle.waits.specs.Fates.{modeAt}
 use Rattle.walk.specs.Tree.{Tree, treeReduced}
@@ -64,10 +65,10 @@ pub record Advances (s sights : List ℕ) (us : List ℤ) (n : ℕ) (e : Event) 
     : Type 0 where
   pub is : advanced fits left ≡ keptCells (e .time) us (reduced s sights us n e rs)
 
--- what comes of it needs so many units: where `room` has cells for them, the table is written, else not; over 128 are
--- too many for a table
+-- what comes of it needs so many units, counted up to 129: where `room` has cells for them, the table is written, else
+-- not
 pub record Tried (s sights : List ℕ) (us : List ℤ) (n : ℕ) (e : Event) (rs room left : List ℤ) (units : ℕ)
     : Type 0 where
+  pub count : units ≡ min (unitsIn (reduced s sights us n e rs)) 129
   pub fits : 24 * units ≤ length room → Advances s sights us n e rs left true
   pub kept : length room < 24 * units → left ≡ us
-  pub over : 128 < units → Advances s sights us n e rs us false

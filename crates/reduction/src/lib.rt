@@ -77,7 +77,7 @@ fn reduce(
 }
 
 // The table is written where `out` has room for the residue. The answer is the units that it needs, counted up to 129.
-fn reduce_within(
+fn reduce_into(
     agreement: &[u8],
     places: &[usize],
     sights: &[usize],
@@ -114,7 +114,7 @@ fn advance_widely(
     ensures { λ fits. ⌜ Advances (now (agreement .entry)) (now (sights .entry)) (now (table .entry)) used event (now (rs .entry)) (now (table .exit)) fits ⌝ }
 {
     let mut out = [0i64; ROOM];
-    let units = reduce_within(agreement, places, sights, table, used, event, rs, &mut out);
+    let units = reduce_into(agreement, places, sights, table, used, event, rs, &mut out);
     if units > MOST_UNITS {
         return false;
     }
@@ -138,7 +138,7 @@ pub fn advance(
         return advance_widely(agreement, places, sights, table, used, event, rs);
     }
     let mut out = [0i64; FEW_ROOM];
-    let units = reduce_within(agreement, places, sights, table, used, event, rs, &mut out);
+    let units = reduce_into(agreement, places, sights, table, used, event, rs, &mut out);
     if units > MOST_UNITS {
         return false;
     }

@@ -20,7 +20,6 @@ use Rattle.monitor.specs.declared.Started.{Started}
 use Rattle.monitor.specs.declared.Started.the-variants.{Begun}
 use Rattle.monitor.specs.Answers.{startAnswer}
 use Rattle.monitor.specs.Calls.{Call, Calls, lastTable, readingsIn, numberIn, numbersIn}
-use Rattle.monitor.specs.Demand3 as specs
 use Rattle.monitor.specs.Demand3.{Demand3, Begins, Upheld, runBy}
 use Rattle.monitor.proofs.Demand3.{demand3, begins}
 

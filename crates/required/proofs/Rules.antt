@@ -14,8 +14,7 @@ use Rattle.csl.specs.Typing.{hasType}
 use Rattle.csl.specs.Values.{Val, bool}
 use Rattle.csl.specs.Check.{accepted, checked}
 use Rattle.csl.specs.Outcomes.{Outcome, Residue, Sight, running}
-use Rattle.csl.specs.Rules.{Reading, activate}
-use Rattle.csl.specs.Rules.{follow, forecast}
+use Rattle.csl.specs.Rules.{Reading, activate, follow, forecast}
 use Rattle.csl.specs.Run.{started}
 use Rattle.csl.specs.Table.{tableOf}
 use Rattle.csl.specs.Entries.{forecastOf, shown, startOf}

@@ -20,8 +20,7 @@ use Rattle.csl.specs.Typing.{blameOk, namesOf, readingOfType, thenSight, typeCl
 use Rattle.csl.specs.Values.{Val, evalBool, evals, who}
 use Rattle.csl.specs.Outcomes.{Outcome, Residue, Sight, both, breach, done, earlier, joinBoth, joinEither, joined}
 use Rattle.csl.specs.Outcomes.{later, orStuck, running, stuck, unit}
-use Rattle.csl.specs.Rules.{Reading, Window, blamed, blamedAll, during, forecasting, taken, walk, walkIn, wants}
-use Rattle.csl.specs.Rules.{window}
+use Rattle.csl.specs.Rules.{Reading, Window, blamed, blamedAll, during, forecasting, taken, walk, walkIn, wants, window}
 use Rattle.csl.specs.Places.{clauseAt}
 use Rattle.csl.specs.Rules.{across, forecast}
 use Rattle.csl.specs.Table.{standFor}

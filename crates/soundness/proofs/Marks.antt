@@ -18,8 +18,7 @@ use Rattle.csl.specs.Parties.{bitsOf, members, subset}
 use Rattle.csl.specs.Syntax.{Agreement, number}
 use Rattle.csl.specs.Check.{accepted, checked, refused}
 use Rattle.csl.specs.Outcomes.{Outcome, Residue, breach, done, running, stuck}
-use Rattle.csl.specs.Rules.{Reading}
-use Rattle.csl.specs.Rules.{follow, forecast}
+use Rattle.csl.specs.Rules.{Reading, follow, forecast}
 use Rattle.csl.specs.Run.{Run, rawReading, step}
 use Rattle.csl.specs.Table.{headCells, natCells, padded, runOf, tableOf}
 use Rattle.csl.specs.Entries.{Forecast, breachAt, forecastOf, forecastRun, isTable, noBreach, refusedForecast, shown}

@@ -16,8 +16,7 @@ use Rattle.csl.specs.Syntax.{Agreement, number}
 use Rattle.csl.specs.Typing.{blameOk, namesOf}
 use Rattle.csl.specs.Check.{accepted, checked, refused}
 use Rattle.csl.specs.Outcomes.{Outcome, Residue, both, breach, done, running, stuck, unit, units}
-use Rattle.csl.specs.Rules.{Reading}
-use Rattle.csl.specs.Rules.{follow}
+use Rattle.csl.specs.Rules.{Reading, follow}
 use Rattle.csl.specs.Run.{Fit, Raw, Run, Stepped, fit, fitOf, followed, kept, rawReading, started, step, tooMany}
 use Rattle.csl.specs.Run.{typedReading, unfit}
 use Rattle.csl.specs.Table.{headCells, joinCells, natCells, padded, residueCells, runOf, tableLength, tableOf}

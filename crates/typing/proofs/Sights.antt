@@ -23,8 +23,7 @@ use Rattle.octets.proofs.Bytes.{record-end-within}
 use Rattle.records.specs.Index.{Indexed, readingPlace}
 use Rattle.records.proofs.Index.{readings-at, readings-past, reading-facts, reading-end, reading-types}
 use Rattle.typing.specs.Types.{tyNumber, typeNumber}
-use Rattle.typing.specs.Clauses.{namesIn, seenAs, thenOf, isTyped, waitTyped, waitSight, firstSight}
-use Rattle.typing.specs.Clauses.{JoinedSight}
+use Rattle.typing.specs.Clauses.{namesIn, seenAs, thenOf, isTyped, waitTyped, waitSight, firstSight, JoinedSight}
 use Rattle.parties.specs.Masks.{BlameMask, mayBlame}
 use Rattle.typing.proofs.Exprs.{same-number}
 

@@ -15,7 +15,7 @@ returns c =
     let b = c .before .before in let s = b .before .before in told (c .truth-cell .ok) (
       on-told (isTrue (s .args .x)) (truthCell (isTrue (s .args .y))) (pos 0)
           (rw (read (s .fits .x)) at (b .before .is-true .ensures)) (b .if1 .taken)
-          (c .truth-cell .ensures .0 ∙ ap truthCell (rw (read (s .fits .y)) at (c .before .is-true2 .ensures))),
+          (c .truth-cell .ensures .0 ∙ ap truthCell (c .before .is-true2 .ensures ∙ ap isTrue (read (s .fits .y)))),
       c .truth-cell .ensures .1,
     )
 

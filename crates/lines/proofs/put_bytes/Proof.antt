@@ -9,8 +9,6 @@ use Rattle.laws.proofs.Lists.{append-more, append-none}
 use Rattle.lines.proofs.Puts.{all-put}
 use Rattle.lines.proofs.put_bytes.Statement.{statement}
 use Rattle.lines.proofs.put_bytes.Tie as tie
-use Rattle.lines.proofs.put_bytes.Reads as reads
-use Rattle.lines.proofs.put_bytes.Lts as lts
 
 abbrev Inv-loop : tie.InvT-loop
 Inv-loop out₀ at s i₀ i-end out i = (i-end ≡ length s) × (i ≤ i-end) × (length out ≡ length out₀)

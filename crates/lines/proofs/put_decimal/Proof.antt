@@ -6,10 +6,6 @@ use Rattle.lines.proofs.Decimal.{few, fewest}
 use borrow.Author.Needs.{needs}
 use Rattle.lines.proofs.put_decimal.Statement.{statement}
 use Rattle.lines.proofs.put_decimal.Tie as tie
-use Rattle.lines.proofs.put_decimal.Reads as reads
-use Rattle.lines.proofs.put_decimal.Lts as lts
-use Rattle.io.proofs.decimal.Reads as decimal-reads
-use Rattle.lines.proofs.put_bytes.Reads as put-bytes-reads
 
 -- src/lib.rt:27:9
 decimal-requires : tie.Need-decimal-requires

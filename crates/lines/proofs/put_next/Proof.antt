@@ -3,10 +3,6 @@ use Rattle.lines.proofs.Puts.{then}
 use borrow.Author.Needs.{needs}
 use Rattle.lines.proofs.put_next.Statement.{statement}
 use Rattle.lines.proofs.put_next.Tie as tie
-use Rattle.lines.proofs.put_next.Reads as reads
-use Rattle.lines.proofs.put_next.Lts as lts
-use Rattle.lines.proofs.put_bytes.Reads as put-bytes-reads
-use Rattle.lines.proofs.put_decimal.Reads as put-decimal-reads
 
 -- src/lib.rt:36:32
 slice-aggregate-put-bytes : tie.Need-slice-aggregate-put-bytes

@@ -5,10 +5,6 @@ use Rattle.lines.proofs.Puts.{then}
 use borrow.Author.Needs.{needs}
 use Rattle.lines.proofs.put_refusal.Statement.{statement}
 use Rattle.lines.proofs.put_refusal.Tie as tie
-use Rattle.lines.proofs.put_refusal.Reads as reads
-use Rattle.lines.proofs.put_refusal.Lts as lts
-use Rattle.lines.proofs.put_bytes.Reads as put-bytes-reads
-use Rattle.lines.proofs.put_next.Reads as put-next-reads
 
 -- src/lib.rt:45:32
 slice-aggregate-put-bytes : tie.Need-slice-aggregate-put-bytes

@@ -6,10 +6,10 @@ use Rattle.reduction.proofs.advance_widely.Statement.{statement}
 use Rattle.reduction.proofs.advance_widely.Tie as tie
 
 returns : tie.Need-returns
-returns c = tried-over (c .before .before .before .reduce-within .ensures) (omega arith) (c .if1 .taken)
+returns c = tried-over (c .before .before .before .reduce-into .ensures) (omega arith) (c .if1 .taken)
 
 returns-2 : tie.Need-returns-2
-returns-2 c = c .before .before .before .reduce-within .ensures .fits (omega (arith, c .if1 .left))
+returns-2 c = c .before .before .before .reduce-into .ensures .fits (omega (arith, c .if1 .left))
 
 pub advance-widely-spec : {M : Type 1} → statement M
 advance-widely-spec = tie.close (tie.spec

@@ -1,8 +1,7 @@
 -- The nine pairs of outcomes, one by one: fulfilled vanishes, a breach decides, two residues are joined.
 use Rattle.csl.specs.Syntax.{and}
 use Rattle.residues.proofs.Reduces.{counted, both-done, both-breach-done, both-breaches, both-breach-running}
-use Rattle.residues.proofs.Reduces.{both-running-done, both-running-breach, both-running, as-join}
-use Rattle.residues.proofs.Reduces.{join-of-both}
+use Rattle.residues.proofs.Reduces.{both-running-done, both-running-breach, both-running, as-join, join-of-both}
 use borrow.Author.Needs.{needs}
 use Rattle.residues.proofs.join_both.Statement.{statement}
 use Rattle.residues.proofs.join_both.Tie as tie

@@ -5,7 +5,6 @@ use mathlib.Core.List.{_++_}
 use Prim.Native.Nat.{_+_, _-_, _*_, _≤_}
 use native.Mathlib.Omega.{arith}
 use lib.ListN.{length, take, drop, length-append, length-take, length-drop}
-use Rattle.arith.proofs.Lists.{length-part}
 use Rattle.residues.proofs.Cells.{copy-part, copied-all}
 use Rattle.settling.proofs.copy_units.Statement.{statement}
 use Rattle.settling.proofs.copy_units.Tie as tie
@@ -18,14 +17,7 @@ abbrev μ-loop : tie.MeasureT-loop
 μ-loop units₀ residue n k₀ units k = n - k
 
 copy-unit-requires : tie.Need-copy-unit-requires Inv-loop μ-loop
-copy-unit-requires c κs =
-    let at-loop = c .before .before .before in
-    let s = c .before .before .before .before in
-    let l = at-loop .loop in (
-      length-part (l .units) (24 * l .k) (24 * l .k + 24) (omega arith) ∙ omega arith,
-      length-part
-          (s .args .residue .now) (24 * l .k) (24 * l .k + 24) (omega arith) ∙ omega arith,
-    )
+copy-unit-requires c κs = (search (length-take, length-drop, needs), search (length-take, length-drop, needs))
 
 loop-again : tie.Need-loop-again Inv-loop μ-loop
 loop-again c =

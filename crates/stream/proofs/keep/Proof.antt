@@ -7,8 +7,6 @@ use Rattle.stream.proofs.Moves.{Moved, moved-none, moved-more, moved-al
 use borrow.Author.Needs.{needs}
 use Rattle.stream.proofs.keep.Statement.{statement}
 use Rattle.stream.proofs.keep.Tie as tie
-use Rattle.stream.proofs.keep.Reads as reads
-use Rattle.stream.proofs.keep.Lts as lts
 
 abbrev Inv-loop : tie.InvT-loop
 Inv-loop buf₀ from to i₀ i-end buf i = (i-end ≡ to - from) × (i ≤ i-end) × (length buf ≡ length buf₀)

@@ -6,9 +6,6 @@ use borrow.Author.Needs.{needs}
 use Rattle.laws.proofs.Clash.{impossible}
 use Rattle.stream.proofs.next_record.Statement.{statement}
 use Rattle.stream.proofs.next_record.Tie as tie
-use Rattle.stream.proofs.next_record.Reads as reads
-use Rattle.stream.proofs.next_record.Lts as lts
-use Rattle.stream.proofs.record_size.Reads as record-size-reads
 
 -- src/lib.rt:82:9
 record-size-requires : tie.Need-record-size-requires

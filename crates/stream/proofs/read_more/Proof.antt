@@ -4,9 +4,6 @@ use Rattle.stream.proofs.Moves.{before-part, comes-within}
 use borrow.Author.Needs.{needs}
 use Rattle.stream.proofs.read_more.Statement.{statement}
 use Rattle.stream.proofs.read_more.Tie as tie
-use Rattle.stream.proofs.read_more.Reads as reads
-use Rattle.stream.proofs.read_more.Lts as lts
-use Rattle.stream.proofs.read_some.Reads as read-some-reads
 
 -- src/lib.rt:144:15
 sub-read-some : tie.Need-sub-read-some

@@ -4,9 +4,6 @@ use Rattle.stream.specs.Records.{sizeOf}
 use borrow.Author.Needs.{needs}
 use Rattle.stream.proofs.record_size.Statement.{statement}
 use Rattle.stream.proofs.record_size.Tie as tie
-use Rattle.stream.proofs.record_size.Reads as reads
-use Rattle.stream.proofs.record_size.Lts as lts
-use Rattle.octets.proofs.unsigned16.Reads as unsigned16-reads
 
 -- src/lib.rt:99:9
 unsigned16-requires : tie.Need-unsigned16-requires

@@ -4,14 +4,6 @@ use Rattle.telling.proofs.Says.{follows-refused, follows-accepted}
 use borrow.Author.Needs.{needs}
 use Rattle.telling.proofs.follow.Statement.{statement}
 use Rattle.telling.proofs.follow.Tie as tie
-use Rattle.telling.proofs.follow.Reads as reads
-use Rattle.telling.proofs.follow.Lts as lts
-use Rattle.octets.proofs.unsigned32.Reads as unsigned32-reads
-use Rattle.monitor.proofs.number.Reads as number-reads
-use Rattle.monitor.proofs.reading.Reads as reading-reads
-use Rattle.telling.proofs.put_refused.Reads as put-refused-reads
-use Rattle.telling.proofs.put_time.Reads as put-time-reads
-use Rattle.telling.proofs.put_verdict.Reads as put-verdict-reads
 
 reading-requires : tie.Need-reading-requires
 reading-requires c κs = search needs

@@ -8,10 +8,6 @@ use Rattle.lines.proofs.Puts.{then, same-put}
 use borrow.Author.Needs.{needs}
 use Rattle.telling.proofs.put_forecast.Statement.{statement}
 use Rattle.telling.proofs.put_forecast.Tie as tie
-use Rattle.telling.proofs.put_forecast.Reads as reads
-use Rattle.telling.proofs.put_forecast.Lts as lts
-use Rattle.lines.proofs.put_bytes.Reads as put-bytes-reads
-use Rattle.lines.proofs.put_next.Reads as put-next-reads
 
 enum-known-foretold : tie.Need-enum-known-foretold
 enum-known-foretold c = search needs

@@ -9,12 +9,6 @@ use Rattle.telling.proofs.Says.{line-put, time-dash, time-told}
 use borrow.Author.Needs.{needs}
 use Rattle.telling.proofs.put_refused.Statement.{statement}
 use Rattle.telling.proofs.put_refused.Tie as tie
-use Rattle.telling.proofs.put_refused.Reads as reads
-use Rattle.telling.proofs.put_refused.Lts as lts
-use Rattle.octets.proofs.unsigned32.Reads as unsigned32-reads
-use Rattle.lines.proofs.put_refusal.Reads as put-refusal-reads
-use Rattle.telling.proofs.put_time.Reads as put-time-reads
-use Rattle.telling.proofs.put_timeless.Reads as put-timeless-reads
 
 put-timeless-requires : tie.Need-put-timeless-requires
 put-timeless-requires c κs = search needs

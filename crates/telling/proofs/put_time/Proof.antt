@@ -4,10 +4,6 @@ use Rattle.lines.proofs.Puts.{then}
 use borrow.Author.Needs.{needs}
 use Rattle.telling.proofs.put_time.Statement.{statement}
 use Rattle.telling.proofs.put_time.Tie as tie
-use Rattle.telling.proofs.put_time.Reads as reads
-use Rattle.telling.proofs.put_time.Lts as lts
-use Rattle.lines.proofs.put_decimal.Reads as put-decimal-reads
-use Rattle.lines.proofs.put_next.Reads as put-next-reads
 
 put-decimal-requires : tie.Need-put-decimal-requires
 put-decimal-requires c κs = search needs

@@ -4,10 +4,6 @@ use Rattle.lines.proofs.Puts.{then}
 use borrow.Author.Needs.{needs}
 use Rattle.telling.proofs.put_timeless.Statement.{statement}
 use Rattle.telling.proofs.put_timeless.Tie as tie
-use Rattle.telling.proofs.put_timeless.Reads as reads
-use Rattle.telling.proofs.put_timeless.Lts as lts
-use Rattle.lines.proofs.put_bytes.Reads as put-bytes-reads
-use Rattle.lines.proofs.put_decimal.Reads as put-decimal-reads
 
 put-decimal-requires : tie.Need-put-decimal-requires
 put-decimal-requires c κs = search needs

@@ -8,13 +8,6 @@ use Rattle.telling.proofs.Says.{verdict-done, verdict-live, verdict-bre
 use borrow.Author.Needs.{needs}
 use Rattle.telling.proofs.put_verdict.Statement.{statement}
 use Rattle.telling.proofs.put_verdict.Tie as tie
-use Rattle.telling.proofs.put_verdict.Reads as reads
-use Rattle.telling.proofs.put_verdict.Lts as lts
-use Rattle.arith.proofs.equal.Reads as equal-reads
-use Rattle.lines.proofs.put_bytes.Reads as put-bytes-reads
-use Rattle.monitor.proofs.forecast.Reads as forecast-reads
-use Rattle.telling.proofs.put_forecast.Reads as put-forecast-reads
-use Rattle.telling.proofs.state_of.Reads as state-of-reads
 
 state-of-requires : tie.Need-state-of-requires
 state-of-requires c κs = search needs

@@ -5,8 +5,6 @@ use lib.ListN.{List·getD-eq-default}
 use borrow.Author.Needs.{needs}
 use Rattle.telling.proofs.state_of.Statement.{statement}
 use Rattle.telling.proofs.state_of.Tie as tie
-use Rattle.telling.proofs.state_of.Reads as reads
-use Rattle.telling.proofs.state_of.Lts as lts
 
 shared-slice-copy-out-result : tie.Need-shared-slice-copy-out-result
 shared-slice-copy-out-result c = search needs

@@ -13,12 +13,6 @@ use Rattle.arith.proofs.Lists.{length-part}
 use Rattle.walk.proofs.WaitingUnits.{natural-asked, cell-at, nat-at, unit-at}
 use Rattle.walk.proofs.waiting_unit.Statement.{statement}
 use Rattle.walk.proofs.waiting_unit.Tie as tie
-use Rattle.walk.proofs.waiting_unit.Reads as reads
-use Rattle.walk.proofs.waiting_unit.Lts as lts
-use Rattle.octets.proofs.byte.Reads as byte-reads
-use Rattle.octets.proofs.record_end.Reads as record-end-reads
-use Rattle.walk.proofs.natural.Reads as natural-reads
-use Rattle.activation.proofs.activate.Reads as activate-reads
 
 -- src/across.rt:161:18
 shared-slice-read-params : tie.Need-shared-slice-read-params

@@ -2,10 +2,6 @@
 use borrow.Author.Needs.{needs}
 use Rattle.watch.proofs.await_more.Statement.{statement}
 use Rattle.watch.proofs.await_more.Tie as tie
-use Rattle.watch.proofs.await_more.Reads as reads
-use Rattle.watch.proofs.await_more.Lts as lts
-use Rattle.os.proofs.fail.Reads as fail-reads
-use Rattle.watch.proofs.wait.Reads as wait-reads
 
 enum-told : tie.Need-enum-told
 enum-told c = search needs

@@ -9,9 +9,6 @@ use Rattle.watch.proofs.Taking.{ready-turns, turns-then, turns-none}
 use borrow.Author.Needs.{needs}
 use Rattle.watch.proofs.drain.Statement.{statement}
 use Rattle.watch.proofs.drain.Tie as tie
-use Rattle.watch.proofs.drain.Reads as reads
-use Rattle.watch.proofs.drain.Lts as lts
-use Rattle.watch.proofs.step.Reads as step-reads
 
 abbrev Inv-loop : tie.InvT-loop
 Inv-loop agreement table₀ input ended out₀ line from₀ at₀ n₀ table out from at n = (length table ≡ length table₀)

@@ -5,9 +5,6 @@ use lib.ListN.{length}
 use borrow.Author.Needs.{needs}
 use Rattle.watch.proofs.first_record.Statement.{statement}
 use Rattle.watch.proofs.first_record.Tie as tie
-use Rattle.watch.proofs.first_record.Reads as reads
-use Rattle.watch.proofs.first_record.Lts as lts
-use Rattle.watch.proofs.look.Reads as look-reads
 
 abbrev Inv-loop : tie.InvT-loop
 Inv-loop buf₀ size₀ ended₀ turn₀ buf size ended turn = (length buf ≡ length buf₀) × (size ≤ 65_536)

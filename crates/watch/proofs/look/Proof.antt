@@ -7,10 +7,6 @@ use Rattle.watch.proofs.Arrives.{found-within}
 use borrow.Author.Needs.{needs}
 use Rattle.watch.proofs.look.Statement.{statement}
 use Rattle.watch.proofs.look.Tie as tie
-use Rattle.watch.proofs.look.Reads as reads
-use Rattle.watch.proofs.look.Lts as lts
-use Rattle.stream.proofs.next_record.Reads as next-record-reads
-use Rattle.watch.proofs.wait.Reads as wait-reads
 
 sub-next-record : tie.Need-sub-next-record
 sub-next-record c = search needs

@@ -5,9 +5,6 @@ use lib.ListN.{length}
 use borrow.Author.Needs.{needs}
 use Rattle.watch.proofs.run.Statement.{statement}
 use Rattle.watch.proofs.run.Tie as tie
-use Rattle.watch.proofs.run.Reads as reads
-use Rattle.watch.proofs.run.Lts as lts
-use Rattle.watch.proofs.serve.Reads as serve-reads
 
 abbrev Inv-loop : tie.InvT-loop
 Inv-loop agreement table₀ buf₀ held over out₀ size₀ ended₀ line₀ turn₀ table buf out size ended line turn =

@@ -4,13 +4,6 @@ use Rattle.watch.proofs.Arrives.{left-length}
 use borrow.Author.Needs.{needs}
 use Rattle.watch.proofs.serve.Statement.{statement}
 use Rattle.watch.proofs.serve.Tie as tie
-use Rattle.watch.proofs.serve.Reads as reads
-use Rattle.watch.proofs.serve.Lts as lts
-use Rattle.os.proofs.fail.Reads as fail-reads
-use Rattle.stream.proofs.emit.Reads as emit-reads
-use Rattle.stream.proofs.keep.Reads as keep-reads
-use Rattle.watch.proofs.await_more.Reads as await-more-reads
-use Rattle.watch.proofs.drain.Reads as drain-reads
 
 sub-drain : tie.Need-sub-drain
 sub-drain c = search needs

@@ -5,11 +5,6 @@ use borrow.Author.Needs.{needs}
 use Rattle.laws.proofs.Clash.{impossible}
 use Rattle.watch.proofs.step.Statement.{statement}
 use Rattle.watch.proofs.step.Tie as tie
-use Rattle.watch.proofs.step.Reads as reads
-use Rattle.watch.proofs.step.Lts as lts
-use Rattle.stream.proofs.next_record.Reads as next-record-reads
-use Rattle.telling.proofs.follow.Reads as follow-reads
-use Rattle.watch.proofs.stage_after.Reads as stage-after-reads
 
 sub-next-record : tie.Need-sub-next-record
 sub-next-record c = search needs

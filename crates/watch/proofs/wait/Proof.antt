@@ -5,9 +5,6 @@ use Rattle.watch.proofs.Arrives.{came}
 use borrow.Author.Needs.{needs}
 use Rattle.watch.proofs.wait.Statement.{statement}
 use Rattle.watch.proofs.wait.Tie as tie
-use Rattle.watch.proofs.wait.Reads as reads
-use Rattle.watch.proofs.wait.Lts as lts
-use Rattle.stream.proofs.read_more.Reads as read-more-reads
 
 read-more-requires : tie.Need-read-more-requires
 read-more-requires c κs = search needs

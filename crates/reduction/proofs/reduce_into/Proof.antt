@@ -2,8 +2,8 @@
 use borrow.Author.Needs.{needs}
 use native.Mathlib.Omega.{arith}
 use Rattle.reduction.proofs.Advances.{time-cell, units-counted, reduced-few, tried-none, tried-room}
-use Rattle.reduction.proofs.reduce_within.Statement.{statement}
-use Rattle.reduction.proofs.reduce_within.Tie as tie
+use Rattle.reduction.proofs.reduce_into.Statement.{statement}
+use Rattle.reduction.proofs.reduce_into.Tie as tie
 
 mul-if1 : tie.Need-mul-if1
 mul-if1 c =
@@ -38,7 +38,7 @@ returns-2 c =
     (omega (arith, at-if1 .if1 .left)) (search needs) ((time-cell (at-start .pre .0 .soon)) .1)
     (c .before .settle .ensures)
 
-pub reduce-within-spec : {M : Type 1} → statement M
-reduce-within-spec = tie.close (tie.spec
+pub reduce-into-spec : {M : Type 1} → statement M
+reduce-into-spec = tie.close (tie.spec
     (λ c κs. search needs) (λ c κs. search needs) mul-if1 (λ c. search needs) (λ c. search needs) returns
     (λ c. search needs) settle-requires (λ c. search needs) (λ c. search needs) returns-2)
