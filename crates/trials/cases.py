@@ -841,3 +841,44 @@ begins(owing(either(many(65), NIL)), ZEROS, fulfilled(100))
 leads(owing(then_is(either(NIL, many(65)))), AWAITING, event(110, 1, [0]), fulfilled(110))
 cause("11: 6 before 11")
 stays(6, owing(many(65)), [])
+
+# paper 02, No. 5
+def asked(b, q): return agreement(asking(op(43, op(40, var(0), lit(b)), lit(q))))
+
+
+ASKED = running(100, [waiting(17, 17, 100, [], [])])
+
+
+def divided(a, b, q):
+    """The reading's value a, divided by b, is the q that is asked for."""
+    leads(asked(b, q), ASKED, event(110, 1, [a]), fulfilled(110))
+
+
+cause("the quotient with a fraction: it rounds down, by a number above 0 and by one below")
+divided(7, 2, 3)
+divided(-7, 2, -4)
+divided(7, -2, -4)
+divided(-7, -2, 3)
+divided(1, -2, -1)
+divided(-1, 2, -1)
+divided(1, -1_000_000_000, -1)
+divided(-1, 1_000_000_000, -1)
+divided(999_999_999, 1_000_000_000, 0)
+divided(-999_999_999, -1_000_000_000, 0)
+cause("the quotient with a fraction is not the number above it")
+leads(asked(2, -3), ASKED, event(110, 1, [-7]), running(110, [waiting(17, 17, 100, [], [])]))
+leads(asked(-2, -3), ASKED, event(110, 1, [7]), running(110, [waiting(17, 17, 100, [], [])]))
+cause("the quotient without a fraction")
+divided(-8, 2, -4)
+divided(8, -2, -4)
+divided(-8, -2, 4)
+divided(0, -5, 0)
+cause("the quotient by 0 is 0")
+divided(7, 0, 0)
+divided(-7, 0, 0)
+divided(0, 0, 0)
+cause("the quotient of both ends by 1 and by -1")
+divided(1_000_000_000, 1, 1_000_000_000)
+divided(1_000_000_000, -1, -1_000_000_000)
+divided(-1_000_000_000, 1, -1_000_000_000)
+divided(-1_000_000_000, -1, 1_000_000_000)

@@ -3,8 +3,8 @@
 
 make.py [CALLS]: the cases of cases.py, and behind them the calls of a file with one JSON object to a line: entry,
 agreement and reading in hexadecimal, the table's cells that are not zero, and what came back from a monitor that was
-written from paper 01 alone. src/main.rt says how stdin is laid out. `reference/tests/trials.rs` gives the same calls to
-the separately written monitor.
+written from paper 01 alone, but for what rounded.py says. src/main.rt says how stdin is laid out.
+`reference/tests/trials.rs` gives the same calls to the separately written monitor.
 """
 import json
 import os
@@ -15,6 +15,7 @@ HERE = os.path.dirname(os.path.abspath(__file__))
 sys.path.insert(0, HERE)
 from cases import CALLS  # noqa: E402
 from records import u2  # noqa: E402
+from rounded import rounded  # noqa: E402
 
 ENTRIES = {"check": 5, "start": 6, "reading": 7, "forecast": 8}
 
@@ -54,7 +55,7 @@ def laid(length, sparse):
 
 def vectors(path):
     """The calls of a file, as those of cases.py."""
-    for text in open(path, encoding="utf8"):
+    for place, text in enumerate(open(path, encoding="utf8")):
         d = json.loads(text)
         entry, data, number = d["entry"], bytes.fromhex(d["agreement"]), d["number"]
         if entry == "check":
@@ -62,10 +63,11 @@ def vectors(path):
             continue
         lent = laid(d["cells"], {} if entry == "start" else d["table"])
         if entry == "forecast":
-            yield entry, data, lent, b"", number, None if d.get("time") is None else (d["time"], d["parties"])
+            ahead = None if d.get("time") is None else (d["time"], d["parties"])
+            yield entry, data, lent, b"", number, rounded(place, ahead)
             continue
         after = lent if number else laid(d["cells"], d["table" if entry == "start" else "after"])
-        yield entry, data, lent, bytes.fromhex(d.get("reading", "")), number, after
+        yield entry, data, lent, bytes.fromhex(d.get("reading", "")), number, rounded(place, after)
 
 
 def main():

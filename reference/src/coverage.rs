@@ -1,6 +1,8 @@
 //! Counts what generated calls reach, and finds faults: answers that cannot be right whatever the
 //! rules say in detail.
 
+pub mod quotients;
+
 use crate::agreement::{self, Agreement, Clause, Late};
 use crate::check::{accept, Accepted};
 use crate::generate::records::spans;
@@ -9,6 +11,7 @@ use crate::reading::{self, Reading};
 use crate::rules::{self, evaluate, Outcome, Residue, Scope, Waiting};
 use crate::table::{self, State, BREACHED, FULFILLED, STATE, USED};
 use crate::{build, entries};
+use quotients::Quotient;
 use std::collections::BTreeMap;
 use std::fmt;
 
@@ -19,6 +22,7 @@ const ACTIVATED: &str = "join at activation";
 const FOLLOWED: &str = "join at a reading";
 const FORECAST: &str = "join in a forecast";
 const UNITS: &str = "what a waiting unit does";
+const QUOTIENTS: &str = "quotient worked out";
 const CAUSES_READING: &str = "cause of 7 at a reading";
 const CAUSES_FORECAST: &str = "cause of 7 at a forecast";
 const CHANGES: &str = "changed table, whatever the number";
@@ -47,6 +51,7 @@ impl Coverage {
             (FOLLOWED, joins(&["fulfilled", "breached", "running"])),
             (FORECAST, forecast_joins()),
             (UNITS, unit_deeds()),
+            (QUOTIENTS, quotients::cases()),
             (CAUSES_READING, tables::Damage::CAUSES.iter().map(|cause| format!("{cause:?}")).collect()),
             (CAUSES_FORECAST, tables::Damage::CAUSES.iter().map(|cause| format!("{cause:?}")).collect()),
             (CHANGES, tables::Damage::CHANGES.iter().map(|change| format!("{change:?}")).collect()),
@@ -90,7 +95,7 @@ impl Coverage {
         let accepted = accept(&agreement).expect("an accepted agreement");
         match (&call.entry, answer) {
             (Entry::Check, _) => self.observe_agreement(&call.agreement, &accepted),
-            (Entry::Start { .. }, _) => self.observe_start(&agreement),
+            (Entry::Start { .. }, _) => self.observe_start(&agreement, number),
             (Entry::Reading { table, reading }, Answer::Reading { table: after, .. }) => {
                 if let Ok(reading) = reading::parse(reading) {
                     self.observe_reading(&accepted, table, &reading, number);
@@ -156,8 +161,17 @@ impl Coverage {
         }
     }
 
-    fn observe_start(&mut self, agreement: &Agreement) {
+    fn observe_start(&mut self, agreement: &Agreement, number: u32) {
         self.activation(agreement, &agreement.main, &Scope::default());
+        if number == 0 {
+            self.observe_quotients(quotients::at_start(agreement));
+        }
+    }
+
+    fn observe_quotients(&mut self, worked_out: Vec<Quotient>) {
+        for quotient in worked_out {
+            self.count(QUOTIENTS, quotients::case(quotient));
+        }
     }
 
     /// The joins of a clause that is activated.
@@ -195,6 +209,9 @@ impl Coverage {
             self.count(UNITS, deed(unit, reading).to_string());
         }
         self.followed_joins(accepted.agreement, &residue, reading);
+        if number == 0 {
+            self.observe_quotients(quotients::at_reading(accepted.agreement, &residue, reading));
+        }
     }
 
     fn followed_joins(&mut self, agreement: &Agreement, residue: &Residue, reading: &Reading) {

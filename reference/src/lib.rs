@@ -1,4 +1,4 @@
-//! A reference monitor of brine agreements, written from the paper alone and built for clarity.
+//! A reference monitor of brine agreements, written from the papers alone and built for clarity.
 //!
 //! An agreement is parsed into a tree ([`agreement`]), checked ([`check`](mod@check)), and
 //! followed by rules on trees ([`rules`]); the lent table is read into such a tree and written

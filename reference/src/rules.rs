@@ -81,7 +81,7 @@ impl Waiting<'_> {
     }
 
     /// The time of a breach or of an else: "the later of A and last".
-    fn late_time(&self, last: i64) -> i64 {
+    pub fn late_time(&self, last: i64) -> i64 {
         self.activated.max(last)
     }
 }
@@ -103,11 +103,27 @@ fn apply(operator: Operator, left: i64, right: i64) -> i64 {
         Operator::Plus => held(left + right),
         Operator::Minus => held(left - right),
         Operator::Times => held(left * right),
-        // "The quotient drops the fraction towards zero; a quotient by 0 is 0."
-        Operator::Quotient => left.checked_div(right).unwrap_or(0),
+        Operator::Quotient => quotient(left, right),
         Operator::And => left & right,
         Operator::Less => i64::from(left < right),
         Operator::Equal => i64::from(left == right),
+    }
+}
+
+/// Paper 02, No. 5: "shares of brine round downwards, for shortfalls as well. From the new season
+/// −7 ÷ 2 is −4, and 7 ÷ −2 is −4. A quotient by 0 remains 0." It never lies beyond an end.
+fn quotient(left: i64, right: i64) -> i64 {
+    if right == 0 {
+        return 0;
+    }
+    let towards_zero = left / right;
+    let fraction = left % right != 0;
+    let below_zero = (left < 0) != (right < 0);
+    // Below zero, "downwards" is away from zero.
+    if fraction && below_zero {
+        towards_zero - 1
+    } else {
+        towards_zero
     }
 }
 

@@ -4,11 +4,15 @@
 mod program;
 
 use program::watch;
-use reference::agreement::parse;
+use reference::agreement::{parse, Operator, Type};
+use reference::build::{self, binary, fulfilled, if_clause, number, reading_type, simple, value, Wait};
 use reference::check::accept;
-use reference::coverage::Coverage;
+use reference::coverage::{quotients, Coverage};
+use reference::entries::started;
 use reference::generate::{agreements, calls, input, random::Random};
-use reference::table::{self, CELLS};
+use reference::reading::Reading;
+use reference::rules::Outcome;
+use reference::table::{self, State, CELLS};
 use reference::{check, start};
 
 #[test]
@@ -19,6 +23,29 @@ fn everything_is_reached_and_no_answer_is_impossible() {
     }
     assert!(coverage.faults.is_empty(), "{} faults, one: {}", coverage.faults.len(), coverage.faults[0]);
     assert_eq!(coverage.missing(), Vec::<String>::new());
+}
+
+/// Where a start and a reading come to work them out, and nowhere else.
+#[test]
+fn quotients_worked_out_are_found() {
+    let quotient = |left: Vec<u8>, right| binary(Operator::Quotient, &left, &number(right));
+    let low = |dividend| binary(Operator::Less, &quotient(dividend, 2), &number(9));
+    let plain = simple(60).obligation(0);
+    let then = if_clause(&low(value(1)), &fulfilled(), &plain);
+    let wait = Wait { reading: 1, condition: low(value(0)), after: quotient(number(-8), 4), within: number(60), then };
+    let main = if_clause(&low(number(-7)), &wait.obligation(0), &plain);
+    let bytes = build::agreement(100, 1, &[reading_type(&[Type::Number])], &[], &main);
+    let agreement = parse(&bytes).expect("an agreement");
+    assert_eq!(quotients::at_start(&agreement), [(-7, 2)]);
+
+    let Ok(State { outcome: Outcome::Running(residue), .. }) = started(&agreement) else { panic!("not running") };
+    let found = |time, kind, values: &[i64]| {
+        quotients::at_reading(&agreement, &residue, &Reading { time, kind, values: values.to_vec() })
+    };
+    assert_eq!(found(110, 0, &[]), [(-8, 4)]);
+    assert_eq!(found(110, 1, &[99]), [(-8, 4), (99, 2)]);
+    assert_eq!(found(110, 1, &[5]), [(-8, 4), (5, 2), (48, 2)]);
+    assert_eq!(found(159, 1, &[5]), [(-8, 4)]);
 }
 
 #[test]

@@ -1,8 +1,9 @@
-//! The paper's pond trials P1 to P15, its sample, and the wrong readings that it wants caught.
+//! The pond trials P1 to P15 of paper 01 (P13 as paper 02's No. 5 has it), its sample, and the wrong readings that it
+//! wants caught.
 
 use reference::agreement::{Operator, Type};
 use reference::build::*;
-use reference::table::{BREACHED, FULFILLED, LAST, RUNNING, STATE, USED};
+use reference::table::{BREACHED, FULFILLED, HEAD, LAST, RUNNING, STATE, USED, VALUES};
 use reference::{check, forecast, reading, start, Checked, CELLS};
 
 const SAMPLE: &str = "40 00 01 00 64 00 00 00 02 01 00 | 06 00 02 00 01 01 | 2F 00 11 00 00 01 | \
@@ -162,29 +163,79 @@ fn p12_a_choice_goes_on_with_its_else() {
     assert_eq!(run.forecast(), Some((170, 1)));
 }
 
-/// The forecast time of an obligation within a number, from 100.
-fn within(expression: Vec<u8>) -> i64 {
-    let owed = Wait { within: expression, ..simple(0) }.obligation(0);
-    Run::pond(&owed).forecast().expect("a breach").0 - 100
+const MOST: i32 = 1_000_000_000;
+
+/// What a number expression is worth: given to a template, it stands in the table as the first value in sight.
+fn worth(expression: Vec<u8>) -> i64 {
+    let given = template(&[Type::Number], 0, 1, &owed(0, 60));
+    Run::of(pond(&[given], &instance(0, &[expression], &[]))).table[HEAD + VALUES]
+}
+
+fn quotient(left: i32, right: i32) -> i64 {
+    worth(binary(Operator::Quotient, &number(left), &number(right)))
+}
+
+/// Paper 02, No. 5: "From the new season −7 ÷ 2 is −4, and 7 ÷ −2 is −4."
+#[test]
+fn p13_the_quotient_rounds_down() {
+    assert_eq!(quotient(-7, 2), -4);
+    assert_eq!(quotient(7, -2), -4);
+    assert_eq!(quotient(-7, -2), 3);
+    assert_eq!(quotient(7, 2), 3);
+    assert_eq!(quotient(1, -2), -1);
+    assert_eq!(quotient(-1, 2), -1);
+    assert_eq!(quotient(1, 2), 0);
+    assert_eq!(quotient(-1, -2), 0);
 }
 
 #[test]
-fn p13_the_quotient_drops_the_fraction() {
-    let quotient = |left, right| binary(Operator::Quotient, &number(left), &number(right));
-    let raised = |left, right| within(binary(Operator::Plus, &number(10), &quotient(left, right))) - 10;
-    assert_eq!(raised(-7, 2), -3);
-    assert_eq!(raised(7, -2), -3);
-    assert_eq!(raised(-7, -2), 3);
-    assert_eq!(raised(7, 0), 0);
+fn an_exact_quotient_is_not_rounded() {
+    assert_eq!(quotient(-8, 2), -4);
+    assert_eq!(quotient(8, -2), -4);
+    assert_eq!(quotient(-8, -2), 4);
+    assert_eq!(quotient(8, 2), 4);
+    assert_eq!(quotient(0, -5), 0);
+    assert_eq!(quotient(0, 5), 0);
+}
+
+/// The window counts with the quotient: −7 ÷ 2 and 10 are 6.
+#[test]
+fn a_window_by_a_quotient() {
+    let quotient = binary(Operator::Quotient, &number(-7), &number(2));
+    let within = binary(Operator::Plus, &quotient, &number(10));
+    let mut run = Run::pond(&Wait { within, ..simple(0) }.obligation(0));
+    assert_eq!(run.forecast(), Some((106, 1)));
+    assert_eq!(run.mark(106), RUNNING);
+    assert_eq!(run.mark(107), BREACHED);
+}
+
+/// "A quotient by 0 remains 0."
+#[test]
+fn a_quotient_by_0_is_0() {
+    for dividend in [5, -5, 0, MOST, -MOST] {
+        assert_eq!(quotient(dividend, 0), 0, "{dividend} by 0");
+    }
+}
+
+#[test]
+fn quotients_of_both_ends() {
+    let most = i64::from(MOST);
+    assert_eq!([quotient(MOST, 1), quotient(MOST, -1)], [most, -most]);
+    assert_eq!([quotient(-MOST, 1), quotient(-MOST, -1)], [-most, most]);
+    assert_eq!([quotient(MOST, MOST), quotient(MOST, -MOST)], [1, -1]);
+    assert_eq!([quotient(-MOST, MOST), quotient(-MOST, -MOST)], [-1, 1]);
+    assert_eq!([quotient(1, MOST), quotient(1, -MOST)], [0, -1]);
+    assert_eq!([quotient(-1, MOST), quotient(-1, -MOST)], [-1, 0]);
+    assert_eq!([quotient(MOST, 3), quotient(MOST, -3)], [333_333_333, -333_333_334]);
+    assert_eq!([quotient(-MOST, 3), quotient(-MOST, -3)], [-333_333_334, 333_333_333]);
 }
 
 #[test]
 fn p14_numbers_are_held_at_their_ends() {
-    let most = 1_000_000_000;
-    assert_eq!(within(binary(Operator::Plus, &number(most), &number(1))), i64::from(most));
-    assert_eq!(within(binary(Operator::Times, &number(-most), &number(-most))), i64::from(most));
-    let least = binary(Operator::Minus, &number(-most), &number(1));
-    assert_eq!(within(binary(Operator::Plus, &least, &number(most))), 0);
+    let most = i64::from(MOST);
+    assert_eq!(worth(binary(Operator::Plus, &number(MOST), &number(1))), most);
+    assert_eq!(worth(binary(Operator::Times, &number(-MOST), &number(-MOST))), most);
+    assert_eq!(worth(binary(Operator::Minus, &number(-MOST), &number(1))), -most);
 }
 
 /// P15's agreement: template 0 is an obligation then (template 0 and template 0).

@@ -89,17 +89,26 @@ fn apply(operator: Operator, left: Expression, right: Expression) -> Expression 
     }
 }
 
-/// "a sum, difference or product beyond an end is held at that end"; "The quotient drops the
-/// fraction towards zero; a quotient by 0 is 0."
+/// "a sum, difference or product beyond an end is held at that end"; quotients "round downwards,
+/// for shortfalls as well", and "a quotient by 0 remains 0".
 fn arithmetic(operator: Operator, left: i64, right: i64) -> Option<i32> {
     let number = match operator {
         Operator::Plus => left + right,
         Operator::Minus => left - right,
         Operator::Times => left * right,
-        Operator::Quotient => left.checked_div(right).unwrap_or(0),
+        Operator::Quotient => rounded_down(left, right),
         Operator::And | Operator::Less | Operator::Equal => return None,
     };
     i32::try_from(number.clamp(-NUMBER, NUMBER)).ok()
+}
+
+/// The quotient towards minus infinity; by 0 it is 0. By a positive number that is Euclid's.
+fn rounded_down(left: i64, right: i64) -> i64 {
+    match right.signum() {
+        1 => left.div_euclid(right),
+        -1 => (-left).div_euclid(-right),
+        _ => 0,
+    }
 }
 
 #[cfg(test)]
@@ -113,9 +122,19 @@ mod tests {
     }
 
     #[test]
+    fn quotients_round_down() {
+        let most = 1_000_000_000;
+        let fractions = [(7, 2, 3), (-7, 2, -4), (7, -2, -4), (-7, -2, 3), (1, -2, -1), (-1, most, -1)];
+        let wholes = [(-8, 2, -4), (8, -2, -4), (-8, -2, 4), (0, -5, 0), (5, 0, 0), (-5, 0, 0)];
+        let ends = [(most, 1, most), (most, -1, -most), (-most, 1, -most), (-most, -1, most)];
+        for (left, right, expected) in [&fractions[..], &wholes, &ends].concat() {
+            let number = worked_out(Operator::Quotient, left, right);
+            assert_eq!(number, Expression::Number(expected), "{left} / {right}");
+        }
+    }
+
+    #[test]
     fn numbers_are_the_papers() {
-        assert_eq!(worked_out(Operator::Quotient, -7, 2), Expression::Number(-3));
-        assert_eq!(worked_out(Operator::Quotient, 5, 0), Expression::Number(0));
         assert_eq!(worked_out(Operator::Plus, 1_000_000_000, 1), Expression::Number(1_000_000_000));
         assert_eq!(worked_out(Operator::Minus, -1_000_000_000, 1), Expression::Number(-1_000_000_000));
         assert_eq!(worked_out(Operator::Times, -1_000_000_000, 1_000_000_000), Expression::Number(-1_000_000_000));

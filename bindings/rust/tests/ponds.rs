@@ -150,14 +150,17 @@ fn p12_an_else_counts_from_the_end_of_the_window() {
 }
 
 #[test]
-fn p13_and_p14_quotients_drop_the_fraction_and_sums_are_held() {
+fn p13_and_p14_quotients_round_down_and_sums_are_held() {
     let told = |value: Vec<u8>, expected| {
         let condition = binary(Operator::Equal, &value, &number(expected));
         let mut run = pond_of(&Wait { condition, ..simple(60) }.obligation(0));
         run.salinity(110, 0).unwrap();
         run.is_fulfilled()
     };
-    assert!(told(binary(Operator::Quotient, &number(-7), &number(2)), -3));
+    assert!(told(binary(Operator::Quotient, &number(-7), &number(2)), -4));
+    assert!(told(binary(Operator::Quotient, &number(7), &number(-2)), -4));
+    assert!(told(binary(Operator::Quotient, &number(-7), &number(-2)), 3));
+    assert!(told(binary(Operator::Quotient, &number(-7), &number(0)), 0));
     assert!(told(binary(Operator::Plus, &number(1_000_000_000), &number(1)), 1_000_000_000));
 }
 

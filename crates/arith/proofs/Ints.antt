@@ -1,5 +1,5 @@
 -- Sizes of integers, in ℕ, where omega reads them; and what the machine reads back from an integer's bits.
-use mathlib.Core.Path.{_≡_, refl, sym, ap, _∙_}
+use mathlib.Core.Path.{_≡_, refl, sym, ap}
 use mathlib.Core.Bool.{cond}
 use Prim.Native.Nat.{ℕ, zero, suc, _+_, _-_, _*_, _/_, _^_, _≤_, _<_}
 use native.Mathlib.Nat.{le-refl}
@@ -13,13 +13,9 @@ use mir.Val.{Fits, SFits, sel, toZ, ofZ}
 use mir.ValLaws.{toZ-ofZ}
 use Rattle.csl.specs.Numbers.{eqZ}
 use Rattle.laws.proofs.Bools.{by}
+use Rattle.laws.proofs.Integers.{abs-neg}
 
 -- ---- sizes
-pub abs-neg : (z : ℤ) → natAbs (negℤ z) ≡ natAbs z
-abs-neg (pos zero) = refl
-abs-neg (pos (suc n)) = refl
-abs-neg (negsuc n) = refl
-
 abs-sub : (a b : ℕ) → natAbs (subℕ a b) ≤ a + b
 abs-sub a b = by (λ t. natAbs (cond t (negsuc (b - suc a)) (pos (a - b))) ≤ a + b) (ltb a b)
     (λ e. omega (arith, ltb-true a b e)) (λ e. omega arith)
@@ -73,10 +69,6 @@ read {z} h = toZ-ofZ w64 z h
 -- the same of a call's result, from `c .f .ok`
 pub read! : {z : ℤ} → mag z < 2 ^ 63 → seen z ≡ z
 read! {z} h = read (record { sfits = h })
-
--- a number whose bits are 0 is 0
-pub nought : {z : ℤ} → SFits w64 z → ofZ w64 z ≡ 0 → z ≡ pos 0
-nought h e = sym (read h) ∙ ap (toZ w64) e
 
 pub some-bits : {n : ℕ} → (n ≡ 0 → ⊥) → 0 < n
 some-bits {n = zero} f = absurd (f refl)

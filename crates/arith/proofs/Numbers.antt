@@ -1,21 +1,21 @@
 -- The laws of the language's numbers. What holds of all four operations is one law with the operation as a parameter.
 use mathlib.Core.Path.{_≡_, refl, sym, ap, _∙_, subst}
 use mathlib.Core.Bool.{true, false, cond}
-use Prim.Native.Nat.{ℕ, _+_, _≤_, _<_, max}
-use native.Mathlib.Nat.{le-refl, mul-le-mul, div-le-self, div-zero}
+use Prim.Native.Nat.{ℕ, _+_, _≤_, max}
+use native.Mathlib.Nat.{le-refl, mul-le-mul}
 use native.Mathlib.Omega.{arith}
 use lib.IntN.{ℤ, pos, negsuc, natAbs, _+ℤ_, _-ℤ_, _*ℤ_}
 use lib.Dec.{T, lit≤, leb→le, le→leb}
-use lib.Signed.{ltZ, quotZ}
+use lib.Signed.{ltZ}
 use borrow.Author.Tests.{ltb-true, ltb-false}
 use mir.Syntax.{w64}
-use mir.Val.{SFits, ofZ}
+use mir.Val.{SFits}
 use Rattle.csl.specs.Numbers.{Held, Arithmetic, plus, minus, times, quot, top, bottom, limit, held, quotient}
 use Rattle.csl.specs.Numbers.{calculate, laterOf}
 use Rattle.laws.proofs.Bools.{by}
+use Rattle.laws.proofs.Quotients.{quotient-size}
 use Rattle.arith.specs.Near.{Near, far}
-use Rattle.arith.proofs.Ints.{abs-add, abs-minus, abs-mul, abs-quot, small, seen, abs-seen, read, nought}
-use Rattle.arith.proofs.Ints.{some-bits}
+use Rattle.arith.proofs.Ints.{abs-add, abs-minus, abs-mul, small, seen, abs-seen, read}
 use Rattle.arith.proofs.Linear.{ints, parts, up, dn, lt-false}
 
 pub held-fits : {z : ℤ} → Held z → SFits w64 z
@@ -64,14 +64,14 @@ abbrev pub exactly : Arithmetic → ℤ → ℤ → ℤ
 exactly plus a b = a +ℤ b
 exactly minus a b = a -ℤ b
 exactly times a b = a *ℤ b
-exactly quot a b = quotZ a b
+exactly quot a b = quotient a b
 
--- as the machine does them: the result is asked to fit, and is read back as it is
-module _ (o : Arithmetic) {a b : ℤ} (p : SFits w64 a) (q : SFits w64 b) (r : SFits w64 (exactly o a b)) where
-  pub asked : SFits w64 (exactly o (seen a) (seen b))
+-- as the machine does any operation: the result is asked to fit, and is read back as it is
+module _ (o : ℤ → ℤ → ℤ) {a b : ℤ} (p : SFits w64 a) (q : SFits w64 b) (r : SFits w64 (o a b)) where
+  pub asked : SFits w64 (o (seen a) (seen b))
   asked = rw (read p, read q) r
 
-  pub given : seen (exactly o (seen a) (seen b)) ≡ exactly o a b
+  pub given : seen (o (seen a) (seen b)) ≡ o a b
   given = rw (read p, read q) (read r)
 
 -- where the size of the result is at most the sum of the sizes, as of a sum and a difference
@@ -81,33 +81,18 @@ module _ (o : Arithmetic) (size : (a b : ℤ) → natAbs (exactly o a b) ≤ nat
   fits = small (omega (sizes, size a b))
 
   pub exact-asked : SFits w64 (exactly o (seen a) (seen b))
-  exact-asked = asked o (small (omega sizes)) (small (omega sizes)) fits
+  exact-asked = asked (exactly o) (small (omega sizes)) (small (omega sizes)) fits
 
   pub exact-answer : (seen (exactly o (seen a) (seen b)) ≡ exactly o a b)
       × Near (natAbs a + natAbs b) (seen (exactly o (seen a) (seen b)))
-  exact-answer = let e = given o (small (omega sizes)) (small (omega sizes)) fits in
+  exact-answer = let e = given (exactly o) (small (omega sizes)) (small (omega sizes)) fits in
       (e, rw e (within-goal (natAbs a + natAbs b) (exactly o a b) (size a b)))
-
-quot-size : (a b : ℤ) → natAbs (quotZ a b) ≤ natAbs a
-quot-size a b = omega (arith, abs-quot a b, div-le-self (natAbs a) (natAbs b))
 
 bound : (o : Arithmetic) {a b : ℤ} → Held a × Held b → natAbs (exactly o a b) ≤ 1_000_000_000_000_000_000
 bound plus {a} {b} h = omega (arith, abs-add a b)
 bound minus {a} {b} h = omega (arith, abs-minus a b)
 bound times {a} {b} h = rw abs-mul (mul-le-mul (h .0 .bounded) (h .1 .bounded))
-bound quot {a} {b} h = omega (arith, quot-size a b)
-
-quotient-is : (a b : ℤ) → quotZ a b ≡ quotient a b
-unfolding quotient
-quotient-is (pos a) (pos b) = refl
-quotient-is (pos a) (negsuc b) = refl
-quotient-is (negsuc a) (pos b) = refl
-quotient-is (negsuc a) (negsuc b) = refl
-
-quotient-none : (a : ℤ) → pos 0 ≡ quotient a (pos 0)
-unfolding quotient
-quotient-none (pos a) = rw div-zero
-quotient-none (negsuc a) = rw div-zero
+bound quot {a} {b} h = omega (arith, quotient-size a b)
 
 -- of held numbers each operation is the exact one, held
 pub calculate-is : (o : Arithmetic) {a b : ℤ} → Held a × Held b → calculate o a b ≡ held (exactly o a b)
@@ -115,7 +100,7 @@ unfolding calculate
 calculate-is plus h = refl
 calculate-is minus h = refl
 calculate-is times h = refl
-calculate-is quot {a} {b} h = sym (quotient-is a b) ∙ held-same (record { bounded = omega (arith, quot-size a b) })
+calculate-is quot {a} {b} h = held-same (record { bounded = omega (arith, quotient-size a b) })
 
 pub calculate-held : (o : Arithmetic) {a b : ℤ} → Held a → Held b → Held (calculate o a b)
 calculate-held o {a} {b} h k = rw (calculate-is o (h, k)) (held-held (exactly o a b))
@@ -126,10 +111,10 @@ Answer o a b r = (r ≡ calculate o a b) × Held r
 
 module _ (o : Arithmetic) {a b : ℤ} (h : Held a × Held b) where
   pub held-asked : SFits w64 (exactly o (seen a) (seen b))
-  held-asked = asked o (held-fits (h .0)) (held-fits (h .1)) (small (bound o h))
+  held-asked = asked (exactly o) (held-fits (h .0)) (held-fits (h .1)) (small (bound o h))
 
   pub held-given : seen (exactly o (seen a) (seen b)) ≡ exactly o a b
-  held-given = given o (held-fits (h .0)) (held-fits (h .1)) (small (bound o h))
+  held-given = given (exactly o) (held-fits (h .0)) (held-fits (h .1)) (small (bound o h))
 
   pub answer : {r : ℤ} → r ≡ calculate o a b → Answer o a b r
   answer e = (e, rw e (calculate-held o (h .0) (h .1)))
@@ -137,19 +122,6 @@ module _ (o : Arithmetic) {a b : ℤ} (h : Held a × Held b) where
   -- what the machine computes, held by a call whose result is r
   pub held-answer : {r : ℤ} → r ≡ held (seen (exactly o (seen a) (seen b))) → Answer o a b r
   held-answer e = answer (e ∙ ap held held-given ∙ sym (calculate-is o h))
-
--- ---- the quotient: the machine asks that b is not 0, and nothing need be held
-module _ {a b : ℤ} (h : Held a × Held b) where
-  pub quotient-asked : (ofZ w64 b ≡ 0 → ⊥) → (0 < ofZ w64 b) × SFits w64 (quotZ (seen a) (seen b))
-  quotient-asked f = (some-bits f, held-asked quot h)
-
-  pub quotient-answer : Answer quot a b (seen (quotZ (seen a) (seen b)))
-  unfolding calculate
-  quotient-answer = answer quot h (held-given quot h ∙ quotient-is a b)
-
-  pub quotient-nought : ofZ w64 b ≡ 0 → Answer quot a b (pos 0)
-  unfolding calculate
-  quotient-nought e = answer quot h (rw (nought (held-fits (h .1)) e) (quotient-none a))
 
 -- ---- the later of a time and the end of a window
 module _ (n : ℕ) where

@@ -1,5 +1,6 @@
 // Arithmetic on the language's numbers.
 ghost use mathlib.Core.Path.{_≡_};
+ghost use mathlib.Core.Bool.{true};
 ghost use Prim.Native.Nat.{ℕ, _+_, _≤_, _<_, min, max};
 ghost use lib.IntN.{pos, natAbs, _+ℤ_, _-ℤ_};
 ghost use lib.Signed.{ltZ};
@@ -46,12 +47,26 @@ pub fn product(a: i64, b: i64) -> i64
     held(a * b)
 }
 
-// The fraction is dropped towards zero; a quotient by 0 is 0.
+// Rounded down, also where it is below 0; by 0 it is 0. With both signs turned it is the same.
 pub fn quotient(a: i64, b: i64) -> i64
     requires { ⌜ Held a × Held b ⌝ }
     ensures { λ r. ⌜ (r ≡ calculate quot a b) × Held r ⌝ }
 {
-    if b == 0 { 0 } else { a / b }
+    if b > 0 {
+        quotient_by_positive(a, b)
+    } else if b < 0 {
+        quotient_by_positive(-a, -b)
+    } else {
+        0
+    }
+}
+
+// The machine drops the fraction: of a number below 0 the one above it is divided, and 1 taken off.
+fn quotient_by_positive(a: i64, b: i64) -> i64
+    requires { ⌜ (Held a × Held b) × (ltZ (pos 0) b ≡ true) ⌝ }
+    ensures { λ r. ⌜ (r ≡ calculate quot a b) × Held r ⌝ }
+{
+    if a < 0 { (a + 1) / b - 1 } else { a / b }
 }
 
 // A sum that is not held: a time and a number of the language.

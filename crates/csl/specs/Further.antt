@@ -176,11 +176,35 @@ sums =
     ∷ calculated 38 least (pos 1) least
     ∷ calculated 39 (pos 6) (negsuc 6) (negsuc 41)
     ∷ calculated 39 most most most
-    ∷ calculated 39 most least least
-    ∷ calculated 40 (pos 7) (pos 2) (pos 3)
-    ∷ calculated 40 (pos 7) (negsuc 1) (negsuc 2)
+    ∷ calculated 39 most least least ∷ []
+
+-- Paper 02, No. 5
+unfoldable pub fractions : List (List ℕ)
+fractions =
+    calculated 40 (pos 7) (pos 2) (pos 3)
+    ∷ calculated 40 (pos 7) (negsuc 1) (negsuc 3)
+    ∷ calculated 40 (negsuc 6) (pos 2) (negsuc 3)
     ∷ calculated 40 (negsuc 6) (negsuc 1) (pos 3)
-    ∷ calculated 40 (negsuc 6) (pos 0) (pos 0) ∷ []
+    ∷ calculated 40 (pos 1) (pos 2) (pos 0)
+    ∷ calculated 40 (pos 1) (negsuc 1) (negsuc 0)
+    ∷ calculated 40 (negsuc 0) (pos 2) (negsuc 0)
+    ∷ calculated 40 (negsuc 0) (negsuc 1) (pos 0)
+    ∷ calculated 40 (pos 1) least (negsuc 0)
+    ∷ calculated 40 (negsuc 0) most (negsuc 0) ∷ []
+
+unfoldable pub wholes : List (List ℕ)
+wholes =
+    calculated 40 (pos 8) (negsuc 1) (negsuc 3)
+    ∷ calculated 40 (negsuc 7) (pos 2) (negsuc 3)
+    ∷ calculated 40 (negsuc 7) (negsuc 1) (pos 4)
+    ∷ calculated 40 (pos 0) (negsuc 4) (pos 0)
+    ∷ calculated 40 (pos 7) (pos 0) (pos 0)
+    ∷ calculated 40 (negsuc 6) (pos 0) (pos 0)
+    ∷ calculated 40 most (pos 1) most
+    ∷ calculated 40 most (negsuc 0) least
+    ∷ calculated 40 least (pos 1) least
+    ∷ calculated 40 least (negsuc 0) most
+    ∷ calculated 40 least least (pos 1) ∷ []
 
 unfoldable pub equations : List (List ℕ)
 equations =
@@ -216,7 +240,9 @@ nums (n ∷ ns) = num (pos n) ∷ nums ns
 
 unfoldable pub runs : List Trial
 runs =
-    taken "sums, differences, products, quotients" (every sums)
+    taken "sums, differences, products" (every sums)
+    ∷ taken "quotients round down" (every fractions)
+    ∷ taken "quotients without a fraction, by 0 and at both ends" (every wholes)
     ∷ taken "what is equal, less and both" (every equations)
     ∷ taken "not true and false" (opposite (op 41 yes′ (truthOf 0)))
     ∷ taken "not false and true" (opposite (op 41 (truthOf 0) yes′))
@@ -883,9 +909,9 @@ further = runs ++ (joins ++ (readings ++
 pub further-pass : map (λ t. t .shown) further ≡ map (λ t. t .expected) further
 unfolding harness says accepts refuses mains five refusesAll stepsOf runSeen obeys leads waits owed chosen by shows
     saying nested one asking afterIs withinIs next otherwise chooses main aNumber counting template beside call
-    lending every is isNot calculated most least sums equations taken chain nums runs pairs becoming left right joins
-    values refused′ readings records named inSight types guards ladder wide calls both′ body ladder′ wide′ waiting
-    next′ either′ if′ widest tooWide laddered narrow over widths mixed lent offered units′ short good ended broke full
-    set alter readBy rejects running′ lent′ residue sound ends sights alone alone′ inPlace tables begun two crowd
-    entries bare asked op′ still absent unreached further
+    lending every is isNot calculated most least sums fractions wholes equations taken chain nums runs pairs becoming
+    left right joins values refused′ readings records named inSight types guards ladder wide calls both′ body ladder′
+    wide′ waiting next′ either′ if′ widest tooWide laddered narrow over widths mixed lent offered units′ short good
+    ended broke full set alter readBy rejects running′ lent′ residue sound ends sights alone alone′ inPlace tables
+    begun two crowd entries bare asked op′ still absent unreached further
 further-pass = refl

@@ -191,7 +191,7 @@ unfoldable pub asks : List ℕ → ℤ → List ℕ
 asks e z = agreement [] (owes 0 (op 43 e (lit z)) (pos 0) (pos 60) nothing)
 
 unfoldable pub p13 : Trial
-p13 = follows "P13" (asks (op 40 (lit (negsuc 6)) (lit (pos 2))) (negsuc 2)) (reading 110 (pos 1) ∷ [])
+p13 = follows "P13" (asks (op 40 (lit (negsuc 6)) (lit (pos 2))) (negsuc 3)) (reading 110 (pos 1) ∷ [])
     (unmet 100 ∷ fulfils 110 ∷ [])
 
 unfoldable pub p14 : Trial

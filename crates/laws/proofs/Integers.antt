@@ -1,10 +1,10 @@
--- Integers that are natural numbers, and the later of two times.
+-- Integers that are natural numbers, the size of an integer, and the later of two times.
 use mathlib.Core.Bool.{Bool, true, false, cond}
-use mathlib.Core.Path.{_≡_, sym}
-use Prim.Native.Nat.{ℕ, suc, _-_, _≤_}
+use mathlib.Core.Path.{_≡_, refl, sym}
+use Prim.Native.Nat.{ℕ, zero, suc, _-_, _≤_}
 use native.Mathlib.Omega.{arith}
 use lib.Dec.{ltb}
-use lib.IntN.{ℤ, pos, negsuc, subℕ, pos-ne-negsuc}
+use lib.IntN.{ℤ, pos, negsuc, negℤ, natAbs, subℕ, pos-ne-negsuc}
 use Rattle.csl.specs.Numbers.{laterOf}
 
 pub pos-inj : {m n : ℕ} → pos m ≡ pos n → m ≡ n
@@ -17,6 +17,11 @@ difference-below x y m e = go (ltb x y) e
     go : (b : Bool) → _≡_ {A = ℤ} (cond b (negsuc (y - suc x)) (pos (x - y))) (pos m) → m ≤ x
     go true p = absurd (pos-ne-negsuc m _ (sym p))
     go false p = let q : x - y ≡ m = cc in omega arith
+
+pub abs-neg : (z : ℤ) → natAbs (negℤ z) ≡ natAbs z
+abs-neg (pos zero) = refl
+abs-neg (pos (suc n)) = refl
+abs-neg (negsuc n) = refl
 
 pub later-from : (a : ℕ) (l : ℤ) → a ≤ laterOf a l
 unfolding laterOf

@@ -2,6 +2,7 @@ pub mod Clash
 pub mod Bools
 pub mod Options
 pub mod Integers
+pub mod Quotients
 pub mod Lists
 pub mod PartyBits
 pub mod RecordEnds

@@ -4,4 +4,5 @@ pub mod Demand3
 pub mod Forecast
 pub mod Monitors
 pub mod Rules
+pub mod Quotients
 pub mod Program

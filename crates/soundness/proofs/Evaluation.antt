@@ -3,15 +3,14 @@ use mathlib.Core.Bool.{_&&_, Bool, cond, false, not, true}
 use mathlib.Core.List.{_++_, List, [], _∷_}
 use mathlib.Core.Option.{Option, some}
 use mathlib.Core.Path.{refl, subst, sym, _∙_, _≡_}
-use Prim.Native.Nat.{_-_, _/_, suc, zero, ℕ}
-use native.Mathlib.Nat.{div-le-self}
+use Prim.Native.Nat.{_-_, suc, zero, ℕ}
 use native.Mathlib.Omega.{arith}
 use lib.Dec.{T, eqb, leb, leb→le, le→leb, ltb, nltb→le}
 use lib.IntN.{_*ℤ_, _+ℤ_, _-ℤ_, natAbs, negsuc, pos, ℤ}
 use lib.Signed.{ltZ}
 use Rattle.csl.specs.Lists.{_>>=_, at}
-use Rattle.csl.specs.Numbers.{Arithmetic, bottom, calculate, differ, eqZ, held, inRange, isNegative, limit, minus}
-use Rattle.csl.specs.Numbers.{plus, quot, quotient, signed, times, top}
+use Rattle.csl.specs.Numbers.{Arithmetic, bottom, calculate, eqZ, held, inRange, limit, minus, plus, quot, quotient}
+use Rattle.csl.specs.Numbers.{times, top}
 use Rattle.csl.specs.Syntax.{Expr, Op, Ty, arithmetic, badExpr, binary, conj, equal, less, negation, number}
 use Rattle.csl.specs.Syntax.{numberLit, party, partyLit, truth, truthLit, variable}
 use Rattle.csl.specs.Typing.{operand, result, sameTy, typeExpr}
@@ -20,6 +19,7 @@ use Rattle.csl.specs.Values.{who}
 use Rattle.laws.proofs.Bools.{both-true}
 use Rattle.laws.proofs.Options.{from-bind, from-need, some-bind, some-inj}
 use Rattle.laws.proofs.Clash.{impossible}
+use Rattle.laws.proofs.Quotients.{quotient-size}
 
 pub sameTy→eq : (s t : Ty) → T (sameTy s t) → s ≡ t
 unfolding sameTy
@@ -82,20 +82,10 @@ held-range (negsuc n) = go (ltZ (negsuc n) bottom) refl
     go true e = tt
     go false e = le→leb (suc n) limit (omega (arith, nltb→le (limit - 1) n (subst (λ b. T (not b)) (sym e) tt)))
 
-signed-size : (b : Bool) (n : ℕ) → natAbs (signed b n) ≡ n
-signed-size false n = refl
-signed-size true zero = refl
-signed-size true (suc n) = refl
-
 quotient-range : (x y : ℤ) → T (inRange x) → T (inRange (quotient x y))
-unfolding inRange quotient
-quotient-range x y h = le→leb (natAbs (signed (differ (isNegative x) (isNegative y)) (natAbs x / natAbs y))) limit
-    (omega (
-      arith,
-      signed-size (differ (isNegative x) (isNegative y)) (natAbs x / natAbs y),
-      div-le-self (natAbs x) (natAbs y),
-      leb→le (natAbs x) limit h,
-    ))
+unfolding inRange
+quotient-range x y h =
+    le→leb (natAbs (quotient x y)) limit (omega (arith, quotient-size x y, leb→le (natAbs x) limit h))
 
 -- a number in range stays in range under every operator: "a sum, difference or product beyond an end is held at that
 -- end"
