@@ -19,13 +19,13 @@ use Rattle.arith.proofs.Linear.{ints, parts, up, dn}
 use Rattle.arith.proofs.Numbers.{Answer, answer, held-fits}
 
 -- ---- in the integers
-next : (n : ℕ) → negsuc n +ℤ pos 1 ≡ negℤ (pos n)
-next zero = refl
-next (suc n) = +ℤ-one (negsuc (suc n))
+number-above : (n : ℕ) → negsuc n +ℤ pos 1 ≡ negℤ (pos n)
+number-above zero = refl
+number-above (suc n) = +ℤ-one (negsuc (suc n))
 
-last : (n : ℕ) → negℤ (pos n) -ℤ pos 1 ≡ negsuc n
-last zero = refl
-last (suc n) = -ℤ-one (negsuc n)
+number-below : (n : ℕ) → negℤ (pos n) -ℤ pos 1 ≡ negsuc n
+number-below zero = refl
+number-below (suc n) = -ℤ-one (negsuc n)
 
 quot-below : (n d : ℕ) → quotZ (negℤ (pos n)) (pos d) ≡ negℤ (pos (n / d))
 quot-below zero d = rw zero-div
@@ -35,7 +35,7 @@ below-is : (a b : ℤ) → ltZ a (pos 0) ≡ true → ltZ (pos 0) b ≡ true →
 unfolding quotient
 below-is (pos n) b h k = absurd (omega (arith, ltb-true n 0 h))
 below-is (negsuc n) (pos zero) h k = absurd (subst T (sym k) tt)
-below-is (negsuc n) (pos (suc m)) h k = rw (next, quot-below, last)
+below-is (negsuc n) (pos (suc m)) h k = rw (number-above, quot-below, number-below)
 below-is (negsuc n) (negsuc m) h k = absurd (subst T (sym k) tt)
 
 above-is : (a b : ℤ) → ltZ a (pos 0) ≡ false → ltZ (pos 0) b ≡ true → quotZ a b ≡ quotient a b
@@ -53,8 +53,11 @@ positive-bits (negsuc m) k = absurd (subst T (sym k) tt)
 quot-size : (a b : ℤ) → natAbs (quotZ a b) ≤ natAbs a
 quot-size a b = omega (arith, abs-quot a b, div-le-self (natAbs a) (natAbs b))
 
--- ---- as the machine does it
-module _ {a b : ℤ} (h : (Held a × Held b) × (ltZ (pos 0) b ≡ true)) where
+-- ---- as the machine does it, by a number above 0: what `quotient_by_positive` requires
+abbrev Positive : ℤ → ℤ → Type 0
+Positive a b = (Held a × Held b) × (ltZ (pos 0) b ≡ true)
+
+module _ {a b : ℤ} (h : Positive a b) where
   dividend : seen a ≡ a
   dividend = read (held-fits (h .0 .0))
 
@@ -68,8 +71,8 @@ module _ {a b : ℤ} (h : (Held a × Held b) × (ltZ (pos 0) b ≡ true)) where
   above-fits : SFits w64 above
   above-fits = small (omega (arith, abs-add a (pos 1)))
 
-  share-fits : SFits w64 (quotZ above b)
-  share-fits = small (omega (arith, quot-size above b, abs-add a (pos 1)))
+  above-quot-fits : SFits w64 (quotZ above b)
+  above-quot-fits = small (omega (arith, quot-size above b, abs-add a (pos 1)))
 
   below-fits : SFits w64 (quotZ above b -ℤ pos 1)
   below-fits = small (omega (arith, abs-minus (quotZ above b) (pos 1), quot-size above b, abs-add a (pos 1)))
@@ -77,17 +80,17 @@ module _ {a b : ℤ} (h : (Held a × Held b) × (ltZ (pos 0) b ≡ true)) where
   pub above-asked : SFits w64 (seen a +ℤ pos 1)
   above-asked = rw dividend above-fits
 
-  pub share-asked : (0 < ofZ w64 b) × SFits w64 (quotZ (seen (seen a +ℤ pos 1)) (seen b))
-  share-asked = (positive-bits b (h .1), rw (dividend, divisor, read above-fits) share-fits)
+  pub above-quot-asked : (0 < ofZ w64 b) × SFits w64 (quotZ (seen (seen a +ℤ pos 1)) (seen b))
+  above-quot-asked = (positive-bits b (h .1), rw (dividend, divisor, read above-fits) above-quot-fits)
 
   pub below-asked : SFits w64 (seen (quotZ (seen (seen a +ℤ pos 1)) (seen b)) -ℤ pos 1)
-  below-asked = rw (dividend, divisor, read above-fits, read share-fits) below-fits
+  below-asked = rw (dividend, divisor, read above-fits, read above-quot-fits) below-fits
 
   pub below-answer : ltZ (seen a) (pos 0) ≡ true
       → Answer quot a b (seen (seen (quotZ (seen (seen a +ℤ pos 1)) (seen b)) -ℤ pos 1))
   unfolding calculate
   below-answer e = answer quot (h .0)
-      (rw (dividend, divisor, read above-fits, read share-fits, read below-fits)
+      (rw (dividend, divisor, read above-fits, read above-quot-fits, read below-fits)
       (below-is a b (rw (sym dividend) e) (h .1)))
 
   quot-fits : SFits w64 (quotZ a b)
@@ -118,10 +121,6 @@ module _ (z : ℤ) (h : Held z) where
 
   turned : seen (pos 0 -ℤ seen z) ≡ negℤ z
   turned = rw turns (read (held-fits turned-held))
-
--- what `quotient_by_positive` requires
-abbrev Positive : ℤ → ℤ → Type 0
-Positive a b = (Held a × Held b) × (ltZ (pos 0) b ≡ true)
 
 module _ {a b : ℤ} (h : Held a × Held b) where
   pub straight-asked : ltZ (pos 0) (seen b) ≡ true → Positive (seen a) (seen b)

@@ -1,5 +1,6 @@
 -- The machine's division drops the fraction; of a number below 0 the one above it is divided, and 1 is taken off.
-use Rattle.arith.proofs.Quotients.{above-asked, share-asked, below-asked, below-answer, quot-asked, quot-answer}
+use Rattle.arith.proofs.Quotients.{above-asked, above-quot-asked, below-asked, below-answer}
+use Rattle.arith.proofs.Quotients.{quot-asked, quot-answer}
 use Rattle.arith.proofs.quotient_by_positive.Statement.{statement}
 use Rattle.arith.proofs.quotient_by_positive.Tie as tie
 
@@ -7,7 +8,7 @@ add-result : tie.Need-add-result
 add-result c = above-asked (c .before .pre)
 
 div-result : tie.Need-div-result
-div-result c = share-asked (c .before .pre)
+div-result c = above-quot-asked (c .before .pre)
 
 sub-result : tie.Need-sub-result
 sub-result c = below-asked (c .before .pre)
