@@ -1,4 +1,5 @@
 -- The machine's division drops the fraction; of a number below 0 the one above it is divided, and 1 is taken off.
+use Rattle.arith.proofs.Linear.{ints, up, dn}
 use Rattle.arith.proofs.Quotients.{above-asked, above-quot-asked, below-asked, below-answer}
 use Rattle.arith.proofs.Quotients.{quot-asked, quot-answer}
 use Rattle.arith.proofs.quotient_by_positive.Statement.{statement}
@@ -17,10 +18,12 @@ div-result-2 : tie.Need-div-result-2
 div-result-2 c = quot-asked (c .before .pre)
 
 returns : tie.Need-returns
-returns c = below-answer (c .before .pre) (c .if1 .taken)
+unfolding up dn
+returns c = below-answer (c .before .pre) (omega ints)
 
 returns-2 : tie.Need-returns-2
-returns-2 c = quot-answer (c .before .pre) (c .if1 .left)
+unfolding up dn
+returns-2 c = quot-answer (c .before .pre) (omega ints)
 
 pub quotient-by-positive-spec : {M : Type 1} → statement M
 quotient-by-positive-spec =
