@@ -4,22 +4,27 @@ the program `trials` runs in on a valid and on a hostile agreement. Needs target
 import resource
 import subprocess
 
-from records import NIL, agreement, instructions, lit, owes, program, rec, template, tree, u2
+from records import NIL, agreement, either, instructions, lit, owes, program, rec, template, tree, u2
 
 TRIALS = program("trials")
 
 
-def bodies(size, make):
+def bodies(size, make, party=0):
     """Four templates for each 2,048 bytes, with bodies that fill them: make(n) is a clause of n parts."""
     count = 4 * size // 2048
     room = (2048 - len(agreement(owes()))) // 4
     n = max(n for n in range(1, 200) if len(template(make(n))) <= room)
-    return agreement(owes(), [template(make(n))] * count)
+    return agreement(owes(), [template(make(n), 1 << party)] * count, max(2, party + 1))
 
 
 def clauses(size):
     """Small clauses: obligations joined by `and`."""
     return bodies(size, lambda n: tree(n, owes()))
+
+
+def alternatives(size):
+    """Obligations of party 15 joined by `or`: at each its two sides' members are counted."""
+    return bodies(size, lambda n: tree(n, owes(party=15), either), 15)
 
 
 def expressions(size):
@@ -52,7 +57,8 @@ def least_stack(data):
 
 def main():
     base = instructions(TRIALS, stream())
-    for name, make in (("small clauses", clauses), ("expressions", expressions)):
+    kinds = {"small clauses": clauses, "small clauses joined by `or`": alternatives, "expressions": expressions}
+    for name, make in kinds.items():
         counts = []
         for size in (2048, 4096, 8192, 16384):
             a = make(size)

@@ -7,7 +7,7 @@ import struct
 import subprocess
 import time
 
-from records import ROOT, agreement, both, instructions, owes, program, rec, template, tree
+from records import ROOT, agreement, both, either, instructions, owes, program, rec, template, tree
 
 WATCH = program("brinewatch")
 SAMPLE = open(os.path.join(ROOT, "crates", "brinewatch", "stdin"), "rb").read()[:64]
@@ -34,12 +34,14 @@ def main():
     doubling = agreement(inst, [template(owes(both(inst, inst), within=1000000))])
     grown = doubling + b"".join(reading(101 + i) for i in range(6))
     wide = agreement(tree(64, owes(within=1000000)))
+    alternatives = agreement(tree(64, owes(within=1000000, party=15), either), parties=16)
     cost("the sample, a reading that waits on", SAMPLE, reading(110, 240))
     cost("the sample, a mark", SAMPLE, mark(110))
     cost(f"an agreement of {len(large)} bytes, one unit, a mark", large, mark(110))
     cost("127 units in a small agreement, a mark", grown, mark(110))
     cost("127 units, a reading refused with 11", grown, reading(110))
     cost(f"127 units of as many clauses ({len(wide)} bytes), a mark", wide, mark(110))
+    cost("127 units of as many clauses of party 15 joined by `or`, a mark", alternatives, mark(110))
     data = SAMPLE + reading(110, 240) * 10000
     start = time.time()
     subprocess.run([WATCH], input=data, capture_output=True)

@@ -15,18 +15,23 @@ def lit(z): return rec(32, struct.pack("<i", z))
 YES, NIL = rec(33, b"\x01"), rec(16)
 
 
-def owes(then=NIL, within=60, where=YES): return rec(17, bytes([0, 1]) + where + lit(0) + lit(within) + then)
+def owes(then=NIL, within=60, where=YES, party=0):
+    return rec(17, bytes([party, 1]) + where + lit(0) + lit(within) + then)
+
+
 def both(a, b): return rec(20, a + b)
-def template(body): return rec(3, bytes([0, 0]) + u2(1) + body)
+def either(a, b): return rec(21, a + b)
+def template(body, declared=1): return rec(3, bytes([0, 0]) + u2(declared) + body)
 
 
-def tree(n, leaf):
-    """n leaves joined by `and`, in balance."""
-    return leaf if n == 1 else both(tree(n // 2, leaf), tree(n - n // 2, leaf))
+def tree(n, leaf, join=both):
+    """n leaves joined by `and`, or by the join given, in balance."""
+    return leaf if n == 1 else join(tree(n // 2, leaf, join), tree(n - n // 2, leaf, join))
 
 
-def agreement(main, templates=()):
-    return rec(1, struct.pack("<I", 100) + bytes([2, 1, len(templates)]) + rec(2, bytes([1, 1])) + b"".join(templates) + main)
+def agreement(main, templates=(), parties=2):
+    head = struct.pack("<I", 100) + bytes([parties, 1, len(templates)]) + rec(2, bytes([1, 1]))
+    return rec(1, head + b"".join(templates) + main)
 
 
 def program(name): return os.path.join(ROOT, "target", "bin", name)

@@ -110,6 +110,28 @@ def owing(c): return agreement(c, [template(simply(0, 60), declared=1)])
 
 AWAITING = running(100, [waiting(17, 56, 100, [], [])])
 
+# 16 parties, each owing in the main clause; in template 0 so do its party parameters
+PARTIES, PARAMETERS = range(16), range(128, 132)
+MEMBERS = [*PARTIES, *PARAMETERS]
+
+
+def shared_by(members):
+    half = len(members) // 2
+    return both(shared_by(members[:half]), shared_by(members[half:])) if half else simply(members[0], 60)
+
+
+def sided(*clauses): return agreement(NIL, [template(either(*clauses), [], 4, 65_535)], parties=16)
+def pairs(members): return [(p, q) for q in members for p in members if p < q]
+
+
+EVERYONE = agreement(shared_by(PARTIES), [template(shared_by(PARAMETERS), [], 4)], parties=16)
+
+
+def owed(member, *params): return waiting(17, EVERYONE.index(simply(member, 60)), 100, list(params), [])
+def one_of(a, b): return running(100, [joining(21), a, b])
+def one_member(a, b): leads(EVERYONE, one_of(a, b), event(110), altered(1, 110, one_of(a, b)))
+def two_members(a, b): declines(7, EVERYONE, one_of(a, b), event(110))
+
 # ---- agreements, each by its name
 # accepted
 case("the sample", SAMPLE, 0, 1)
@@ -566,6 +588,17 @@ cause("3: with an instance: of one party, of two declared ones, of a declared on
 accepts(2, agreement(either(inst(0), simply(1, 60)), [template(NIL, declared=2)]))
 refuses(3, agreement(either(inst(0), NIL), [template(NIL, declared=3)]))
 refuses(3, agreement(either(inst(0, [], [1]), NIL), [template(NIL, [], 1, 1)]))
+cause("3: with no member, with each member alone, parameters too")
+accepts(0, sided(NIL, NIL))
+for m in MEMBERS:
+    accepts(0, sided(simply(m, 50), simply(m, 60)))
+cause("3: with each two members, parameters too")
+for p, q in pairs(MEMBERS):
+    call("check", sided(simply(p, 60), simply(q, 60)), [], b"", 3, 0)
+cause("3: with the first 3 to 20 members, and the last")
+for n in range(3, 21):
+    call("check", sided(shared_by(MEMBERS[:n - 1]), simply(MEMBERS[n - 1], 60)), [], b"", 3, 0)
+    call("check", sided(simply(MEMBERS[-n], 60), shared_by(MEMBERS[1 - n:])), [], b"", 3, 0)
 cause("3: before 4")
 refuses(3, agreement(asking(ONE), [template(inst(0), declared=1)]))
 
@@ -741,6 +774,16 @@ cause("7: the rule for `or`: two parties beside an `or`, by a parameter and by a
 broken(altered(cell(3, 3), 0, GOOD))
 broken(altered(cell(0, 0), 21, GOOD))
 sound(110, altered(cell(2, 0), 20, GOOD))
+cause("7: each party alone on both sides of an `or`: itself, by the first parameter, by the last")
+for p in PARTIES:
+    one_member(owed(p), owed(p))
+    one_member(owed(p), owed(128, p, 0, 0, 0))
+    one_member(owed(131, 0, 0, 0, p), owed(128, p, 0, 0, 0))
+cause("7: each two parties: themselves, by the first parameter, by the last")
+for p, q in pairs(PARTIES):
+    two_members(owed(p), owed(q))
+    two_members(owed(q), owed(128, p, 0, 0, 0))
+    two_members(owed(131, 0, 0, 0, p), owed(128, q, 0, 0, 0))
 cause("7: a breach by each party of the main clause; without party, with one not of it, with a bit above 15")
 sound(170, breached(160, 3))
 broken(breached(160, 0))

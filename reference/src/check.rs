@@ -62,6 +62,8 @@ impl Parties {
         Parties(self.0 | other.0)
     }
 
+    /// Paper 02, No. 4: "use the count of ones that the language has, with no division or loop
+    /// beside it". Every member, parameters too, is one bit.
     fn count(self) -> u32 {
         self.0.count_ones()
     }

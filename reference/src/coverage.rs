@@ -1,6 +1,7 @@
 //! Counts what generated calls reach, and finds faults: answers that cannot be right whatever the
 //! rules say in detail.
 
+pub mod members;
 pub mod quotients;
 
 use crate::agreement::{self, Agreement, Clause, Late};
@@ -10,7 +11,8 @@ use crate::generate::{damage, readings::collect, tables, Aim, Answer, Call, Entr
 use crate::reading::{self, Reading};
 use crate::rules::{self, evaluate, Outcome, Residue, Scope, Waiting};
 use crate::table::{self, State, BREACHED, FULFILLED, STATE, USED};
-use crate::{build, entries};
+use crate::{build, entries, Refusal};
+use members::Judged;
 use quotients::Quotient;
 use std::collections::BTreeMap;
 use std::fmt;
@@ -23,6 +25,7 @@ const FOLLOWED: &str = "join at a reading";
 const FORECAST: &str = "join in a forecast";
 const UNITS: &str = "what a waiting unit does";
 const QUOTIENTS: &str = "quotient worked out";
+const MEMBERS: &str = "party set counted at an `or`";
 const CAUSES_READING: &str = "cause of 7 at a reading";
 const CAUSES_FORECAST: &str = "cause of 7 at a forecast";
 const CHANGES: &str = "changed table, whatever the number";
@@ -52,6 +55,7 @@ impl Coverage {
             (FORECAST, forecast_joins()),
             (UNITS, unit_deeds()),
             (QUOTIENTS, quotients::cases()),
+            (MEMBERS, members::cases()),
             (CAUSES_READING, tables::Damage::CAUSES.iter().map(|cause| format!("{cause:?}")).collect()),
             (CAUSES_FORECAST, tables::Damage::CAUSES.iter().map(|cause| format!("{cause:?}")).collect()),
             (CHANGES, tables::Damage::CHANGES.iter().map(|change| format!("{change:?}")).collect()),
@@ -88,6 +92,7 @@ impl Coverage {
         self.count(NUMBERS, format!("{} {number:2}", entry_name(&call.entry)));
         self.observe_aim(call, number);
         self.untouched(call, answer);
+        self.observe_members(call, number);
         if number > 0 && number < 8 {
             return;
         }
@@ -133,6 +138,26 @@ impl Coverage {
                 self.fault(*number != 0 && table != after, "a refusal touched the table", call);
             }
             _ => {}
+        }
+    }
+
+    /// The sets that the rule for `or` judges, where nothing else is wrong: if one breaks it the
+    /// number is 3 or 7, if none does it is another. Of a refused call those count that break it.
+    fn observe_members(&mut self, call: &Call, number: u32) {
+        let (judged, refusal) = match &call.entry {
+            Entry::Check => (members::at_check(&call.agreement), Refusal::Typing),
+            Entry::Start { .. } => return,
+            Entry::Reading { table, .. } | Entry::Forecast { table } => {
+                (members::in_table(&call.agreement, table), Refusal::Table)
+            }
+        };
+        let Some(judged) = judged else { return };
+        let refused = number == refusal.number();
+        let broken = judged.iter().any(Judged::breaks_the_rule);
+        self.fault(broken && !refused, "an `or` of two members, not refused", call);
+        self.fault(refused && !broken, "refused, though no `or` has two members", call);
+        for set in judged.iter().filter(|set| !refused || set.breaks_the_rule()) {
+            self.count(MEMBERS, set.case().to_string());
         }
     }
 

@@ -54,7 +54,7 @@ impl Scope {
     }
 
     /// The party that a blame byte stands for.
-    fn party(&self, blame: u8) -> i64 {
+    pub fn party(&self, blame: u8) -> i64 {
         match blame.checked_sub(128) {
             Some(parameter) => self.parameters[usize::from(parameter)],
             None => i64::from(blame),

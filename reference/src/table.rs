@@ -160,6 +160,7 @@ impl<'r, 'a> Reader<'r, 'a> {
         if unit[SORT] == AND {
             return Ok((Residue::And(left, right), parties));
         }
+        // A parameter's party is known here: the members are parties, one bit each.
         ensure(parties.count_ones() <= 1)?;
         Ok((Residue::Or(left, right), parties))
     }

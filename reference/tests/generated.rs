@@ -5,15 +5,19 @@ mod program;
 
 use program::watch;
 use reference::agreement::{parse, Operator, Type};
-use reference::build::{self, binary, fulfilled, if_clause, number, reading_type, simple, value, Wait};
+use reference::build::{
+    self, and, binary, fulfilled, if_clause, instance, number, or, reading_type, simple, value, Wait,
+};
 use reference::check::accept;
+use reference::coverage::members::{self, Judged, Resolved};
 use reference::coverage::{quotients, Coverage};
 use reference::entries::started;
-use reference::generate::{agreements, calls, input, random::Random};
+use reference::generate::damage::Damage;
+use reference::generate::{agreements, calls, input, random::Random, Aim, Answer, Call, Entry};
 use reference::reading::Reading;
 use reference::rules::Outcome;
-use reference::table::{self, State, CELLS};
-use reference::{check, start};
+use reference::table::{self, State, CELLS, HEAD, OR, PARAMETERS, SORT, UNIT};
+use reference::{check, start, Checked, Forecast};
 
 #[test]
 fn everything_is_reached_and_no_answer_is_impossible() {
@@ -46,6 +50,80 @@ fn quotients_worked_out_are_found() {
     assert_eq!(found(110, 1, &[99]), [(-8, 4), (99, 2)]);
     assert_eq!(found(110, 1, &[5]), [(-8, 4), (5, 2), (48, 2)]);
     assert_eq!(found(159, 1, &[5]), [(-8, 4)]);
+}
+
+/// An `or` of some member and parameter 0 in a template that declares party 0, and an `or` of its
+/// instance for party 1 and another clause.
+fn two_ors(parties: u8, in_template: u8, other: &[u8]) -> Vec<u8> {
+    let body = or(&simple(60).obligation(in_template), &simple(60).obligation(128));
+    let main = or(&instance(0, &[], &[1]), other);
+    build::agreement(100, parties, &[reading_type(&[])], &[build::template(&[], 1, 1, &body)], &main)
+}
+
+#[test]
+fn sets_judged_at_check_are_found() {
+    let at_check = |members: &[u8]| Judged::AtCheck(members.iter().copied().collect());
+    let choice = simple(60).choice(&or(&simple(9).obligation(2), &fulfilled()));
+    let found = members::at_check(&two_ors(3, 0, &choice));
+    assert_eq!(found, Some(vec![at_check(&[0, 128]), at_check(&[2]), at_check(&[0, 1, 2])]));
+    let found = members::at_check(&two_ors(3, 128, &fulfilled()));
+    assert_eq!(found, Some(vec![at_check(&[128]), at_check(&[0, 1])]));
+    // Something else is wrong: party 2 is none of two.
+    assert_eq!(members::at_check(&two_ors(2, 0, &choice)), None);
+}
+
+/// A table of an `and` of party 0 and of an `or` of two units by a parameter that is party 1.
+fn or_beside_another() -> (Vec<u8>, Vec<i64>) {
+    let named = instance(0, &[], &[1]);
+    let main = and(&simple(60).obligation(0), &or(&named, &named));
+    let template = build::template(&[], 1, 0, &simple(60).obligation(128));
+    let bytes = build::agreement(100, 3, &[reading_type(&[])], &[template], &main);
+    let mut table = vec![0; CELLS];
+    assert_eq!(start(&bytes, &mut table), 0);
+    (bytes, table)
+}
+
+#[test]
+fn sets_judged_in_a_table_are_found() {
+    let by_parameter =
+        |parties: &[i64]| Judged::InTable(Resolved { parties: parties.iter().copied().collect(), by_parameter: true });
+    let (bytes, mut table) = or_beside_another();
+    assert_eq!(members::in_table(&bytes, &table), Some(vec![by_parameter(&[1])]));
+    let last_parameter = HEAD + 4 * UNIT + PARAMETERS;
+    table[last_parameter] = 0;
+    assert_eq!(members::in_table(&bytes, &table), Some(vec![by_parameter(&[0, 1])]));
+    table[HEAD + SORT] = OR;
+    assert_eq!(members::in_table(&bytes, &table), Some(vec![by_parameter(&[0, 1]), by_parameter(&[0, 1])]));
+    // Something else is wrong: party 2 is not the main clause's.
+    table[last_parameter] = 2;
+    assert_eq!(members::in_table(&bytes, &table), None);
+}
+
+fn faults(agreement: &[u8], entry: Entry, answer: Answer) -> usize {
+    let call = Call { agreement: agreement.into(), entry, aim: Aim::Agreement(Damage::OrOfSeveral) };
+    let mut coverage = Coverage::new();
+    coverage.observe(&call, &answer);
+    coverage.faults.len()
+}
+
+/// A monitor that counts the members of a set wrong gives such answers.
+#[test]
+fn a_set_counted_wrong_is_a_fault() {
+    let checked = |number| Answer::Check(Checked { number, parties: 0 });
+    let two_members = two_ors(2, 0, &fulfilled());
+    let fine = build::agreement(100, 1, &[reading_type(&[])], &[], &or(&fulfilled(), &simple(60).obligation(0)));
+    assert_eq!(check(&fine).number, 0);
+    assert_eq!(faults(&fine, Entry::Check, checked(0)), 0);
+    assert_eq!(faults(&fine, Entry::Check, checked(3)), 1);
+    assert_eq!(faults(&two_members, Entry::Check, checked(3)), 0);
+    assert_eq!(faults(&two_members, Entry::Check, checked(4)), 1);
+
+    let forecast = |number| Answer::Forecast(Forecast { number, breach: None });
+    let (bytes, mut table) = or_beside_another();
+    assert_eq!(faults(&bytes, Entry::Forecast { table: table.clone() }, forecast(7)), 1);
+    table[HEAD + SORT] = OR;
+    assert_eq!(faults(&bytes, Entry::Forecast { table: table.clone() }, forecast(7)), 0);
+    assert_eq!(faults(&bytes, Entry::Forecast { table }, forecast(0)), 1);
 }
 
 #[test]

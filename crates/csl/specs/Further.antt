@@ -14,7 +14,7 @@ use Rattle.csl.specs.Syntax.{number, truth, party, arithmetic, conj, les
 use Rattle.csl.specs.Syntax.{partyLit, binary, badExpr, Op, Join, and, or, Wait, Clause, fulfilled, obligation}
 use Rattle.csl.specs.Syntax.{choice, if, join, instance, badClause, Template, Agreement}
 use Rattle.csl.specs.Bytes.{byte}
-use Rattle.csl.specs.Parties.{bitsOf}
+use Rattle.csl.specs.Parties.{memberCount, bitsOf}
 use Rattle.csl.specs.Decode.{countsOk, sized}
 use Rattle.csl.specs.Check.{CheckResult, refused, accepted, checked, checkDecoded, checkTyped, checkOf, mainsOf}
 use Rattle.csl.specs.Values.{Val, num, bool, who, valuesOf, eval}
@@ -31,7 +31,7 @@ use Rattle.csl.specs.Build.{owesTyped, owes, simply, may, mayTyped, ifs,
 use Rattle.csl.specs.Build.{templateWith, agreementWith, agreement, readingWith, reading, mark, sample, zeros}
 use Rattle.csl.specs.Build.{filled, unitOf, joinUnit, flat, runningTable, fulfilledTable}
 use Rattle.csl.specs.Trials.{Trial, Seen, checks, answers, forecasts, steps, reads, becomes, decides, evaluates}
-use Rattle.csl.specs.Trials.{holds, gives, follows, live, breaches, harness}
+use Rattle.csl.specs.Trials.{holds, counts, gives, follows, live, breaches, harness}
 
 -- ---- forms of a trial
 unfoldable pub shows : String → List Seen → List Seen → Trial
@@ -464,6 +464,15 @@ unfoldable pub inSight : ℕ → List ℕ
 inSight k = agreementWith 2 (readingTypeOf (replicate 4 1) ∷ readingTypeOf (replicate k 1) ∷ [])
     (templateWith (replicate 8 1) 0 1 (next (owesTyped 0 2 yes′ one one nothing)) ∷ []) nothing
 
+-- sets of parties and party parameters: none, one, one that comes twice, two, two of which one comes twice, every
+-- parameter, everyone
+unfoldable pub parameters : List ℕ
+parameters = 128 ∷ 129 ∷ 130 ∷ 131 ∷ []
+
+unfoldable pub partySets : List (List ℕ)
+partySets = [] ∷ (15 ∷ []) ∷ (131 ∷ 131 ∷ []) ∷ (0 ∷ 128 ∷ []) ∷ (3 ∷ 129 ∷ 3 ∷ []) ∷ parameters
+    ∷ (0 ∷ 1 ∷ 2 ∷ 3 ∷ 4 ∷ 5 ∷ 6 ∷ 7 ∷ 8 ∷ 9 ∷ 10 ∷ 11 ∷ 12 ∷ 13 ∷ 14 ∷ 15 ∷ parameters) ∷ []
+
 unfoldable pub types : List Trial
 types =
     refusesAll "3: 1 + true" 3 (main (withinIs (op 37 one yes′)))
@@ -547,6 +556,8 @@ types =
     ∷ refuses "an `or` by two parties" 3 (main (any′ (simply 0 (pos 50)) (simply 1 (pos 60))))
     ∷ refuses "an `or` by a party and a parameter" 3
     (beside (templateWith [] 1 1 (any′ (simply 0 (pos 60)) (simply 128 (pos 60))) ∷ []))
+    ∷ shows "the number of members, parameters too" (map (λ ps. counts (memberCount ps)) partySets)
+    (counts 0 ∷ counts 1 ∷ counts 1 ∷ counts 2 ∷ counts 2 ∷ counts 4 ∷ counts 20 ∷ [])
     ∷ []
 
 -- ---- 4: guards
@@ -909,9 +920,9 @@ further = runs ++ (joins ++ (readings ++
 pub further-pass : map (λ t. t .shown) further ≡ map (λ t. t .expected) further
 unfolding harness says accepts refuses mains five refusesAll stepsOf runSeen obeys leads waits owed chosen by shows
     saying nested one asking afterIs withinIs next otherwise chooses main aNumber counting template beside call
-    lending every is isNot calculated most least sums fractions wholes equations taken chain nums runs pairs becoming
-    left right joins values refused′ readings records named inSight types guards ladder wide calls both′ body ladder′
-    wide′ waiting next′ either′ if′ widest tooWide laddered narrow over widths mixed lent offered units′ short good
-    ended broke full set alter readBy rejects running′ lent′ residue sound ends sights alone alone′ inPlace tables
-    begun two crowd entries bare asked op′ still absent unreached further
+    lending every is isNot calculated most least sums fractions wholes equations taken chain nums runs pairs
+    becoming left right joins values refused′ readings records named inSight parameters partySets types guards
+    ladder wide calls both′ body ladder′ wide′ waiting next′ either′ if′ widest tooWide laddered narrow over widths
+    mixed lent offered units′ short good ended broke full set alter readBy rejects running′ lent′ residue sound ends
+    sights alone alone′ inPlace tables begun two crowd entries bare asked op′ still absent unreached further
 further-pass = refl

@@ -56,6 +56,7 @@ pub data Seen : Type 0 where
   decides : CheckResult → Seen
   evaluates : Option Val → Seen
   holds : Bool → Seen
+  counts : ℕ → Seen
 
 pub record Trial : Type 0 where
   pub name : String

@@ -1,4 +1,5 @@
 -- What the proofs of several crates use.
 pub mod Members
 pub mod Masks
+pub mod Counts
 pub mod Typed

@@ -18,7 +18,7 @@ use Rattle.laws.proofs.PartyBits.{member-self, member-append, bits-lt, bits-sam
 use Rattle.laws.proofs.PartyBits.{members-within, members-bits}
 use Rattle.parties.specs.Masks.{maskOf, maskEnd, HasBit, ValidMembers, mayBlame, BlameMask}
 use Rattle.parties.proofs.Members.{member-tail, all-each, each-all, bits-apart, bits-nil, bits-again, bits-new}
-use Rattle.parties.proofs.Members.{count-new, members-below}
+use Rattle.parties.proofs.Members.{count-new, members-elsewhere, members-below}
 
 -- ---- valid members
 pub valid-nil : ValidMembers []
@@ -151,13 +151,9 @@ pub mask-members : (n : ℕ) → n < 65_536 → maskOf (members n) ≡ n
 unfolding maskOf bitsOf members member
 mask-members n h = rw (
   members-bits 16 0 n h,
-  bits-same 4 128 (membersFrom 16 0 n) [] (λ j l u. none j l),
+  bits-same 4 128 (membersFrom 16 0 n) [] (members-elsewhere 4 128 16 0 n (λ p a b c d. omega arith)),
   bits-nil 4 128,
 ) (omega arith)
-  where
-    none : (j : ℕ) → 128 ≤ j → member j (membersFrom 16 0 n) ≡ member j []
-    none j l = by-test (member j (membersFrom 16 0 n)) (λ e. let r = members-within 16 0 n j e in absurd (omega arith))
-        (λ e. e)
 
 pub bits-members : (n : ℕ) → n < 65_536 → bitsOf (members n) ≡ n
 bits-members n h = sym (mask-constants (members n)) ∙ rw (mask-members n h) (omega arith)

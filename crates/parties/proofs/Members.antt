@@ -12,7 +12,7 @@ use borrow.Author.Tests.{eqb-true, eqb-false, lt-ltb, le-ltb, ltb-true, ltb-fals
 use Rattle.csl.specs.Lists.{all}
 use Rattle.csl.specs.Parties.{member, bit, bitsFrom, membersFrom}
 use Rattle.laws.proofs.Bools.{by-test}
-use Rattle.laws.proofs.PartyBits.{member-self, member-other, bit-div, bit-mod, bits-same, bits-skip}
+use Rattle.laws.proofs.PartyBits.{member-self, member-other, members-within, bit-div, bit-mod, bits-same, bits-skip}
 
 tests-same : (a b c d : ℕ) → (a < b → c < d) → (c < d → a < b) → ltb a b ≡ ltb c d
 tests-same a b c d f g = by-test (ltb a b)
@@ -108,6 +108,13 @@ count-new (suc k) i p ps l u h =
     rw (s, member-self i ps, bits-skip k (suc i) i ps (λ a b. omega arith), m) (omega arith))
     (λ e. let n : i ≡ p → ⊥ = eqb-false i p e in
     rw (member-other i p ps n, count-new k (suc i) p ps (omega arith) (omega arith) h) (omega arith)))
+
+-- ---- the members of a number, d of them from j on, are none of those from i on, below i + k
+pub members-elsewhere : (k i d j n : ℕ) → ((p : ℕ) → j ≤ p → p < j + d → i ≤ p → p < i + k → ⊥)
+    → (p : ℕ) → i ≤ p → p < i + k → member p (membersFrom d j n) ≡ false
+members-elsewhere k i d j n apart p l u = by-test (member p (membersFrom d j n))
+    (λ e. let r = members-within d j n p e in absurd (apart p (r .0) (r .1) l u))
+    (λ e. e)
 
 -- ---- the members of a number lie below j where it has no bit from there on
 pub members-below : (k i j n : ℕ) → n < 2 ^ k → all (λ p. ltb p j) (membersFrom k i n) ≡ ltb n (2 ^ (j - i))

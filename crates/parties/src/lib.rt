@@ -52,18 +52,12 @@ pub fn union(a: usize, b: usize) -> usize
     a | b
 }
 
-// How many members there are, each counted once.
+// How many members there are, each counted once, party parameters too: "the count of ones that the language has".
 pub fn member_count(a: usize) -> usize
     requires { ⌜ a < maskEnd ⌝ }
     ensures { λ r. ⌜ (r ≡ ones a) × ((ps : List ℕ) → ValidMembers ps → a ≡ maskOf ps → r ≡ memberCount ps) ⌝ }
 {
-    let mut left = a;
-    let mut count = 0;
-    while left > 0 {
-        count += left % 2;
-        left /= 2;
-    }
-    count
+    u32::count_ones(a as u32) as usize
 }
 
 // Every member of a is one of b.

@@ -5,4 +5,5 @@ pub mod Forecast
 pub mod Monitors
 pub mod Rules
 pub mod Quotients
+pub mod Counts
 pub mod Program

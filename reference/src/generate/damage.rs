@@ -6,6 +6,8 @@ use super::records::{exchange, spans, word, Span};
 use crate::agreement::Operator;
 use crate::build;
 
+const FIRST_PARAMETER: u8 = 128;
+
 /// What a damage aims at.
 #[derive(Clone, Copy, Debug, PartialEq, Eq, PartialOrd, Ord)]
 pub enum Damage {
@@ -33,7 +35,8 @@ pub enum Damage {
     Blame,
     Declared,
     Sight,
-    OrOfTwo,
+    OrOfSeveral,
+    OrOfParameters,
     SelfNaming,
     SelfNamingElse,
     Wide,
@@ -41,7 +44,7 @@ pub enum Damage {
 }
 
 impl Damage {
-    pub const ALL: [Damage; 29] = [
+    pub const ALL: [Damage; 30] = [
         Damage::Short,
         Damage::Long,
         Damage::Full,
@@ -66,7 +69,8 @@ impl Damage {
         Damage::Blame,
         Damage::Declared,
         Damage::Sight,
-        Damage::OrOfTwo,
+        Damage::OrOfSeveral,
+        Damage::OrOfParameters,
         Damage::SelfNaming,
         Damage::SelfNamingElse,
         Damage::Wide,
@@ -121,7 +125,8 @@ impl Patient<'_> {
             Damage::Blame => self.blame(),
             Damage::Declared => self.declared(),
             Damage::Sight => self.clause(|random| nested_waits(6 + random.below(12))),
-            Damage::OrOfTwo => self.clause(|_| build::or(&owed(0), &owed(1))),
+            Damage::OrOfSeveral => self.or_of_several(0),
+            Damage::OrOfParameters => self.or_of_several(FIRST_PARAMETER),
             Damage::SelfNaming => self.self_naming(|named, _| named),
             Damage::SelfNamingElse => self.self_naming(|named, wait| wait.choice(&named)),
             Damage::Wide => self.clause(wide),
@@ -320,6 +325,37 @@ impl Patient<'_> {
         let at = span.start + 4 + 1 + usize::from(self.bytes[span.start + 4]) + 1;
         let bit = 1 << self.random.below(16);
         Some(self.put_word(at, &[word(&self.bytes, at) ^ bit]))
+    }
+
+    /// Some clause becomes an `or` of two or three members that may stand there, with blame bytes from `least` on.
+    fn or_of_several(&mut self, least: u8) -> Option<Vec<u8>> {
+        let fits = |span: &Span| span.is_clause() && self.members(span, least).len() > 1;
+        let places: Vec<_> = self.spans.iter().copied().filter(fits).collect();
+        let old = self.random.any(&places)?;
+        let mut members = self.members(&old, least);
+        let count = self.random.pick(&[2, 2, 2, 3]);
+        while members.len() > count {
+            members.swap_remove(self.random.below(members.len()));
+        }
+        let (last, others) = members.split_last()?;
+        let others = others.iter().map(|member| owed(*member)).reduce(|left, right| build::and(&left, &right))?;
+        let (left, right) = if self.random.chance(50) { (owed(*last), others) } else { (others, owed(*last)) };
+        Some(exchange(&self.bytes, &self.spans, old, &build::or(&left, &right)))
+    }
+
+    /// The blame bytes, from `least` on, that may stand in a clause: in the main clause every party's, in a template
+    /// those of its declared parties and its parameters.
+    fn members(&self, clause: &Span, least: u8) -> Vec<u8> {
+        let around = |span: &&Span| span.kind == 3 && span.start < clause.start && clause.end <= span.end;
+        let (parties, parameters) = match self.spans.iter().find(around) {
+            Some(template) => {
+                let (_, parameters, declared) = self.template_head(*template);
+                ((0..16).filter(|party| declared >> party & 1 == 1).collect(), parameters)
+            }
+            None => ((0..self.bytes[8]).collect::<Vec<_>>(), 0),
+        };
+        let parameters = (0..parameters).map(|parameter| FIRST_PARAMETER + parameter);
+        parties.into_iter().chain(parameters).filter(|member| *member >= least).collect()
     }
 
     /// The body of a template is made to name itself or a later one, by `shape`.

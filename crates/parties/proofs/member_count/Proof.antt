@@ -1,38 +1,26 @@
--- The loop's invariant: what is counted, and the one bits left, are those of `a`.
-use mathlib.Core.Path.{_≡_, ap, _∙_}
-use Prim.Native.Nat.{_+_}
+-- A set's members are the ones of its bits, and these fit the 32 bits whose ones the language counts.
+use mathlib.Core.Path.{refl, ap, _∙_}
+use Prim.Native.Nat.{ℕ, _<_}
+use mir.Syntax.{w64}
+use mir.Val.{Fits}
 use native.Mathlib.Omega.{arith}
-use lib.Count.{ones, ones-step, ones-le}
+use lib.Count.{ones, ones-le}
+use Rattle.parties.specs.Masks.{maskEnd}
 use Rattle.parties.proofs.Masks.{mask-count}
 use Rattle.parties.proofs.member_count.Statement.{statement}
 use Rattle.parties.proofs.member_count.Tie as tie
 
-abbrev Inv-loop : tie.InvT-loop
-Inv-loop a left₀ count₀ left count = count + ones left ≡ ones a
+few-ones : (n : ℕ) → n < maskEnd → Fits w64 (ones n)
+few-ones n h = omega (arith, ones-le 20 n h)
 
-abbrev μ-loop : tie.MeasureT-loop
-μ-loop a left₀ count₀ left count = left
+cast-result : tie.Need-cast-result
+cast-result c = omega arith
 
-loop-holds : tie.Need-loop-holds Inv-loop μ-loop
-loop-holds c = omega arith
+cast-result-2 : tie.Need-cast-result-2
+cast-result-2 c = few-ones _ (omega arith)
 
-add-count : tie.Need-add-count Inv-loop μ-loop
-add-count c =
-    let at-start = c .before .before in
-    omega (arith, ones-step (c .before .loop .left), ones-le 20 (at-start .args .a) (at-start .pre))
-
-loop-less : tie.Need-loop-less Inv-loop μ-loop
-loop-less c = omega arith
-
-loop-again : tie.Need-loop-again Inv-loop μ-loop
-loop-again c = omega (arith, ones-step (c .before .loop .left))
-
-returns : tie.Need-returns Inv-loop μ-loop
-returns c =
-    let loop = c .before .loop in
-    let at-start = c .before .before in
-    let all-counted : loop .count ≡ ones (at-start .args .a) = omega (arith, ones-le 0 (loop .left) (omega arith))
-    in (all-counted, λ ps v e. all-counted ∙ ap ones e ∙ mask-count ps v)
+returns : tie.Need-returns
+returns c = (refl, λ ps v e. ap ones e ∙ mask-count ps v)
 
 pub member-count-spec : {M : Type 1} → statement M
-member-count-spec = tie.close (tie.spec Inv-loop μ-loop loop-holds add-count loop-less loop-again returns)
+member-count-spec = tie.close (tie.spec cast-result cast-result-2 returns)
