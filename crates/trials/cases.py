@@ -1,4 +1,4 @@
-"""The calls of the program `trials`, cause by cause, each with what must come back: written by hand from paper 01."""
+"""The calls of the program `trials`, cause by cause, each with what must come back: written by hand from the papers."""
 from records import *
 
 CALLS = []  # (cause or None) or (entry, agreement, table, reading, number, parties or table after)

@@ -27,7 +27,7 @@ counted : (ps : List ℕ) → Members ps → ones (bits ps) ≡ memberCount ps
 unfolding maskOf bitsOf
 counted ps v = counts .counted ps (record { each = v })
 
--- "use the count of ones that the language has"
+-- what a call gives is that count
 calls : (κs : Lfts 0) (given : Dens {n = 0} κs member-count-kinds.ps) (r : ℕ)
     (left : AtExit (endedOf 0 member-count-kinds.ps member-count-kinds.r) κs)
     → member-count.Post κs given r left
@@ -35,7 +35,11 @@ calls : (κs : Lfts 0) (given : Dens {n = 0} κs member-count-kinds.ps) (r : ℕ
 unfolding maskOf bitsOf
 calls κs given r left meets = (meets .0, λ ps v e. meets .1 ps (record { each = v }) e)
 
--- every number below 2^20 is the bits of a set
+-- the bits of every set are below 2^20, and every number below it is the bits of a set
+fits : (ps : List ℕ) → bits ps < 1_048_576
+unfolding maskOf bitsOf
+fits = counts .fits
+
 reached : (n : ℕ) → n < 1_048_576 → (ps : List ℕ) × Members ps × (bits ps ≡ n)
 unfolding maskOf bitsOf
 reached n h = let r = counts .reached n h in (r .0, r .1 .each, r .2)
