@@ -8,7 +8,7 @@ pub const SIGHT: usize = 16;
 /// "The main clause, each template body and each `then` has width at most 256."
 const WIDEST: u32 = 256;
 /// "128 to 131 for the template's party parameter 0 to 3"
-const FIRST_PARAMETER: u8 = 128;
+pub const FIRST_PARAMETER: u8 = 128;
 
 /// An agreement that none of check's conditions refuses.
 pub struct Accepted<'a> {

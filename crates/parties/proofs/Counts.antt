@@ -1,6 +1,6 @@
 -- The ones of a set's bits are its members, since each member has a bit of its own; and a number below 2^20 is the bits
 -- of its lower 16 bits' parties and its upper 4 bits' party parameters.
-use mathlib.Core.Bool.{false, or-false}
+use mathlib.Core.Bool.{false, _||_, or-false}
 use mathlib.Core.List.{List, _++_}
 use mathlib.Core.Logic.{inr}
 use mathlib.Core.Path.{_≡_, _∙_}
@@ -13,17 +13,13 @@ use Rattle.parties.specs.Counts.{CountClaim}
 use Rattle.parties.proofs.Members.{members-elsewhere}
 use Rattle.parties.proofs.Masks.{mask-count, mask-lt, valid-append, valid-members}
 
--- ---- the bits of a set in two parts, of which one has none of them
-first-bits : (k i : ℕ) (ps qs : List ℕ) → ((p : ℕ) → i ≤ p → p < i + k → member p qs ≡ false)
-    → bitsFrom k i (ps ++ qs) ≡ bitsFrom k i ps
-first-bits k i ps qs none = bits-same k i (ps ++ qs) ps
-    (λ p l u. member-append p ps qs ∙ rw (none p l u) (or-false (member p ps)))
+-- the bits of a set in two parts
+joined-bits : (k i : ℕ) (ps qs rs : List ℕ)
+    → ((p : ℕ) → i ≤ p → p < i + k → (member p ps || member p qs) ≡ member p rs)
+    → bitsFrom k i (ps ++ qs) ≡ bitsFrom k i rs
+joined-bits k i ps qs rs same = bits-same k i (ps ++ qs) rs (λ p l u. member-append p ps qs ∙ same p l u)
 
-second-bits : (k i : ℕ) (ps qs : List ℕ) → ((p : ℕ) → i ≤ p → p < i + k → member p ps ≡ false)
-    → bitsFrom k i (ps ++ qs) ≡ bitsFrom k i qs
-second-bits k i ps qs none = bits-same k i (ps ++ qs) qs (λ p l u. member-append p ps qs ∙ rw (none p l u))
-
--- ---- the set whose bits a number is
+-- the set whose bits a number is
 abbrev lower : ℕ → List ℕ
 lower n = members (n % 65_536)
 
@@ -38,11 +34,17 @@ upper-valid n = record {
 set-bits : (n : ℕ) → n < maskEnd → maskOf (lower n ++ upper n) ≡ n
 unfolding maskOf bitsOf members
 set-bits n h = rw (
-  first-bits 16 0 (lower n) (upper n) (members-elsewhere 16 0 4 128 (n / 65_536) (λ p a b c d. omega arith)),
-  second-bits 4 128 (lower n) (upper n) (members-elsewhere 4 128 16 0 (n % 65_536) (λ p a b c d. omega arith)),
+  joined-bits 16 0 (lower n) (upper n) (lower n) (λ p l u. rw (no-upper p l u) (or-false (member p (lower n)))),
+  joined-bits 4 128 (lower n) (upper n) (upper n) (λ p l u. rw (no-lower p l u)),
   members-bits 16 0 (n % 65_536) (omega arith),
   members-bits 4 128 (n / 65_536) (omega arith),
 ) (omega arith)
+  where
+    no-upper : (p : ℕ) → 0 ≤ p → p < 16 → member p (upper n) ≡ false
+    no-upper = members-elsewhere 16 0 4 128 (n / 65_536) (λ p a b c d. omega arith)
+
+    no-lower : (p : ℕ) → 128 ≤ p → p < 132 → member p (lower n) ≡ false
+    no-lower = members-elsewhere 4 128 16 0 (n % 65_536) (λ p a b c d. omega arith)
 
 pub counts : CountClaim
 counts = record {

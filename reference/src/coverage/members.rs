@@ -3,7 +3,7 @@
 //! on trial counts it.
 
 use crate::agreement::{self, Agreement, Clause, Late, Wait};
-use crate::check::accept;
+use crate::check::{accept, FIRST_PARAMETER};
 use crate::entries;
 use crate::generate::records::spans;
 use crate::rules::{Outcome, Residue, Waiting};
@@ -11,8 +11,6 @@ use crate::table::{self, State, AND, CELLS, HEAD, OR, SORT, UNIT};
 use crate::Refusal;
 use std::collections::BTreeSet;
 
-/// "128 to 131 for the template's party parameter 0 to 3"
-const FIRST_PARAMETER: u8 = 128;
 const AND_KIND: u8 = 20;
 const OR_KIND: u16 = 21;
 

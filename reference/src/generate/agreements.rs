@@ -4,12 +4,12 @@
 use super::random::Random;
 use crate::agreement::{Operator, Type};
 use crate::build;
+use crate::check::FIRST_PARAMETER;
 
 const DEEPEST: usize = 24;
 const SIGHT: usize = 16;
 const LONGEST: usize = 16_384;
 const TYPES: [Type; 3] = [Type::Number, Type::Truth, Type::Party];
-const FIRST_PARAMETER: u8 = 128;
 
 /// What an agreement is made to look like.
 struct Shape {

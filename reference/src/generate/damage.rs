@@ -5,8 +5,7 @@ use super::random::Random;
 use super::records::{exchange, spans, word, Span};
 use crate::agreement::Operator;
 use crate::build;
-
-const FIRST_PARAMETER: u8 = 128;
+use crate::check::FIRST_PARAMETER;
 
 /// What a damage aims at.
 #[derive(Clone, Copy, Debug, PartialEq, Eq, PartialOrd, Ord)]
