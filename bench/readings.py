@@ -7,7 +7,7 @@ import struct
 import subprocess
 import time
 
-from records import ROOT, agreement, both, either, instructions, owes, program, rec, template, tree
+from records import ROOT, agreement, both, either, instructions, joined, lit, owes, program, rec, template, tree
 
 WATCH = program("brinewatch")
 SAMPLE = open(os.path.join(ROOT, "crates", "brinewatch", "stdin"), "rb").read()[:64]
@@ -15,11 +15,22 @@ SAMPLE = open(os.path.join(ROOT, "crates", "brinewatch", "stdin"), "rb").read()[
 
 def reading(t, v=0): return rec(64, struct.pack("<IBi", t, 1, v))
 def mark(t): return rec(64, struct.pack("<IB", t, 0))
+def var(i): return rec(35, bytes([i]))
 
 
 def cost(name, before, one, n=20):
-    per = (instructions(WATCH, before + one * n) - instructions(WATCH, before)) / n
+    costs(name, before, [one] * n)
+
+
+def costs(name, before, readings):
+    per = (instructions(WATCH, before + b"".join(readings)) - instructions(WATCH, before)) / len(readings)
     print(f"{name}: {per:.0f} instructions a reading")
+
+
+def renewed():
+    """127 units: 64 obligations, each for a reading of its own number, that begin anew with each such reading."""
+    body = owes(rec(22, bytes([0]) + var(0)), 1000000, rec(43, var(0) + var(1)))
+    return agreement(joined([rec(22, bytes([0]) + lit(k)) for k in range(64)]), [template(body, types=[1])])
 
 
 def reads_and_writes(data):
@@ -42,6 +53,9 @@ def main():
     cost("127 units, a reading refused with 11", grown, reading(110))
     cost(f"127 units of as many clauses ({len(wide)} bytes), a mark", wide, mark(110))
     cost("127 units of as many clauses of party 15 joined by `or`, a mark", alternatives, mark(110))
+    for name, value in ("first", 0), ("last", 63):
+        costs(f"127 units, a reading that alters the {name} of them", renewed(), [reading(110 + i, value) for i in range(20)])
+    costs("127 units, a reading that alters none of them", renewed(), [reading(110 + i, 64) for i in range(20)])
     data = SAMPLE + reading(110, 240) * 10000
     start = time.time()
     subprocess.run([WATCH], input=data, capture_output=True)

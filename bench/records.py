@@ -21,12 +21,18 @@ def owes(then=NIL, within=60, where=YES, party=0):
 
 def both(a, b): return rec(20, a + b)
 def either(a, b): return rec(21, a + b)
-def template(body, declared=1): return rec(3, bytes([0, 0]) + u2(declared) + body)
+def template(body, declared=1, types=()): return rec(3, bytes([len(types), *types, 0]) + u2(declared) + body)
 
 
 def tree(n, leaf, join=both):
     """n leaves joined by `and`, or by the join given, in balance."""
-    return leaf if n == 1 else join(tree(n // 2, leaf, join), tree(n - n // 2, leaf, join))
+    return joined([leaf] * n, join)
+
+
+def joined(leaves, join=both):
+    """The leaves joined in balance."""
+    half = len(leaves) // 2
+    return join(joined(leaves[:half], join), joined(leaves[half:], join)) if half else leaves[0]
 
 
 def agreement(main, templates=(), parties=2):

@@ -54,9 +54,9 @@ enum givuntha_answer {
     GIVUNTHA_AGREEMENT_WIDTH = 5,
     /* table not GIVUNTHA_TABLE_CELLS long */
     GIVUNTHA_TABLE_LENGTH = 6,
-    /* table breaks its layout or typing, a waiting unit activated outside start to last reading time, running
-     * without units, or a breach without party, with one that the agreement cannot blame, or with a time outside
-     * start to last reading */
+    /* table breaks its layout or typing, the time it last moved or a waiting unit was activated outside start to last
+     * reading time, running without units, or a breach without party, with one that the agreement cannot blame, or
+     * with a time outside start to last reading */
     GIVUNTHA_TABLE_CONTENT = 7,
     /* reading not one whole record of kind 64 with 0 to 4 values */
     GIVUNTHA_READING_FORM = 8,
@@ -111,13 +111,16 @@ static inline const char *givuntha_words(uint32_t answer)
 #define GIVUNTHA_UNIT_CELLS 24
 #define GIVUNTHA_TABLE_UNITS 128
 
-/* The head's cells; cells 5 to 7 are zero. */
+/* The head's cells; cells 6 and 7 are zero. */
 enum givuntha_head {
     GIVUNTHA_HEAD_STATE = 0,
     GIVUNTHA_HEAD_LAST_READING = 1, /* time of the last reading; at first the agreement's start */
     GIVUNTHA_HEAD_BREACH_TIME = 2,  /* zero unless breached */
     GIVUNTHA_HEAD_BLAMED = 3,       /* parties by bit; zero unless breached */
-    GIVUNTHA_HEAD_UNITS = 4         /* units in use; zero unless running */
+    GIVUNTHA_HEAD_UNITS = 4,        /* units in use; zero unless running */
+    /* time of the last reading that altered a unit or the state, that is, after which a unit's cell or cell 0 held
+     * another number; at first the agreement's start */
+    GIVUNTHA_HEAD_LAST_MOVED = 5
 };
 
 /* What stands in GIVUNTHA_HEAD_STATE. */
@@ -149,7 +152,7 @@ uint32_t givuntha_start(const uint8_t *agreement, size_t agreement_bytes, int64_
 
 /*
  * Gives a run a reading: the table becomes that of the run after it. Once breached, an accepted reading alters no
- * cell; a fulfilled run only takes on its time.
+ * cell; a fulfilled run only takes on its time as that of the last reading.
  */
 uint32_t givuntha_reading(const uint8_t *agreement, size_t agreement_bytes, int64_t *table, size_t table_cells,
                           const uint8_t *reading, size_t reading_bytes);

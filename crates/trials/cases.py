@@ -91,7 +91,7 @@ def values(a, b, c): return [a, b, c]
 
 BEGUN = running(100, [joining(20), waiting(17, 72, 100, [], []), joining(21), lent(1), waiting(17, 179, 100, [], [])])
 GOOD = running(110, [
-    joining(20), waiting(18, 99, 110, [], [7, 1, 2, 50]), joining(21), lent(1), waiting(17, 179, 100, [], [])])
+    joining(20), waiting(18, 99, 110, [], [7, 1, 2, 50]), joining(21), lent(1), waiting(17, 179, 100, [], [])], 110)
 
 
 def broken(table): rejects(7, MIXED, table)
@@ -687,7 +687,6 @@ broken(altered(1, 4_294_967_296, breached(160, 1)))
 cause("7: head cells that are zero while running")
 broken(altered(2, 105, GOOD))
 broken(altered(3, 1, GOOD))
-broken(altered(5, 1, GOOD))
 broken(altered(6, 1, GOOD))
 broken(altered(7, 1, GOOD))
 broken(altered(7, -1, GOOD))
@@ -695,7 +694,6 @@ cause("7: when fulfilled")
 broken(altered(2, 105, fulfilled(110)))
 broken(altered(3, 1, fulfilled(110)))
 broken(altered(4, 1, fulfilled(110)))
-broken(altered(5, 1, fulfilled(110)))
 cause("7: when breached")
 broken(altered(4, 1, breached(160, 1)))
 broken(altered(6, -1, breached(160, 1)))
@@ -881,7 +879,7 @@ declines(11, owing(then_is(many(65))), AWAITING, event(110, 1, [0]))
 declines(10, owing(then_is(many(65))), AWAITING, event(99, 1, [0]))
 cause("11: a side that an `or` drops costs nothing")
 begins(owing(either(many(65), NIL)), ZEROS, fulfilled(100))
-leads(owing(then_is(either(NIL, many(65)))), AWAITING, event(110, 1, [0]), fulfilled(110))
+leads(owing(then_is(either(NIL, many(65)))), AWAITING, event(110, 1, [0]), fulfilled(110, 110))
 cause("11: 6 before 11")
 stays(6, owing(many(65)), [])
 
@@ -894,7 +892,7 @@ ASKED = running(100, [waiting(17, 17, 100, [], [])])
 
 def divided(a, b, q):
     """The reading's value a, divided by b, is the q that is asked for."""
-    leads(asked(b, q), ASKED, event(110, 1, [a]), fulfilled(110))
+    leads(asked(b, q), ASKED, event(110, 1, [a]), fulfilled(110, 110))
 
 
 cause("the quotient with a fraction: it rounds down, by a number above 0 and by one below")
@@ -925,3 +923,98 @@ divided(1_000_000_000, 1, 1_000_000_000)
 divided(1_000_000_000, -1, -1_000_000_000)
 divided(-1_000_000_000, 1, -1_000_000_000)
 divided(-1_000_000_000, -1, 1_000_000_000)
+
+# paper 02, No. 1
+def moved(time, table): return altered(5, time, table)
+
+
+def ranged(last, table):
+    """When a table last moved: from the start to its last reading."""
+    sound(last, moved(100, table))
+    sound(last, moved(last, table))
+    for time in (99, last + 1, -1, 0, 1 << 32, -1 << 63, (1 << 63) - 1):
+        broken(moved(time, table))
+
+
+cause("7: when it last moved at its ends and beyond them: running")
+ranged(110, GOOD)
+cause("7: fulfilled")
+ranged(110, fulfilled(110))
+cause("7: breached, also before the breach time and between it and the reading that showed it")
+ranged(170, breached(160, 1))
+sound(170, moved(159, breached(160, 1)))
+sound(170, moved(161, breached(160, 1)))
+cause("7: it asks nothing of any A")
+sound(110, moved(105, GOOD))
+
+
+# a template's obligation, at place 25, whose `then` is the template anew
+EVER = agreement(inst(0), [template(then_is(inst(0)), declared=1)])
+
+
+def waits_since(a): return waiting(17, 25, a, [], [])
+def since(a, time, last_moved): return running(time, [waits_since(a)], last_moved)
+
+
+cause("it begins as the start time, whatever the table held")
+begins(EVER, moved(77, ZEROS), since(100, 100, 100))
+begins(agreement(NIL), moved(-1, ZEROS), fulfilled(100))
+cause("a mark moves the last reading time alone; so does a reading that nothing wants")
+leads(EVER, since(100, 100, 100), event(110), since(100, 110, 100))
+leads(EVER, since(105, 110, 107), event(110), since(105, 110, 107))
+leads(agreement(asking(op(42, var(0), lit(5)))), ASKED, event(110, 1, [7]), moved(100, altered(1, 110, ASKED)))
+cause("a unit with another A has altered")
+leads(EVER, since(100, 105, 100), event(110, 1, [1]), since(110, 110, 110))
+cause("a unit replaced by its equal, T being A, has not")
+leads(EVER, since(100, 100, 100), event(100, 1, [1]), since(100, 100, 100))
+leads(EVER, since(120, 120, 105), event(120, 1, [1]), since(120, 120, 105))
+leads(EVER, since(120, 120, 105), event(121, 1, [1]), since(121, 121, 121))
+
+# a `then` that waits in another place; a value handed on; two parties in turn
+STEPS = agreement(then_is(simply(0, 60)))
+VALUED = agreement(inst(0, [lit(1)]), [template(then_is(inst(0, [var(1)])), [1], declared=1)])
+TURNING = agreement(inst(0, [], [0, 1]), [template(owes(128, then=inst(0, [], [129, 128])), [], 2)])
+
+
+def valued(v, last_moved): return running(120, [waiting(17, 26, 120, [], [v])], last_moved)
+def turning(p, q, last_moved): return running(120, [waiting(17, 25, 120, [p, q], [])], last_moved)
+
+
+cause("T being A: another value alone, other parameters alone, another place have altered")
+leads(VALUED, valued(1, 105), event(120, 1, [1]), valued(1, 105))
+leads(VALUED, valued(1, 105), event(120, 1, [2]), valued(2, 120))
+leads(VALUED, valued(1, 105), event(120, 1, [-1]), valued(-1, 120))
+leads(TURNING, turning(0, 1, 105), event(120, 1, [1]), turning(1, 0, 120))
+leads(STEPS, running(120, [waiting(17, 17, 120, [], [])], 105), event(120, 1, [3]),
+      running(120, [waiting(17, STEPS.index(simply(0, 60)), 120, [], [3, 60])], 120))
+
+# two obligations, and a template whose `then` is both of itself
+PAIR = agreement(both(simply(0, 60), simply(1, 50)))
+EITHER = agreement(either(simply(0, 50), simply(0, 60)))
+TWICE = agreement(inst(0), [template(owes(then=both(inst(0), inst(0))), declared=1)])
+
+
+def of_pair(sort, time, last_moved, *places):
+    units = [waiting(17, place, 100, [], []) for place in places]
+    return running(time, [joining(sort), *units] if len(units) > 1 else units, last_moved)
+
+
+def grown(a, last_moved): return running(a, [joining(20), waits_since(a), waits_since(a)], last_moved)
+
+
+cause("fewer units in use, more, and a breach and a fulfilment have altered")
+leads(EITHER, of_pair(21, 100, 100, 21, 52), event(155), of_pair(21, 155, 155, 52))
+leads(TWICE, since(100, 100, 100), event(110, 1, [1]), grown(110, 110))
+leads(PAIR, of_pair(20, 100, 100, 21, 52), event(170), breached(150, 2, 170))
+leads(PAIR, of_pair(20, 105, 100, 21, 52), event(120, 1, [1]), fulfilled(120, 120))
+cause("a breach at the very minute of the start, shown by a mark")
+leads(agreement(simply(0, -5)), ASKED, event(100), table_with([3, 100, 100, 1, 0, 100], []))
+cause("readings of a fulfilled and of a breached table leave it")
+leads(MIXED, moved(105, fulfilled(110)), event(120), moved(105, fulfilled(120)))
+leads(MIXED, moved(105, fulfilled(110)), WHOLE, moved(105, fulfilled(120)))
+leads(MIXED, moved(165, breached(160, 1)), event(180), moved(165, breached(160, 1)))
+cause("8, 9, 10 and 11 leave it")
+declines(8, MIXED, moved(105, GOOD), [])
+declines(9, MIXED, moved(105, GOOD), event(120, 2, []))
+declines(10, MIXED, moved(105, GOOD), event(109))
+declines(11, owing(then_is(many(65))), moved(105, altered(1, 110, AWAITING)), event(110, 1, [0]))

@@ -3,7 +3,7 @@
 
 make.py [CALLS]: the cases of cases.py, and behind them the calls of a file with one JSON object to a line: entry,
 agreement and reading in hexadecimal, the table's cells that are not zero, and what came back from a monitor that was
-written from paper 01 alone, but for what rounded.py says. src/main.rt says how stdin is laid out.
+written from paper 01 alone, but for what rounded.py and moved.py say. src/main.rt says how stdin is laid out.
 `reference/tests/trials.rs` gives the same calls to the separately written monitor.
 """
 import json
@@ -14,6 +14,7 @@ import sys
 HERE = os.path.dirname(os.path.abspath(__file__))
 sys.path.insert(0, HERE)
 from cases import CALLS  # noqa: E402
+from moved import left_moved, lent_moved, moved, start_of  # noqa: E402
 from records import u2  # noqa: E402
 from rounded import rounded  # noqa: E402
 
@@ -61,13 +62,23 @@ def vectors(path):
         if entry == "check":
             yield entry, data, [], b"", number, d.get("parties") or 0
             continue
-        lent = laid(d["cells"], {} if entry == "start" else d["table"])
+        if entry == "start":
+            lent = laid(d["cells"], {})
+            yield entry, data, lent, b"", number, lent if number else begun(place, d, data)
+            continue
+        lent = lent_moved(place, data, laid(d["cells"], d["table"]), number)
         if entry == "forecast":
             ahead = None if d.get("time") is None else (d["time"], d["parties"])
             yield entry, data, lent, b"", number, rounded(place, ahead)
             continue
-        after = lent if number else laid(d["cells"], d["table" if entry == "start" else "after"])
-        yield entry, data, lent, bytes.fromhex(d.get("reading", "")), number, rounded(place, after)
+        event = bytes.fromhex(d["reading"])
+        after = lent if number else left_moved(lent, rounded(place, laid(d["cells"], d["after"])), event)
+        yield entry, data, lent, event, number, after
+
+
+def begun(place, d, data):
+    """The table that a start leaves."""
+    return moved(start_of(data), rounded(place, laid(d["cells"], d["table"])))
 
 
 def main():

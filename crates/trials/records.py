@@ -66,8 +66,14 @@ def padded(n, cells): return list(cells) + [0] * (n - len(cells))
 def table_with(head, units): return padded(3080, padded(8, head) + [z for u in units for z in padded(24, u)])
 def waiting(sort, place, a, params, values): return [sort, place, a] + padded(5, params) + values
 def joining(sort): return [sort]
-def running(time, units): return table_with([1, time, 0, 0, len(units)], units)
-def fulfilled(time): return table_with([2, time], [])
-def breached(time, bits): return table_with([3, 170, time, bits], [])
+
+
+
+# the last reading time, and when it last moved: at the start, 100, where nothing else is said
+def running(time, units, moved=100): return table_with([1, time, 0, 0, len(units), moved], units)
+def fulfilled(time, moved=100): return table_with([2, time, 0, 0, 0, moved], [])
+def breached(time, bits, moved=100): return table_with([3, 170, time, bits, 0, moved], [])
+
+
 def altered(i, z, cells): return cells[:i] + [z] + cells[i + 1:]
 def cell(unit, k): return 8 + 24 * unit + k

@@ -8,7 +8,8 @@
  *
  * Each line of standard input is a reading: TIME TYPE VALUE.. in decimal. A line is written for the start and for each
  * reading: its number, its time, and LIVE, DONE, BREACH or REFUSED. LIVE and BREACH are followed by the time of the
- * breach, ahead or come, and its parties by bit, or by NONE; REFUSED by the number of the refusal.
+ * breach, ahead or come, and its parties by bit, or by NONE; REFUSED by the number of the refusal. At the end standard
+ * error tells when the agreement last moved, which an idle reading does not alter, and which clauses still wait.
  *
  * The status is 0 where the readings were followed to their end, 1 where the agreement was refused, and 2 where a file
  * or a line could not be read.
@@ -141,11 +142,12 @@ static int follow(struct run *run, unsigned long n, char *line)
     return 1;
 }
 
-/* The places in the agreement's bytes of the clauses that still wait, on standard error. */
-static void print_waiting(const struct run *run)
+/* When the agreement last moved, and the places in its bytes of the clauses that still wait, on standard error. */
+static void print_end(const struct run *run)
 {
     size_t n, units = (size_t)run->table[GIVUNTHA_HEAD_UNITS];
 
+    fprintf(stderr, "watch: last moved at %" PRId64 "\n", run->table[GIVUNTHA_HEAD_LAST_MOVED]);
     for (n = 0; n < units; n++)
         if (unit_of(run->table, n)[GIVUNTHA_UNIT_SORT] < 20)
             fprintf(stderr, "watch: waiting: the clause at byte %" PRId64 "\n",
@@ -185,6 +187,6 @@ int main(int count, char **words)
     for (n = 1; fgets(line, sizeof line, stdin) != NULL; n++)
         if (!follow(&run, n, line))
             return 2;
-    print_waiting(&run);
+    print_end(&run);
     return ferror(stdin) ? 2 : 0;
 }

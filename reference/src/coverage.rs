@@ -2,6 +2,7 @@
 //! rules say in detail.
 
 pub mod members;
+pub mod moved;
 pub mod quotients;
 
 use crate::agreement::{self, Agreement, Clause, Late};
@@ -10,9 +11,10 @@ use crate::generate::records::spans;
 use crate::generate::{damage, readings::collect, tables, Aim, Answer, Call, Entry};
 use crate::reading::{self, Reading};
 use crate::rules::{self, evaluate, Outcome, Residue, Scope, Waiting};
-use crate::table::{self, State, BREACHED, FULFILLED, STATE, USED};
+use crate::table::{self, State, BREACHED, FULFILLED, MOVED, STATE, USED};
 use crate::{build, entries, Refusal};
 use members::Judged;
+use moved::Taken;
 use quotients::Quotient;
 use std::collections::BTreeMap;
 use std::fmt;
@@ -26,6 +28,10 @@ const FORECAST: &str = "join in a forecast";
 const UNITS: &str = "what a waiting unit does";
 const QUOTIENTS: &str = "quotient worked out";
 const MEMBERS: &str = "party set counted at an `or`";
+const LAST_MOVED: &str = "cell 5 at a start or a reading";
+const ALTERATIONS: &str = "altered by a reading, running still";
+const REPLACED: &str = "replaced by equal units";
+const CELL_5: &str = "where cell 5 lies, nothing else wrong";
 const CAUSES_READING: &str = "cause of 7 at a reading";
 const CAUSES_FORECAST: &str = "cause of 7 at a forecast";
 const CHANGES: &str = "changed table, whatever the number";
@@ -56,6 +62,10 @@ impl Coverage {
             (UNITS, unit_deeds()),
             (QUOTIENTS, quotients::cases()),
             (MEMBERS, members::cases()),
+            (LAST_MOVED, moved::cases()),
+            (ALTERATIONS, moved::alterations()),
+            (REPLACED, REPLACEMENTS.map(str::to_string).to_vec()),
+            (CELL_5, moved::places(&["reading", "forecast"])),
             (CAUSES_READING, tables::Damage::CAUSES.iter().map(|cause| format!("{cause:?}")).collect()),
             (CAUSES_FORECAST, tables::Damage::CAUSES.iter().map(|cause| format!("{cause:?}")).collect()),
             (CHANGES, tables::Damage::CHANGES.iter().map(|change| format!("{change:?}")).collect()),
@@ -93,6 +103,7 @@ impl Coverage {
         self.observe_aim(call, number);
         self.untouched(call, answer);
         self.observe_members(call, number);
+        self.observe_cell_5(call, number);
         if number > 0 && number < 8 {
             return;
         }
@@ -100,10 +111,15 @@ impl Coverage {
         let accepted = accept(&agreement).expect("an accepted agreement");
         match (&call.entry, answer) {
             (Entry::Check, _) => self.observe_agreement(&call.agreement, &accepted),
-            (Entry::Start { .. }, _) => self.observe_start(&agreement, number),
+            (Entry::Start { .. }, Answer::Start { table: after, .. }) => {
+                self.observe_start(&agreement, number);
+                self.observe_start_time(call, &agreement, number, after);
+            }
             (Entry::Reading { table, reading }, Answer::Reading { table: after, .. }) => {
                 if let Ok(reading) = reading::parse(reading) {
                     self.observe_reading(&accepted, table, &reading, number);
+                    let taken = Taken { before: table, after, reading: &reading };
+                    self.observe_moved(call, &accepted, &taken, number);
                 }
                 self.observe_table(call, &accepted, after);
             }
@@ -158,6 +174,60 @@ impl Coverage {
         self.fault(refused && !broken, "refused, though no `or` has two members", call);
         for set in judged.iter().filter(|set| !refused || set.breaks_the_rule()) {
             self.count(MEMBERS, set.case().to_string());
+        }
+    }
+
+    /// Where cell 5 lies, if nothing else is wrong: outside the number is 7, inside it is another.
+    fn observe_cell_5(&mut self, call: &Call, number: u32) {
+        let (Entry::Reading { table, .. } | Entry::Forecast { table }) = &call.entry else { return };
+        let Some(lies) = moved::lies(&call.agreement, table) else { return };
+        let refused = number == Refusal::Table.number();
+        self.fault(refused == lies.is_inside(), "cell 5 inside and refused, or outside and not", call);
+        self.count(CELL_5, moved::place_case(entry_name(&call.entry), table[STATE], lies));
+    }
+
+    /// "It begins as the start time".
+    fn observe_start_time(&mut self, call: &Call, agreement: &Agreement, number: u32, after: &[i64]) {
+        if number == 0 {
+            self.fault(after[MOVED] != i64::from(agreement.start), "cell 5 does not begin as the start time", call);
+            self.count(LAST_MOVED, moved::start_case(after[STATE]));
+        }
+    }
+
+    /// What a reading alters, and what becomes of cell 5.
+    fn observe_moved(&mut self, call: &Call, accepted: &Accepted, taken: &Taken, number: u32) {
+        if number == Refusal::Units.number() {
+            self.count(LAST_MOVED, moved::TOO_MANY_UNITS.to_string());
+        }
+        if number != 0 {
+            return;
+        }
+        if let Some(fault) = taken.fault() {
+            self.fault(true, fault, call);
+        }
+        self.count(LAST_MOVED, taken.case());
+        // Where cell 5 holds the reading's time already, it does not show whether something was altered.
+        if taken.stays_running() && taken.before[MOVED] != taken.reading.time {
+            self.count(ALTERATIONS, taken.alteration().to_string());
+            if taken.is_unaltered() {
+                self.observe_replaced(accepted, taken.before, taken.reading);
+            }
+        }
+    }
+
+    /// Units that do not wait on, in a table that is the same afterwards.
+    fn observe_replaced(&mut self, accepted: &Accepted, table: &[i64], reading: &Reading) {
+        let Ok(State { outcome: Outcome::Running(residue), .. }) = table::read(accepted, table) else { return };
+        let mut units = Vec::new();
+        collect(&residue, &mut units);
+        for unit in units {
+            let outcome = rules::follow(accepted.agreement, Residue::Waiting(unit.clone()), reading);
+            match (deed(unit, reading), outcome) {
+                ("then", Outcome::Fulfilled) => self.count(REPLACED, FULFILLED_BESIDE.to_string()),
+                ("then", _) => self.count(REPLACED, BY_THEN.to_string()),
+                ("else", _) => self.count(REPLACED, BY_ELSE.to_string()),
+                _ => {}
+            }
         }
     }
 
@@ -306,7 +376,7 @@ impl fmt::Display for Coverage {
         for (title, counts) in &self.groups {
             writeln!(f, "{title}:")?;
             for (name, count) in counts {
-                writeln!(f, "  {name:34} {count:8}")?;
+                writeln!(f, "  {name:50} {count:8}")?;
             }
         }
         Ok(())
@@ -337,6 +407,11 @@ fn unit_deeds() -> Vec<String> {
     let deeds = ["breach", "else", "then", "waits: other type", "waits: before first", "waits: where is false"];
     deeds.map(str::to_string).to_vec()
 }
+
+const BY_THEN: &str = "by then";
+const BY_ELSE: &str = "by else";
+const FULFILLED_BESIDE: &str = "a unit fulfilled beside";
+const REPLACEMENTS: [&str; 3] = [BY_THEN, BY_ELSE, FULFILLED_BESIDE];
 
 fn extremes() -> Vec<String> {
     let names = [

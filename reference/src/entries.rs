@@ -71,29 +71,36 @@ fn with<T>(bytes: &[u8], go_on: impl FnOnce(&Accepted) -> Result<T, Refusal>) ->
 }
 
 /// "Start: the main clause is activated at the start time, which is the last reading time at
-/// first. Over 128 units is 11, otherwise 0."
+/// first. Over 128 units is 11, otherwise 0." The time of cell 5 "begins as the start time".
 pub fn started(agreement: &Agreement) -> Result<State<'_>, Refusal> {
-    let last = i64::from(agreement.start);
-    let outcome = rules::activate(agreement, &agreement.main, last, &Scope::default());
+    let start = i64::from(agreement.start);
+    let outcome = rules::activate(agreement, &agreement.main, start, &Scope::default());
     fit(&outcome)?;
-    Ok(State { last, outcome })
+    Ok(State { last: start, moved: start, outcome })
 }
 
 /// "Reading: if 8, 9 or 10 applies, the lowest is its number and nothing changes. Else, once
 /// breached, it is 0 and nothing changes. Else it is followed ..." None is nothing changes.
+/// Paper 02, No. 1: "The run by the rules keeps this time too, judged by its own tables before and
+/// after".
 pub fn followed<'a>(agreement: &'a Agreement, state: State<'a>, reading: &[u8]) -> Result<Option<State<'a>>, Refusal> {
     let reading = readings::parse(reading)?;
     reading.fits(agreement)?;
     if reading.time < state.last {
         return Err(Refusal::Early);
     }
+    let before = state.table();
     let outcome = match state.outcome {
         Outcome::Breached(_) => return Ok(None),
         Outcome::Fulfilled => Outcome::Fulfilled,
         Outcome::Running(residue) => rules::follow(agreement, residue, &reading),
     };
     fit(&outcome)?;
-    Ok(Some(State { last: reading.time, outcome }))
+    let mut after = State { last: reading.time, moved: state.moved, outcome };
+    if table::altered(&before, &after.table()) {
+        after.moved = reading.time;
+    }
+    Ok(Some(after))
 }
 
 /// "Only the final residue counts for 11".

@@ -38,7 +38,7 @@ pub enum Entry {
 pub enum Aim {
     /// Nothing is damaged, but perhaps the reading.
     Run,
-    /// A table made without a run.
+    /// A table made without a run, or with another time in cell 5 than its run gave it.
     Made,
     Agreement(damage::Damage),
     Table(tables::Damage),
@@ -166,6 +166,7 @@ impl Batch<'_> {
         let mut left = self.random.pick(&[3, 8, 16, 30]);
         while left > 0 {
             self.step(accepted, &mut table);
+            self.another_time(accepted, &table);
             self.damages(accepted, &table);
             // What is decided stays so: a few more readings will do.
             left = if table[STATE] == RUNNING { left - 1 } else { left.min(4) - 1 };
@@ -181,6 +182,19 @@ impl Batch<'_> {
         self.add(Aim::Run, Entry::Reading { table: table.to_vec(), reading: reading.clone() });
         entries::reading(&self.bytes, table, &reading);
         self.add(Aim::Run, Entry::Forecast { table: table.to_vec() });
+    }
+
+    /// A reading on the table of a run with another time in cell 5. In a run no unit is activated after that time, so
+    /// that no reading shows whether a unit replaced by its equal has altered.
+    fn another_time(&mut self, accepted: &Accepted, table: &[i64]) {
+        let Some(other) = tables::Damage::OtherMoved.of(self.random, accepted, table) else { return };
+        let state = table::read(accepted, &other).expect("a well-typed table");
+        let reading = match readings::again(self.random, accepted.agreement, &state) {
+            Some(reading) if self.random.chance(80) => reading,
+            _ if self.random.chance(20) => self.reading_for(accepted, &other),
+            _ => return,
+        };
+        self.add(Aim::Made, Entry::Reading { table: other, reading });
     }
 
     fn wrong_length(&mut self) {

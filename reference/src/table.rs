@@ -13,12 +13,14 @@ pub const UNIT: usize = 24;
 pub const CELLS: usize = HEAD + UNITS * UNIT;
 
 /// The cells of the head: "0 state (1 running, 2 fulfilled, 3 breached), 1 last reading time, 2
-/// breach time, 3 blamed parties by bit, 4 units in use, 5 to 7 zero".
+/// breach time, 3 blamed parties by bit, 4 units in use, 5 to 7 zero". Paper 02, No. 1: "the time of
+/// the last reading that altered a unit or the state. Head cell 5 now holds it."
 pub const STATE: usize = 0;
 pub const LAST: usize = 1;
 pub const TIME: usize = 2;
 pub const BLAMED: usize = 3;
 pub const USED: usize = 4;
+pub const MOVED: usize = 5;
 
 pub const RUNNING: i64 = 1;
 pub const FULFILLED: i64 = 2;
@@ -40,6 +42,8 @@ pub const OR: i64 = 21;
 #[derive(Clone, Debug)]
 pub struct State<'a> {
     pub last: i64,
+    /// The time of the last reading that altered a unit or the state.
+    pub moved: i64,
     pub outcome: Outcome<'a>,
 }
 
@@ -49,6 +53,7 @@ impl State<'_> {
         table.fill(0);
         let (head, units) = table.split_at_mut(HEAD);
         head[LAST] = self.last;
+        head[MOVED] = self.moved;
         match &self.outcome {
             Outcome::Fulfilled => head[STATE] = FULFILLED,
             Outcome::Breached(breach) => {
@@ -63,6 +68,18 @@ impl State<'_> {
             }
         }
     }
+
+    /// A table of its own.
+    pub fn table(&self) -> Vec<i64> {
+        let mut table = vec![0; CELLS];
+        self.write(&mut table);
+        table
+    }
+}
+
+/// "Altered means that a unit cell or the state cell holds another number afterwards."
+pub fn altered(before: &[i64], after: &[i64]) -> bool {
+    before[STATE] != after[STATE] || before[HEAD..] != after[HEAD..]
 }
 
 /// "An `and` or `or` unit is followed by all of its left side, then all of its right".
@@ -93,10 +110,12 @@ pub fn read<'a>(accepted: &Accepted<'a>, table: &[i64]) -> Result<State<'a>, Ref
     }
     let (head, units) = table.split_at(HEAD);
     let start = i64::from(accepted.agreement.start);
-    let last = head[LAST];
+    let (last, moved) = (head[LAST], head[MOVED]);
     // "The last reading time runs from the start to 4,294,967,295."
     ensure((start..=i64::from(u32::MAX)).contains(&last))?;
-    ensure(zero(&head[USED + 1..]))?;
+    // "lies from the start to the last reading time; a table where it doesn't is damaged under 7"
+    ensure((start..=last).contains(&moved))?;
+    ensure(zero(&head[MOVED + 1..]))?;
     // "Cells 2 and 3 are zero unless breached, cell 4 unless running."
     ensure(head[STATE] == BREACHED || zero(&head[TIME..=BLAMED]))?;
     ensure(head[STATE] == RUNNING || head[USED] == 0 && zero(units))?;
@@ -106,7 +125,7 @@ pub fn read<'a>(accepted: &Accepted<'a>, table: &[i64]) -> Result<State<'a>, Ref
         BREACHED => Outcome::Breached(read_breach(head, start, accepted.parties)?),
         _ => return Err(Refusal::Table),
     };
-    Ok(State { last, outcome })
+    Ok(State { last, moved, outcome })
 }
 
 /// Refused: "a breach without party, with one not of the main clause, or with a time outside start

@@ -10,14 +10,18 @@ use reference::build::{
 };
 use reference::check::accept;
 use reference::coverage::members::{self, Judged, Resolved};
+use reference::coverage::moved::{self, Lies, Taken};
 use reference::coverage::{quotients, Coverage};
 use reference::entries::started;
 use reference::generate::damage::Damage;
 use reference::generate::{agreements, calls, input, random::Random, Aim, Answer, Call, Entry};
 use reference::reading::Reading;
 use reference::rules::Outcome;
-use reference::table::{self, State, CELLS, HEAD, OR, PARAMETERS, SORT, UNIT};
-use reference::{check, start, Checked, Forecast};
+use reference::table::{
+    self, State, ACTIVATED, CELLS, FULFILLED, HEAD, LAST, MOVED, OR, PARAMETERS, PLACE, RUNNING, SORT, STATE, UNIT,
+    USED, VALUES,
+};
+use reference::{check, reading, start, Checked, Forecast};
 
 #[test]
 fn everything_is_reached_and_no_answer_is_impossible() {
@@ -120,10 +124,119 @@ fn a_set_counted_wrong_is_a_fault() {
 
     let forecast = |number| Answer::Forecast(Forecast { number, breach: None });
     let (bytes, mut table) = or_beside_another();
-    assert_eq!(faults(&bytes, Entry::Forecast { table: table.clone() }, forecast(7)), 1);
+    // Cell 5 finds this fault as well: nothing is wrong with the table.
+    assert_eq!(faults(&bytes, Entry::Forecast { table: table.clone() }, forecast(7)), 2);
     table[HEAD + SORT] = OR;
     assert_eq!(faults(&bytes, Entry::Forecast { table: table.clone() }, forecast(7)), 0);
     assert_eq!(faults(&bytes, Entry::Forecast { table }, forecast(0)), 1);
+}
+
+/// An obligation from 100 to 160, then another; and its table after a mark at 110.
+fn owed_twice() -> (Vec<u8>, Vec<i64>) {
+    let main = Wait { then: simple(60).obligation(0), ..simple(60) }.obligation(0);
+    let bytes = build::agreement(100, 1, &[reading_type(&[])], &[], &main);
+    let mut table = vec![0; CELLS];
+    assert_eq!(start(&bytes, &mut table), 0);
+    assert_eq!(reading(&bytes, &mut table, &build::reading(110, 0, &[])), 0);
+    (bytes, table)
+}
+
+fn with(table: &[i64], cells: &[(usize, i64)]) -> Vec<i64> {
+    let mut changed = table.to_vec();
+    cells.iter().for_each(|(cell, number)| changed[*cell] = *number);
+    changed
+}
+
+#[test]
+fn where_cell_5_lies_is_found() {
+    let (bytes, table) = owed_twice();
+    let lies = |moved| moved::lies(&bytes, &with(&table, &[(MOVED, moved)]));
+    let found = [-1, 0, 99, 100, 101, 109, 110, 111, 0xFFFF_FFFF, 0x1_0000_0000].map(|moved| lies(moved).unwrap());
+    use Lies::*;
+    let inside = [AtStart, Between, Between, AtLastReading];
+    let outside = [AfterLastReading, AfterLastReading, Beyond32Bits];
+    assert_eq!(found[..3], [Negative, BeforeStart, BeforeStart]);
+    assert_eq!(found[3..7], inside);
+    assert_eq!(found[7..], outside);
+    assert_eq!(found.map(Lies::is_inside), [false, false, false, true, true, true, true, false, false, false]);
+    // Something else is wrong.
+    assert_eq!(moved::lies(&bytes, &with(&table, &[(6, 1)])), None);
+    assert_eq!(moved::lies(&bytes, &table[1..]), None);
+}
+
+#[test]
+fn alterations_are_found() {
+    let (_, table) = owed_twice();
+    let mark = Reading { time: 120, kind: 0, values: Vec::new() };
+    let altered = |cells: &[(usize, i64)]| {
+        let after = with(&table, cells);
+        Taken { before: &table, after: &after, reading: &mark }.alteration()
+    };
+    // Neither the other cells of the head nor cell 5 itself are looked at.
+    assert_eq!(altered(&[(LAST, 120), (2, 1), (3, 1), (MOVED, 120), (6, 1)]), "nothing");
+    assert_eq!(altered(&[(HEAD + SORT, 1)]), "a join alone");
+    assert_eq!(altered(&[(HEAD + PLACE, 1)]), "a place alone");
+    assert_eq!(altered(&[(HEAD + ACTIVATED, 1)]), "an A alone");
+    assert_eq!(altered(&[(HEAD + UNIT + PARAMETERS + 3, 1)]), "a parameter alone");
+    assert_eq!(altered(&[(HEAD + VALUES, 1)]), "a value alone");
+    assert_eq!(altered(&[(CELLS - 1, 1)]), "a value alone");
+    assert_eq!(altered(&[(HEAD, 1), (HEAD + UNIT - 1, 1)]), "some cells of one unit");
+    assert_eq!(altered(&[(HEAD + UNIT - 1, 1), (HEAD + UNIT, 1)]), "cells of some units");
+    assert_eq!(altered(&[(USED, 2)]), "units in use");
+}
+
+/// A monitor that takes the wrong readings for altering gives such answers.
+#[test]
+fn a_wrong_cell_5_is_a_fault() {
+    let (bytes, table) = owed_twice();
+    let faults = |before: &[i64], reading: Vec<u8>, after: &[i64]| {
+        let entry = Entry::Reading { table: before.to_vec(), reading };
+        faults(&bytes, entry, Answer::Reading { number: 0, table: after.to_vec() })
+    };
+    let mark = || build::reading(120, 0, &[]);
+    let idle = with(&table, &[(LAST, 120)]);
+    assert_eq!(faults(&table, mark(), &idle), 0);
+    assert_eq!(faults(&table, mark(), &with(&idle, &[(MOVED, 120)])), 1);
+    assert_eq!(faults(&table, mark(), &with(&idle, &[(MOVED, 110)])), 1);
+
+    let fitting = || build::reading(120, 1, &[]);
+    let mut followed = table.clone();
+    assert_eq!(reading(&bytes, &mut followed, &fitting()), 0);
+    assert_eq!(faults(&table, fitting(), &followed), 0);
+    assert_eq!(faults(&table, fitting(), &with(&followed, &[(MOVED, 100)])), 1);
+    assert_eq!(faults(&table, fitting(), &with(&followed, &[(MOVED, 110)])), 1);
+
+    let mut fulfilled = vec![0; CELLS];
+    fulfilled[..HEAD].copy_from_slice(&[FULFILLED, 110, 0, 0, 0, 100, 0, 0]);
+    assert_eq!(faults(&fulfilled, mark(), &with(&fulfilled, &[(LAST, 120)])), 0);
+    assert_eq!(faults(&fulfilled, mark(), &with(&fulfilled, &[(LAST, 120), (MOVED, 120)])), 1);
+    assert_eq!(faults(&fulfilled, mark(), &with(&fulfilled, &[(LAST, 120), (USED, 1)])), 2);
+
+    let mut breached = table.clone();
+    assert_eq!(reading(&bytes, &mut breached, &build::reading(161, 0, &[])), 0);
+    let late = || build::reading(170, 0, &[]);
+    assert_eq!(faults(&breached, late(), &breached), 0);
+    assert_eq!(faults(&breached, late(), &with(&breached, &[(LAST, 170)])), 1);
+    assert_eq!(faults(&breached, late(), &with(&breached, &[(LAST, 170), (MOVED, 170)])), 1);
+}
+
+#[test]
+fn a_wrong_number_for_cell_5_or_a_wrong_start_is_a_fault() {
+    let (bytes, table) = owed_twice();
+    let forecast = |number| Answer::Forecast(Forecast { number, breach: Some((160, 1)).filter(|_| number == 0) });
+    let faults_at =
+        |moved, number| faults(&bytes, Entry::Forecast { table: with(&table, &[(MOVED, moved)]) }, forecast(number));
+    assert_eq!([faults_at(100, 0), faults_at(110, 0), faults_at(99, 7), faults_at(111, 7)], [0; 4]);
+    assert_eq!([faults_at(100, 7), faults_at(110, 7)], [1; 2]);
+
+    let mut begun = vec![0; CELLS];
+    assert_eq!(start(&bytes, &mut begun), 0);
+    assert_eq!(begun[STATE], RUNNING);
+    let faults_with = |moved| {
+        let answer = Answer::Start { number: 0, table: with(&begun, &[(MOVED, moved)]) };
+        faults(&bytes, Entry::Start { table: vec![0; CELLS] }, answer)
+    };
+    assert_eq!([faults_with(100), faults_with(0), faults_with(101)], [0, 1, 1]);
 }
 
 #[test]

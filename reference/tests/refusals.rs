@@ -2,7 +2,7 @@
 
 use reference::agreement::{Operator, Type};
 use reference::build::*;
-use reference::table::{ACTIVATED, BLAMED, HEAD, LAST, PLACE, STATE, TIME, USED};
+use reference::table::{ACTIVATED, BLAMED, HEAD, LAST, MOVED, PLACE, STATE, TIME, USED};
 use reference::{check, forecast, reading, start, CELLS};
 
 fn pond(templates: &[Vec<u8>], main: &[u8]) -> Vec<u8> {
@@ -172,7 +172,7 @@ fn refusal_6_cells() {
 #[test]
 fn refusal_7_head() {
     let (agreement, table) = started(&owed());
-    let changes: [(usize, i64); 11] = [
+    let changes: [(usize, i64); 14] = [
         (STATE, 9),
         (STATE, 2),
         (LAST, 99),
@@ -181,8 +181,11 @@ fn refusal_7_head() {
         (BLAMED, 1),
         (USED, 0),
         (USED, 2),
-        (5, 1),
+        (MOVED, 0),
+        (MOVED, 99),
+        (MOVED, 101),
         (6, -1),
+        (6, 100),
         (7, 1),
     ];
     for (cell, value) in changes {
@@ -214,7 +217,9 @@ fn refusal_7_or_rule() {
 fn refusal_7_breach() {
     let (agreement, mut table) = started(&owed());
     assert_eq!(reading(&agreement, &mut table, &reference::build::reading(170, 0, &[])), 0);
-    for (cell, value) in [(BLAMED, 0), (BLAMED, 2), (BLAMED, 3), (TIME, 99), (TIME, 171), (USED, 1), (HEAD, 1)] {
+    let head =
+        [(BLAMED, 0), (BLAMED, 2), (BLAMED, 3), (TIME, 99), (TIME, 171), (USED, 1), (MOVED, 171), (6, 1), (7, 1)];
+    for (cell, value) in head.into_iter().chain([(HEAD, 1)]) {
         let mut changed = table.clone();
         changed[cell] = value;
         refused_table(&agreement, &changed);

@@ -27,18 +27,24 @@ pub fn explain(table: &[u8], context: Option<Context>) -> Result<String, String>
 
 /// What can be said without the agreement.
 fn plain_lines(state: &State) -> Vec<String> {
+    let times = times(state, false);
     match &state.outcome {
-        Outcome::Fulfilled => vec![format!("fulfilled, last reading at {}", state.last)],
+        Outcome::Fulfilled => vec![format!("fulfilled, {times}")],
         Outcome::Breached(time, parties) => {
             let parties: Vec<_> = bits(*parties).map(|party| format!("P{party}")).collect();
-            vec![format!("breached at {time} by {}, last reading at {}", parties.join(" and "), state.last)]
+            vec![format!("breached at {time} by {}, {times}", parties.join(" and "))]
         }
         Outcome::Running(residue) => {
-            let mut lines = vec![format!("running, last reading at {}", state.last)];
+            let mut lines = vec![format!("running, {times}")];
             plain_residue(residue, 0, &mut lines);
             lines
         }
     }
+}
+
+/// When it was last read, and when it last moved.
+fn times(state: &State, dated: bool) -> String {
+    format!("last reading at {}, last moved at {}", time(state.last, dated), time(state.moved, dated))
 }
 
 fn plain_residue(residue: &Residue, indent: usize, lines: &mut Vec<String>) {

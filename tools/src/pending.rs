@@ -96,6 +96,18 @@ impl<'a> Tree<'a> {
         }
     }
 
+    /// Whether the same clauses wait, joined alike.
+    pub fn is(&self, other: &Tree) -> bool {
+        match (self, other) {
+            (Tree::Fulfilled, Tree::Fulfilled) => true,
+            (Tree::Waits(pending), Tree::Waits(waiting)) => pending.is(waiting),
+            (Tree::And(left, right), Tree::And(first, second)) | (Tree::Or(left, right), Tree::Or(first, second)) => {
+                left.is(first) && right.is(second)
+            }
+            _ => false,
+        }
+    }
+
     /// Everything that waits, from left to right.
     pub fn all(&self) -> Vec<&Pending<'a>> {
         match self {

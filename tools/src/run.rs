@@ -74,6 +74,11 @@ impl Run {
         }
     }
 
+    /// When the agreement last moved: the time of the last reading that altered a unit or the state, or the start.
+    pub fn last_moved(&self) -> u32 {
+        self.table.times().expect("the times of a table that the library made").last_moved
+    }
+
     /// The table as bytes, each cell little-endian.
     pub fn table(&self) -> Vec<u8> {
         self.table.cells().iter().flat_map(|cell| cell.to_le_bytes()).collect()

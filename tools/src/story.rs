@@ -28,6 +28,8 @@ pub struct Event<'a> {
     pub line: Option<usize>,
     /// The reading by its name, or `start`.
     pub what: String,
+    /// When the agreement last moved, by the library's table after this event.
+    pub last_moved: u32,
     pub changes: Told<Vec<Change<'a>>>,
     /// The obligations behind the breach that is ahead or has come; none where there is none.
     pub broken: Told<Vec<Pending<'a>>>,
@@ -44,9 +46,19 @@ pub struct Story<'a> {
 
 /// How a run ends, as far as it was told.
 pub enum Ending<'s, 'a> {
-    Running(&'s Told<Tree<'a>>),
+    Running { waiting: &'s Told<Tree<'a>>, last_moved: u32 },
     Fulfilled(&'s Event<'a>),
     Breached(Breach, &'s Event<'a>),
+}
+
+impl Ending<'_, '_> {
+    /// When the agreement last moved. Once it is decided no reading alters a unit or the state.
+    pub fn last_moved(&self) -> u32 {
+        match self {
+            Ending::Running { last_moved, .. } => *last_moved,
+            Ending::Fulfilled(event) | Ending::Breached(_, event) => event.last_moved,
+        }
+    }
 }
 
 /// What is said where a breach cannot be led back to a duty.
@@ -64,6 +76,7 @@ impl<'a> Story<'a> {
             time: source.assembled.agreement.start,
             line: None,
             what: "start".to_string(),
+            last_moved: story.run.last_moved(),
             changes: story.waiting.clone().map(|tree| tree.all().into_iter().cloned().map(Change::Begun).collect()),
             broken: story.ahead(&step.verdict),
         };
@@ -87,6 +100,7 @@ impl<'a> Story<'a> {
             time: reading.time,
             line: Some(line),
             what: Words::of(self.source).reading(reading),
+            last_moved: self.run.last_moved(),
             changes: self.changes(&step.verdict, &before, reading),
             broken,
         };
@@ -97,7 +111,7 @@ impl<'a> Story<'a> {
     /// How it stands now.
     pub fn ending(&self) -> Ending<'_, 'a> {
         match &self.decided {
-            None => Ending::Running(&self.waiting),
+            None => Ending::Running { waiting: &self.waiting, last_moved: self.run.last_moved() },
             Some(event) => match event.step.verdict {
                 Verdict::Breached(breach) => Ending::Breached(breach, event),
                 _ => Ending::Fulfilled(event),

@@ -7,11 +7,27 @@ const UNIT: usize = 24;
 const CELLS: usize = HEAD + UNITS * UNIT;
 pub const BYTES: usize = 8 * CELLS;
 
+/// The head: "0 state, 1 last reading time, 2 breach time, 3 blamed parties by bit, 4 units in use", then "the time of
+/// the last reading that altered a unit or the state" (paper 02, No. 1), and zeros.
+const STATE: usize = 0;
+const LAST_READING: usize = 1;
+const BREACH_TIME: usize = 2;
+const BLAMED: usize = 3;
+const USED: usize = 4;
+const LAST_MOVED: usize = 5;
+const ZEROS: usize = 6;
+
+const RUNNING: i64 = 1;
+const FULFILLED: i64 = 2;
+const BREACHED: i64 = 3;
+
 /// What a table says.
 #[derive(Debug, PartialEq, Eq)]
 pub struct State {
     /// The last reading time.
     pub last: i64,
+    /// The time of the last reading that altered a unit or the state; at first the start.
+    pub moved: i64,
     pub outcome: Outcome,
 }
 
@@ -51,30 +67,39 @@ pub fn read(bytes: &[u8]) -> Result<State, String> {
     }
     let cells: Vec<i64> = bytes.chunks_exact(8).map(cell).collect();
     let (head, units) = cells.split_at(HEAD);
-    let (last, used) = (head[1], head[4]);
+    let (last, moved) = times(head)?;
+    if !(RUNNING..=BREACHED).contains(&head[STATE]) {
+        return Err(format!("state {}, where 1, 2 and 3 are states", head[STATE]));
+    }
+    zeros(head, units)?;
+    let outcome = match head[STATE] {
+        RUNNING => Outcome::Running(Reader::new(last, head[USED], units)?.all()?),
+        FULFILLED => Outcome::Fulfilled,
+        _ => breach(head)?,
+    };
+    Ok(State { last, moved, outcome })
+}
+
+/// The last reading time, and when the agreement last moved.
+fn times(head: &[i64]) -> Result<(i64, i64), String> {
+    let (last, moved) = (head[LAST_READING], head[LAST_MOVED]);
     if !(0..=i64::from(u32::MAX)).contains(&last) {
         return Err(format!("the last reading time is {last}, which is no time of a reading"));
     }
-    if !(1..=3).contains(&head[0]) {
-        return Err(format!("state {}, where 1, 2 and 3 are states", head[0]));
+    if !(0..=last).contains(&moved) {
+        return Err(format!("last moved at {moved}, where the last reading was at {last}"));
     }
-    zeros(head, units)?;
-    let outcome = match head[0] {
-        1 => Outcome::Running(Reader::new(last, used, units)?.all()?),
-        2 => Outcome::Fulfilled,
-        _ => breach(head)?,
-    };
-    Ok(State { last, outcome })
+    Ok((last, moved))
 }
 
 /// "Cells 2 and 3 are zero unless breached, cell 4 unless running."
 fn zeros(head: &[i64], units: &[i64]) -> Result<(), String> {
-    zero(&head[5..], "cells 5 to 7 of the head")?;
-    if head[0] != 3 {
-        zero(&head[2..4], "the breach time or the blamed parties of a table that is not breached")?;
+    zero(&head[ZEROS..], "cells 6 and 7 of the head")?;
+    if head[STATE] != BREACHED {
+        zero(&head[BREACH_TIME..=BLAMED], "the breach time or the blamed parties of a table that is not breached")?;
     }
-    if head[0] != 1 {
-        zero(&head[4..5], "the number of units in use of a table that is not running")?;
+    if head[STATE] != RUNNING {
+        zero(&head[USED..=USED], "the number of units in use of a table that is not running")?;
         zero(units, "the units of a table that is not running")?;
     }
     Ok(())
@@ -87,14 +112,14 @@ fn cell(bytes: &[u8]) -> i64 {
 }
 
 fn breach(head: &[i64]) -> Result<Outcome, String> {
-    let (last, time) = (head[1], head[2]);
+    let (last, time) = (head[LAST_READING], head[BREACH_TIME]);
     if !(0..=last).contains(&time) {
         return Err(format!("a breach at {time}, where the last reading was at {last}"));
     }
-    match u16::try_from(head[3]) {
+    match u16::try_from(head[BLAMED]) {
         Ok(0) => Err("a breach by nobody".to_string()),
         Ok(parties) => Ok(Outcome::Breached(time, parties.into())),
-        Err(_) => Err(format!("blamed parties {}, where 16 bits may be set", head[3])),
+        Err(_) => Err(format!("blamed parties {}, where 16 bits may be set", head[BLAMED])),
     }
 }
 

@@ -75,14 +75,20 @@ fn explain() {
     assert_eq!(reference::start(&record, &mut cells), 0);
     let table: Vec<u8> = cells.iter().flat_map(|cell| cell.to_le_bytes()).collect();
     let words = text(&written(&["explain", "--for", SAMPLE, "-"], &table));
-    assert!(words.starts_with("running, last reading at 100\nKeeper owes Salinity(level)\n"), "{words}");
+    assert!(
+        words.starts_with("running, last reading at 100, last moved at 100\nKeeper owes Salinity(level)\n"),
+        "{words}"
+    );
     let words = text(&written(&["explain", "-"], &table));
-    assert_eq!(words, "running, last reading at 100\nan obligation at byte 17 of the agreement, since 100\n");
+    assert_eq!(
+        words,
+        "running, last reading at 100, last moved at 100\nan obligation at byte 17 of the agreement, since 100\n"
+    );
     let file = std::env::temp_dir().join(format!("agreement-{}", std::process::id()));
     std::fs::write(&file, &record).expect("a file");
     let words = text(&written(&["explain", "--agreement", &file.to_string_lossy(), "-"], &table));
     std::fs::remove_file(&file).expect("the file");
-    assert!(words.starts_with("running, last reading at 100\nP0 owes R1(v0)\n"), "{words}");
+    assert!(words.starts_with("running, last reading at 100, last moved at 100\nP0 owes R1(v0)\n"), "{words}");
 }
 
 #[test]

@@ -7,6 +7,8 @@ mod json;
 mod xml;
 
 use reference::generate::{calls, Aim, Entry};
+use reference::table::MOVED;
+use reference::{reading, start, CELLS};
 use std::collections::BTreeMap;
 use tools::disassemble;
 use tools::readings::Reading;
@@ -42,19 +44,34 @@ fn runs(seed: u64, calls_made: usize) -> Vec<(Vec<u8>, Vec<Reading>)> {
     runs.into_iter().collect()
 }
 
+/// When the agreement last moved by the second monitor, after the start and after each reading.
+fn moved(agreement: &[u8], readings: &[Reading]) -> Vec<i64> {
+    let mut table = vec![0; CELLS];
+    assert_eq!(start(agreement, &mut table), 0);
+    let mut moved = vec![table[MOVED]];
+    for given in readings {
+        // A refused reading leaves the table.
+        let _ = reading(agreement, &mut table, &given.record());
+        moved.push(table[MOVED]);
+    }
+    moved
+}
+
 #[test]
 fn every_story_is_told_and_drawn() {
     let (mut told, mut breached, mut long) = (0, 0, 0);
     for (record, readings) in runs(31, 12_000) {
         let agreement = disassemble(&record).unwrap_or_else(|fault| panic!("{fault}"));
         let source = Source::read("agreement", agreement.as_bytes()).unwrap_or_else(|fault| panic!("{fault}"));
-        let Ok((mut story, start)) = Story::start(&source) else { continue };
+        let Ok((mut story, begun)) = Story::start(&source) else { continue };
         let words = Words::of(&source);
-        let mut events = vec![start];
+        let mut events = vec![begun];
         events.extend((1..).zip(&readings).map(|(line, reading)| story.reading(line, reading)));
         let stream = readings.iter().fold(record.clone(), |stream, reading| [stream, reading.record()].concat());
         let verdicts: String = events.iter().map(|event| format!("{}\n", event.step)).collect();
         assert_eq!(verdicts, lines(&stream));
+        let last_moved: Vec<i64> = events.iter().map(|event| i64::from(event.last_moved)).collect();
+        assert_eq!(last_moved, moved(&record, &readings), "{verdicts}");
         for event in &events {
             assert!(event.changes.is_ok() && event.broken.is_ok(), "{verdicts}");
             assert!(text::event(&words, event).contains(&event.what));

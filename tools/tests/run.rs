@@ -78,7 +78,7 @@ fn fulfilled_and_running() {
     let fulfilled = "\nFULFILLED, shown by 2026-08-30T06:01 mark at examples/pond/good_season.readings:8\n";
     assert!(pond("good_season", 0).ends_with(fulfilled));
     let running = "
-RUNNING
+RUNNING, last moved at 2026-06-03T10:03
   all of
     Harvester owes Harvested(p, t) where p = 1 && 0 < t, from 2026-06-08T10:03 to 2026-06-12T10:03 (line 42)
     Salinity(p, g) where p = 1 && 250 <= g may come, from 2026-06-03T10:03 to 2026-08-30T06:00 (line 17)
@@ -128,6 +128,44 @@ BREACHED at 160 by Keeper
   shown by 161 mark at -:2
 ";
     assert_eq!(told, expected);
+}
+
+/// Each reading meets both clauses, and each follows the other.
+const IN_TURN: &str = "\
+parties A readings N() letrec
+first() declares A = <A> N() due within 5 then second()
+second() declares A = <A> N() due within 5 then first()
+in first() and second() starting 100
+";
+
+/// In one minute the two take each other's places: what waits is as before, and yet not where it was.
+#[test]
+fn clauses_that_change_places() {
+    let file = std::env::temp_dir().join(format!("agreement-in-turn-{}", std::process::id()));
+    std::fs::write(&file, IN_TURN).expect("a file");
+    let told = written(&["run", &file.to_string_lossy(), "-"], b"101 N\n101 N\n103 mark\n", 0);
+    std::fs::remove_file(&file).expect("the file");
+    let expected = "\
+101  N
+    met     A owed N() (line 3)
+    met     A owed N() (line 2)
+    new     A owes N(), from 101 to 106 (line 2)
+    new     A owes N(), from 101 to 106 (line 3)
+    ahead   a breach at 106 by A, if only time goes on
+            A would miss N() (line 2)
+            A would miss N() (line 3)
+103  mark
+    nothing changes
+    ahead   a breach at 106 by A, if only time goes on
+            A would miss N() (line 2)
+            A would miss N() (line 3)
+
+RUNNING, last moved at 101
+  all of
+    A owes N(), from 101 to 106 (line 2)
+    A owes N(), from 101 to 106 (line 3)
+";
+    assert!(told.ends_with(expected), "{told}");
 }
 
 #[test]

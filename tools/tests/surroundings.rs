@@ -151,7 +151,7 @@ fn empty_files() {
         );
     }
     let running = written(&["run", "tools/tests/sample.csl", "/dev/null"], b"", 0);
-    assert!(running.contains("\nRUNNING\n"), "{running}");
+    assert!(running.contains("\nRUNNING, last moved at 100\n"), "{running}");
     assert_eq!(written(&["run", "--follow", "tools/tests/sample.csl"], b"", 0), running);
     assert_eq!(written(&["run", "--records", "/dev/null"], b"", 2), "0 - REFUSED 1\n");
 }

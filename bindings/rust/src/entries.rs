@@ -57,7 +57,7 @@ pub fn start(agreement: &[u8], table: &mut [i64]) -> Result<(), Refusal> {
 /// reading.
 ///
 /// ```
-/// use givuntha::{reading, record, start, State};
+/// use givuntha::{reading, record, start, State, Times};
 ///
 /// // Fulfilled from the start; there is one type of reading, without values.
 /// let agreement = [20, 0, 1, 0, 100, 0, 0, 0, 1, 1, 0, 5, 0, 2, 0, 0, 4, 0, 16, 0];
@@ -65,7 +65,7 @@ pub fn start(agreement: &[u8], table: &mut [i64]) -> Result<(), Refusal> {
 /// start(&agreement, &mut cells)?;
 /// reading(&agreement, &mut cells, &record::reading(120, 1, &[]))?;
 /// assert_eq!(State::of(&cells), Some(State::Fulfilled));
-/// assert_eq!(cells[1], 120);
+/// assert_eq!(Times::of(&cells), Some(Times { last_reading: 120, last_moved: 100 }));
 /// # Ok::<(), givuntha::Refusal>(())
 /// ```
 pub fn reading(agreement: &[u8], table: &mut [i64], reading: &[u8]) -> Result<(), Refusal> {

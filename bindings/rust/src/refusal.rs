@@ -101,9 +101,9 @@ impl Refusal {
             Refusal::AgreementWidth => "a width over 256",
             Refusal::TableLength => "table not 3,080 cells",
             Refusal::TableContent => {
-                "table breaks its layout or typing, a waiting unit's A not from start to last reading time, running \
-                 without units, or a breach without party, with one not of the main clause, or with a time outside \
-                 start to last reading"
+                "table breaks its layout or typing, the time it last moved or a waiting unit's A not from start to \
+                 last reading time, running without units, or a breach without party, with one not of the main \
+                 clause, or with a time outside start to last reading"
             }
             Refusal::ReadingForm => {
                 "reading not one whole record of kind 64: time (4 bytes), type (1), 0 to 4 values of 4 bytes, signed"

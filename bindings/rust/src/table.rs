@@ -2,7 +2,7 @@
 
 use crate::entries::{self, Breach};
 use crate::refusal::Refusal;
-use crate::state::State;
+use crate::state::{State, Times};
 
 /// How many cells a table has.
 pub const CELLS: usize = 3080;
@@ -43,6 +43,11 @@ impl Table {
     /// What the head says; see [`State::of`].
     pub fn state(&self) -> Option<State> {
         State::of(self.cells())
+    }
+
+    /// When the run was last read and when it last moved; see [`Times::of`].
+    pub fn times(&self) -> Option<Times> {
+        Times::of(self.cells())
     }
 
     pub fn cells(&self) -> &[i64; CELLS] {

@@ -1,6 +1,6 @@
 //! The C header says the same numbers as this crate.
 
-use givuntha::{Refusal, CELLS, STACK};
+use givuntha::{Breach, Parties, Refusal, State, Times, CELLS, STACK};
 use std::fs;
 use std::path::Path;
 
@@ -22,6 +22,36 @@ fn every_refusal_has_its_number() {
         let line = format!("    {} = {}", name(refusal), refusal.number());
         assert!(header.lines().any(|known| known.trim_end_matches(',') == line), "{line}");
     }
+}
+
+/// The names and numbers of an enum of the header, in its order.
+fn enumerated<'h>(header: &'h str, name: &str) -> Vec<(&'h str, usize)> {
+    let begin = format!("enum {name} {{");
+    let body = header.split_once(&begin).expect(name).1.split_once("};").expect(name).0;
+    let numbered = |line: &'h str| {
+        let (name, number) = line.trim().strip_prefix("GIVUNTHA_")?.split_once(" = ")?;
+        let digits = number.find(|c: char| !c.is_ascii_digit()).unwrap_or(number.len());
+        Some((name, number[..digits].parse().expect(line)))
+    };
+    body.lines().filter_map(numbered).collect()
+}
+
+/// What is written where the header says is read there by this crate.
+#[test]
+fn the_head_s_cells_are_those_of_the_header() {
+    let header = header();
+    let head = enumerated(&header, "givuntha_head");
+    let names = ["STATE", "LAST_READING", "BREACH_TIME", "BLAMED", "UNITS", "LAST_MOVED"];
+    assert_eq!(head, names.map(|name| format!("HEAD_{name}")).iter().map(String::as_str).zip(0..).collect::<Vec<_>>());
+    let mut cells = vec![0; CELLS];
+    let written = [("STATE", 3), ("LAST_READING", 161), ("BREACH_TIME", 160), ("BLAMED", 1), ("LAST_MOVED", 155)];
+    for (name, number) in written {
+        let (_, cell) = head.iter().find(|(known, _)| *known == format!("HEAD_{name}")).expect(name);
+        cells[*cell] = number;
+    }
+    let breach = Breach { time: 160, parties: Parties::from_bits(1) };
+    assert_eq!(State::of(&cells), Some(State::Breached(breach)));
+    assert_eq!(Times::of(&cells), Some(Times { last_reading: 161, last_moved: 155 }));
 }
 
 #[test]

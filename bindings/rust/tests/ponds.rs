@@ -2,33 +2,25 @@
 
 #[path = "common/pond.rs"]
 mod pond;
+#[path = "common/run.rs"]
+mod run;
 #[path = "common/sample.rs"]
 mod sample;
 
-use givuntha::{check, record, Breach, Refusal, State, Table};
+use givuntha::{check, record, Breach, Refusal, State};
 use pond::pond;
 use reference::agreement::Operator;
 use reference::build::{agreement, and, binary, instance, number, or, reading_type, simple, template, Wait};
+use run::Run;
 use sample::sample;
 
-/// An agreement under way.
-struct Run {
-    agreement: Vec<u8>,
-    table: Table,
-}
-
 impl Run {
-    fn of(agreement: Vec<u8>) -> Run {
-        let table = Table::start(&agreement).expect("a start");
-        Run { agreement, table }
-    }
-
     fn salinity(&mut self, time: u32, value: i32) -> Result<(), Refusal> {
-        self.table.reading(&self.agreement, &record::reading(time, 1, &[value]))
+        self.take(&record::reading(time, 1, &[value]))
     }
 
     fn mark(&mut self, time: u32) -> Result<(), Refusal> {
-        self.table.reading(&self.agreement, &record::mark(time))
+        self.take(&record::mark(time))
     }
 
     /// Time and party bits of the breach ahead.

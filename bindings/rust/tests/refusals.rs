@@ -78,9 +78,9 @@ fn refusal_6_a_table_of_another_length() {
 #[test]
 fn refusal_7_a_damaged_table() {
     let good = Table::start(&sample()).unwrap();
-    for (cell, value) in
-        [(0, 9), (0, 2), (1, 99), (2, 1), (3, 1), (4, 2), (5, 1), (8, 18), (9, 16), (10, 99), (3079, 1)]
-    {
+    let head = [(0, 9), (0, 2), (1, 99), (2, 1), (3, 1), (4, 2), (5, 99), (5, 101), (6, 1), (7, 1)];
+    let units = [(8, 18), (9, 16), (10, 99), (3079, 1)];
+    for (cell, value) in head.into_iter().chain(units) {
         let mut cells = good.cells().to_vec();
         cells[cell] = value;
         assert_eq!(refused_reading(&sample(), &cells, &record::mark(100)), Some(Refusal::TableContent), "cell {cell}");

@@ -3,7 +3,7 @@
 #[path = "common/sample.rs"]
 mod sample;
 
-use givuntha::{record, Table, CELLS};
+use givuntha::{record, Table, Times, CELLS};
 use sample::sample;
 use std::io::Write;
 use std::process::{Command, Output, Stdio};
@@ -40,6 +40,17 @@ fn it_writes_the_table_that_the_stream_ends_with() {
     let output = table(&input);
     assert_eq!(cells(&output), expected.cells());
     assert!(output.stderr.is_empty());
+}
+
+/// The low reading is the last one, and nothing moved by it.
+#[test]
+fn when_the_run_last_moved_is_written() {
+    let (input, _) = sample_and_low();
+    let times = |input: &[u8]| Times::of(&cells(&table(input)));
+    assert_eq!(times(&sample()), Some(Times { last_reading: 100, last_moved: 100 }));
+    assert_eq!(times(&input), Some(Times { last_reading: 110, last_moved: 100 }));
+    let breached = [input, record::mark(161), record::mark(170)].concat();
+    assert_eq!(times(&breached), Some(Times { last_reading: 161, last_moved: 161 }));
 }
 
 #[test]

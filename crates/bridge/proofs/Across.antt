@@ -19,7 +19,7 @@ use Rattle.csl.specs.Outcomes.{Residue, Sight, Sort, aChoice, anObligation, bot
 use Rattle.csl.specs.Rules.{Reading, Step, during, following, forecasting}
 use Rattle.csl.specs.Places.{Found, clauseAt}
 use Rattle.csl.specs.Rules.{across}
-use Rattle.csl.specs.Table.{cellsOf, headCells, joinCells, joinNumber, natCells, padded, residueCells, runOf}
+use Rattle.csl.specs.Table.{cellsOf, joinCells, joinNumber, natCells, padded, residueCells, runOf}
 use Rattle.csl.specs.Table.{sortNumber, tableOf, unitCells}
 use Rattle.laws.proofs.Cells.{length-join, length-padded}
 use Rattle.soundness.proofs.Good.{Good, Ok, OkUnit, Placed, SightOk, good-moves}
@@ -29,6 +29,7 @@ use Rattle.soundness.proofs.Following.{ReadingOk, across-good, following-good}
 use Rattle.soundness.proofs.Forecasts.{forecasting-good}
 use Rattle.soundness.proofs.RoundTrip.{len-cells, len-nats, len-typed, units-length}
 use Rattle.soundness.proofs.Runs.{Inv, Since, runAt}
+use Rattle.soundness.proofs.Moved.{units-behind}
 use Rattle.soundness.proofs.ReadBack.{runOf-good, table-back}
 use Rattle.cells.specs.Reduce.{Mode, Reduced}
 use Rattle.cells.specs.Reduce as cells
@@ -102,14 +103,6 @@ none-more res = omega arith
 
 both-count : (l r : Residue) (n : ℕ) → 1 + units l + units r + n ≡ suc (units l + (units r + n))
 both-count l r n = omega arith
-
--- behind the head of a running run's table stand its units and zeros
-zeros : ℕ → Residue → List ℤ
-zeros now res = replicate (3080 - length (headCells 1 now 0 0 (units res) ++ residueCells res)) (pos 0)
-
-table-units : (now : ℕ) (res : Residue) → drop 8 (tableOf (runAt now (running res))) ≡ residueCells res ++ zeros now res
-unfolding tableOf padded headCells natCells zeros
-table-units now res = refl
 
 module _ (s mains : List ℕ) (fair : Fair (agreementOf s) mains) (found : FoundIs s) where
   abbrev ag : Agreement
@@ -206,23 +199,23 @@ module _ (s mains : List ℕ) (fair : Fair (agreementOf s) mains) (found : Found
         }
 
     -- all units of a running run's table, whatever sights stand behind theirs
-    whole-shows : (now : ℕ) (res : Residue) (ps sights : List ℕ) (us : List ℤ) → Ok ag Q res ps
-        → tableOf (runAt now (running res)) ≡ us → Whole m s st res sights us
+    whole-shows : (now moved : ℕ) (res : Residue) (ps sights : List ℕ) (us : List ℤ) → Ok ag Q res ps
+        → tableOf (runAt now moved (running res)) ≡ us → Whole m s st res sights us
     unfolding table.across
-    whole-shows now res ps sights us ok e =
-        let g = across-shows res ps 0 sights (zeros now res) ok in
+    whole-shows now moved res ps sights us ok e =
+        let g = across-shows res ps 0 sights (replicate (3072 - length (residueCells res)) (pos 0)) ok in
         record {
           given = g .given;
           only = ap₂ (λ i o. table.across m s i (sightsOf ag res ++ sights) o) (none-more res)
-              (ap (drop 8) (sym e) ∙ table-units now res) ∙ g .first;
+              (ap (drop 8) (sym e) ∙ units-behind now moved res) ∙ g .first;
           shown = g .shown;
         }
 
   -- ---- the table of a run
-  module _ (now : ℕ) (res : Residue) (us : List ℤ) (l : length us ≡ 3080)
-      (is : runOf ag mains us ≡ some (runAt now (running res))) (sights : List ℕ) where
-    inv : Inv ag mains now (running res)
-    inv = runOf-good ag mains us (runAt now (running res)) fair is
+  module _ (now moved : ℕ) (res : Residue) (us : List ℤ) (l : length us ≡ 3080)
+      (is : runOf ag mains us ≡ some (runAt now moved (running res))) (sights : List ℕ) where
+    inv : Inv ag mains now moved (running res)
+    inv = runOf-good ag mains us (runAt now moved (running res)) fair is
 
     pub follow-across : (d : Reading) → ReadingOk ag d → now ≤ d .time
         → Whole (cells.following (d .time) (d .type) (cellsOf (d .values))) s (following (ag .templates) d) res sights
@@ -231,11 +224,13 @@ module _ (s mains : List ℕ) (fair : Fair (agreementOf s) mains) (found : Found
     follow-across d rok le =
         whole-shows (Since ag now) (Since ag (d .time)) (λ t h. (h .0, omega (arith, h .1)))
         (following (ag .templates) d) (following-good ag mains fair d rok) _ (follow-shows ag mains fair d rok)
-        now res (inv .good .0) sights us (inv .good .1) (table-back ag mains us (runAt now (running res)) is l)
+        now moved res (inv .good .0) sights us (inv .good .1)
+        (table-back ag mains us (runAt now moved (running res)) is l)
 
     pub forecast-across : Whole cells.forecasting s forecasting res sights us
     unfolding Good
     forecast-across =
         whole-shows (Since ag now) (λ t. ag .start ≤ t) (λ t h. h .0) forecasting (forecasting-good ag mains fair)
         cells.forecasting (forecast-shows ag mains fair)
-        now res (inv .good .0) sights us (inv .good .1) (table-back ag mains us (runAt now (running res)) is l)
+        now moved res (inv .good .0) sights us (inv .good .1)
+        (table-back ag mains us (runAt now moved (running res)) is l)

@@ -8,7 +8,8 @@ use mathlib.Core.Path.{ap, refl, subst, sym, _∙_, _≡_}
 use Prim.Native.Nat.{_<_, ℕ, _≤_}
 use native.Mathlib.Omega.{arith}
 use lib.Dec.{ltb}
-use lib.IntN.{ℤ}
+use borrow.Author.Tests.{ltb-false}
+use lib.IntN.{pos, ℤ}
 use lib.ListN.{drop, length}
 use Rattle.csl.specs.Lists.{all}
 use Rattle.csl.specs.Parties.{bitsOf}
@@ -17,12 +18,12 @@ use Rattle.csl.specs.Decode.{agreementOf, mainOf}
 use Rattle.csl.specs.Check.{accepted, checked}
 use Rattle.csl.specs.Outcomes.{Outcome, Residue, breach, done, running, stuck, units}
 use Rattle.csl.specs.Rules.{Reading, activate, follow, forecast}
-use Rattle.csl.specs.Run.{Fit, Raw, Run, Stepped, fit, fitOf, followed, kept, rawReading, started, step, typedReading}
-use Rattle.csl.specs.Run.{unfit}
-use Rattle.csl.specs.Table.{cellsOf, natCells, runOf, standFor, tableOf}
+use Rattle.csl.specs.Run.{Fit, Raw, Stepped, fit, fitOf, followed, kept, rawReading, readAt, started, step}
+use Rattle.csl.specs.Run.{typedReading, unfit}
+use Rattle.csl.specs.Table.{Run, cellsOf, headCells, natCells, runOf, standFor, tableOf}
 use Rattle.csl.specs.Entries.{Answer, Forecast, breachAt, forecastOf, forecastRun, noBreach, noForecast, readingOf}
 use Rattle.csl.specs.Entries.{refusal, shown, startOf, written}
-use Rattle.csl.specs.Demand3.{fitting}
+use Rattle.csl.specs.Demand3.{fitting, needed}
 use Rattle.laws.proofs.Clash.{impossible}
 use Rattle.laws.proofs.Options.{some-inj, none-some}
 use Rattle.soundness.proofs.Evaluation.{HaveTy}
@@ -32,7 +33,9 @@ use Rattle.soundness.proofs.Activation.{activate-good}
 use Rattle.soundness.proofs.Following.{ReadingOk, follow-good}
 use Rattle.soundness.proofs.Forecasts.{ForecastOk, forecast-ok}
 use Rattle.soundness.proofs.Readings.{reading-ok}
-use Rattle.soundness.proofs.Runs.{Since, fit-cases, fitByBytes, fitByType, isFair, reading-is, runAt, start-is, stepped}
+use Rattle.soundness.proofs.Runs.{Since, fit-cases, fitByBytes, fitByType, isFair, movedTo, reading-is, runAt}
+use Rattle.soundness.proofs.Runs.{start-is, stepped}
+use Rattle.soundness.proofs.Moved.{stays-done}
 use Rattle.soundness.proofs.ReadBack.{runOf-good, table-back}
 use Rattle.cells.specs.Reduce.{Reduced}
 use Rattle.cells.specs.Reduce as cells
@@ -41,24 +44,29 @@ use Rattle.bridge.proofs.Shows.{Shows}
 use Rattle.bridge.proofs.Reduce.{activate-shows}
 use Rattle.bridge.proofs.Across.{FoundIs, follow-across, forecast-across, sightsOf}
 use Rattle.bridge.proofs.Refusals.{answer, forecast-on}
-use Rattle.cells.specs.Tables.{reducedTable}
-use Rattle.bridge.proofs.Tables.{table-shows, tooMany-shows, unitsIn}
+use Rattle.cells.specs.Tables.{headOf, movedCell, reducedTable, steppedTable}
+use Rattle.bridge.proofs.Tables.{needed-shows, table-shows, tooMany-shows, unitsIn}
+use Rattle.bridge.proofs.Moved.{moved-first, moved-shows}
 
 -- "over 128 units it is 11 and nothing changes, otherwise 0"
-unfoldable pub keptCells : ℕ → List ℤ → Reduced → Answer
-keptCells now us x = cond (ltb 128 (unitsIn x)) (answer 11 us) (answer 0 (reducedTable now x))
+unfoldable pub keptCells : ℕ → ℕ → List ℤ → Reduced → Answer
+keptCells now n us x = cond (ltb 128 (unitsIn x)) (answer 11 us) (answer 0 (steppedTable now n us x))
 
-kept-shows : (ag : Agreement) (W : ℕ → Type 0) (P : List ℕ) (before : Run) (us : List ℤ) (now : ℕ) (o : Outcome)
-    (x : Reduced) → Good ag W P o → Shows o x → written us (kept before (runAt now o)) ≡ keptCells now us x
-unfolding written refusal kept keptCells
-kept-shows ag W P before us now o x g h = ap
-    (λ b. written us (elim b [ true ↦ stepped 11 before | false ↦ stepped 0 (runAt now o) ]))
-    (tooMany-shows ag W P o x g h) ∙ go (ltb 128 (unitsIn x))
+kept-shows : (ag : Agreement) (W : ℕ → Type 0) (P : List ℕ) (before : Run) (us : List ℤ) (now m n : ℕ) (o : Outcome)
+    (x : Reduced) → Good ag W P o → Shows o x → (needed o ≤ 128 → pos m ≡ movedCell now n us x)
+    → written us (kept before (runAt now m o)) ≡ keptCells now n us x
+unfolding written refusal kept keptCells steppedTable
+kept-shows ag W P before us now m n o x g h mv = ap
+    (λ b. written us (elim b [ true ↦ stepped 11 before | false ↦ stepped 0 (runAt now m o) ]))
+    (tooMany-shows ag W P o x g h) ∙ go (ltb 128 (unitsIn x)) refl
   where
-    go : (b : Bool) → written us (elim b [ true ↦ stepped 11 before | false ↦ stepped 0 (runAt now o) ]) ≡ cond b
-        (answer 11 us) (answer 0 (reducedTable now x))
-    go true = refl
-    go false = ap (answer 0) (table-shows ag W P now o x g h)
+    go : (b : Bool) → ltb 128 (unitsIn x) ≡ b
+        → written us (elim b [ true ↦ stepped 11 before | false ↦ stepped 0 (runAt now m o) ]) ≡ cond b
+        (answer 11 us) (answer 0 (reducedTable now (movedCell now n us x) x))
+    go true e = refl
+    go false e =
+        let few : needed o ≤ 128 = omega (arith, ltb-false 128 (unitsIn x) e, needed-shows ag W P o x g h) in
+        ap (answer 0) (table-shows ag W P now m o x g h ∙ ap (λ z. reducedTable now z x) (mv few))
 
 -- a forecast's outcome on cells
 unfoldable pub foretold : Reduced → Forecast
@@ -124,17 +132,22 @@ module _ (s mains : List ℕ) (ck : checked s ≡ accepted (agreementOf s) mains
   -- ---- start
   start-shows : (us : List ℤ) (x : Reduced) → length us ≡ 3080
       → Shows (activate (ag .templates) (ag .main) (record { params = []; values = [] }) (ag .start)) x
-      → startOf s us ≡ keptCells (ag .start) us x
+      → startOf s us ≡ keptCells (ag .start) 0 us x
   unfolding started
   start-shows us x l h =
       start-is s ag mains ck us l
-      ∙ kept-shows ag (λ t. Unit {0}) (standFor [] mains) _ us (ag .start)
-      (activate (ag .templates) (ag .main) (record { params = []; values = [] }) (ag .start)) x
-      (activate-good ag mains fair (λ t. Unit {0}) (ag .main) 0 [] (record { params = []; values = [] }) (ag .start)
-      mains no-sight tt (fair .main) (fair .mainPlaced)) h
+      ∙ kept-shows ag (λ t. Unit {0}) (standFor [] mains) _ us (ag .start) (ag .start) 0 first x good h
+      (λ few. moved-first ag (λ t. Unit {0}) (standFor [] mains) (ag .start) us first x good h)
+    where
+      first : Outcome
+      first = activate (ag .templates) (ag .main) (record { params = []; values = [] }) (ag .start)
+
+      good : Good ag (λ t. Unit {0}) (standFor [] mains) first
+      good = activate-good ag mains fair (λ t. Unit {0}) (ag .main) 0 [] (record { params = []; values = [] })
+          (ag .start) mains no-sight tt (fair .main) (fair .mainPlaced)
 
   pub start-reduce : (us : List ℤ) → length us ≡ 3080
-      → startOf s us ≡ keptCells (ag .start) us
+      → startOf s us ≡ keptCells (ag .start) 0 us
       (cells.reduce cells.activating (ag .templates) (mainOf s) [] [] (ag .start))
   unfolding agreementOf natCells cellsOf activate
   start-reduce us l = start-shows us _ l (activate-shows ag mains fair (ag .main) 0 []
@@ -159,53 +172,58 @@ module _ (s mains : List ℕ) (ck : checked s ≡ accepted (agreementOf s) mains
       reading-ten d f lt = by-step (stepped 10 q) (step-ten ag q r d f lt)
 
     -- ---- one that fits and does not come before the last
-    module _ (now : ℕ) (r : List ℕ) (d : Reading) (f : fitting ag r ≡ some d) (le : now ≤ d .time) where
-      pub reading-done : runOf ag mains us ≡ some (runAt now done)
-          → readingOf s us r ≡ answer 0 (reducedTable (d .time) cells.done)
-      unfolding written followed tableOf reducedTable
-      reading-done is = by-step (runAt now done) is r _ ((step-fits ag (runAt now done) r d f le) .1)
+    module _ (now m : ℕ) (r : List ℕ) (d : Reading) (f : fitting ag r ≡ some d) (le : now ≤ d .time) where
+      pub reading-done : runOf ag mains us ≡ some (runAt now m done)
+          → readingOf s us r ≡ answer 0 (reducedTable (d .time) (pos m) cells.done)
+      unfolding written followed readAt
+      reading-done is = by-step (runAt now m done) is r _ ((step-fits ag (runAt now m done) r d f le) .1)
+          ∙ ap (λ k. answer 0 (tableOf (runAt (d .time) k done))) (stays-done now m (d .time))
+          ∙ ap (answer 0) (unfold tableOf reducedTable headOf headCells natCells in refl)
 
-      pub reading-breach : (t : ℕ) (ps : List ℕ) → runOf ag mains us ≡ some (runAt now (breach t ps))
+      pub reading-breach : (t : ℕ) (ps : List ℕ) → runOf ag mains us ≡ some (runAt now m (breach t ps))
           → readingOf s us r ≡ answer 0 us
       unfolding written followed
-      reading-breach t ps is = by-step (runAt now (breach t ps)) is r _
-          ((step-fits ag (runAt now (breach t ps)) r d f le) .1)
-          ∙ ap (answer 0) (table-back ag mains us (runAt now (breach t ps)) is l)
+      reading-breach t ps is = by-step (runAt now m (breach t ps)) is r _
+          ((step-fits ag (runAt now m (breach t ps)) r d f le) .1)
+          ∙ ap (answer 0) (table-back ag mains us (runAt now m (breach t ps)) is l)
 
       -- x is what the rules on cells give for all units of the table
       pub reading-running : FoundIs s → (res : Residue) (sights : List ℕ) (x : Reduced)
-          → runOf ag mains us ≡ some (runAt now (running res))
+          → runOf ag mains us ≡ some (runAt now m (running res))
           → table.across (cells.following (d .time) (d .type) (cellsOf (d .values))) s (units res)
-          (sightsOf ag res ++ sights) (drop 8 us) ≡ x ∷ [] → readingOf s us r ≡ keptCells (d .time) us x
-      unfolding followed Good follow
+          (sightsOf ag res ++ sights) (drop 8 us) ≡ x ∷ [] → readingOf s us r ≡ keptCells (d .time) (units res) us x
+      unfolding followed Good follow readAt
       reading-running found res sights x is e =
-          let st = step-fits ag (runAt now (running res)) r d f le in
-          let g = (runOf-good ag mains us (runAt now (running res)) fair is) .good in
-          let w = follow-across s mains fair found now res us l is sights d (st .0) le in
-          by-step (runAt now (running res)) is r _ (st .1)
-          ∙ kept-shows ag (Since ag (d .time)) (g .0) (runAt now (running res)) us (d .time) (follow ag d res) x
-          (follow-good ag mains fair d (st .0) now le res (g .0) (g .1))
-          (subst (Shows (follow ag d res)) (same-one (sym (w .only) ∙ e)) (w .shown))
+          let st = step-fits ag (runAt now m (running res)) r d f le in
+          let g = (runOf-good ag mains us (runAt now m (running res)) fair is) .good in
+          let w = follow-across s mains fair found now m res us l is sights d (st .0) le in
+          let good = follow-good ag mains fair d (st .0) now le res (g .0) (g .1) in
+          let shows = subst (Shows (follow ag d res)) (same-one (sym (w .only) ∙ e)) (w .shown) in
+          by-step (runAt now m (running res)) is r _ (st .1)
+          ∙ kept-shows ag (Since ag (d .time)) (g .0) (runAt now m (running res)) us (d .time)
+          (movedTo now m (running res) (d .time) (follow ag d res)) (units res) (follow ag d res) x good shows
+          (moved-shows ag mains fair now m res us l is (Since ag (d .time)) (g .0) (d .time) (follow ag d res) x good
+          shows)
 
     -- ---- the forecast
-    pub forecast-done : (now : ℕ) → runOf ag mains us ≡ some (runAt now done) → forecastOf s us ≡ noBreach
+    pub forecast-done : (now m : ℕ) → runOf ag mains us ≡ some (runAt now m done) → forecastOf s us ≡ noBreach
     unfolding forecastRun shown
-    forecast-done now is = forecast-on us s ag mains ck l (some (runAt now done)) is
+    forecast-done now m is = forecast-on us s ag mains ck l (some (runAt now m done)) is
 
     -- "A breached table gives its verdict."
-    pub forecast-breach : (now t : ℕ) (ps : List ℕ) → runOf ag mains us ≡ some (runAt now (breach t ps))
+    pub forecast-breach : (now m t : ℕ) (ps : List ℕ) → runOf ag mains us ≡ some (runAt now m (breach t ps))
         → forecastOf s us ≡ breachAt t (bitsOf ps)
     unfolding forecastRun shown
-    forecast-breach now t ps is = forecast-on us s ag mains ck l (some (runAt now (breach t ps))) is
+    forecast-breach now m t ps is = forecast-on us s ag mains ck l (some (runAt now m (breach t ps))) is
 
-    pub forecast-running : FoundIs s → (now : ℕ) (res : Residue) (sights : List ℕ) (x : Reduced)
-        → runOf ag mains us ≡ some (runAt now (running res))
+    pub forecast-running : FoundIs s → (now m : ℕ) (res : Residue) (sights : List ℕ) (x : Reduced)
+        → runOf ag mains us ≡ some (runAt now m (running res))
         → table.across cells.forecasting s (units res) (sightsOf ag res ++ sights) (drop 8 us) ≡ x ∷ []
         → (forecastOf s us ≡ foretold x) × ((vs : List ℤ) → x ≡ cells.running vs → ⊥)
     unfolding Good forecast forecastRun
-    forecast-running found now res sights x is e =
-        let g = (runOf-good ag mains us (runAt now (running res)) fair is) .good in
-        let w = forecast-across s mains fair found now res us l is sights in
+    forecast-running found now m res sights x is e =
+        let g = (runOf-good ag mains us (runAt now m (running res)) fair is) .good in
+        let w = forecast-across s mains fair found now m res us l is sights in
         let t = foretold-shows ag mains (forecast ag res) x (forecast-ok ag mains fair now res (g .0) (g .1) (g .2))
         (subst (Shows (forecast ag res)) (same-one (sym (w .only) ∙ e)) (w .shown)) in
-        (forecast-on us s ag mains ck l (some (runAt now (running res))) is ∙ t .0, t .1)
+        (forecast-on us s ag mains ck l (some (runAt now m (running res))) is ∙ t .0, t .1)

@@ -15,8 +15,8 @@ use Rattle.csl.specs.Typing.{typed}
 use Rattle.csl.specs.Guards.{guardedFrom}
 use Rattle.csl.specs.Widths.{narrowAll}
 use Rattle.csl.specs.Check.{CheckResult, accepted, answerFor, checkDecoded, checkOf, checkTyped, checked, refused}
-use Rattle.csl.specs.Run.{Run, started, step}
-use Rattle.csl.specs.Table.{runOf}
+use Rattle.csl.specs.Run.{started, step}
+use Rattle.csl.specs.Table.{Run, runOf}
 use Rattle.csl.specs.Entries.{Answer, Forecast, forecastOf, forecastRun, isTable, readingOf, refusal, refusedForecast}
 use Rattle.csl.specs.Entries.{shown, startOf, written}
 use Rattle.soundness.proofs.Decoding.{decode-is}

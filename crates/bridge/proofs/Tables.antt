@@ -4,17 +4,18 @@ use mathlib.Core.Path.{ap, refl, _∙_, _≡_}
 use Prim.Native.Nat.{_*_, _/_, ℕ}
 use native.Mathlib.Omega.{arith}
 use lib.Dec.{ltb}
+use lib.IntN.{pos}
 use lib.ListN.{length}
 use Rattle.csl.specs.Syntax.{Agreement}
 use Rattle.csl.specs.Outcomes.{Outcome, Residue, breach, done, running, stuck, units}
 use Rattle.csl.specs.Run.{tooMany}
-use Rattle.csl.specs.Table.{headCells, padded, residueCells, tableOf}
+use Rattle.csl.specs.Table.{headCells, natCells, padded, residueCells, tableOf}
 use Rattle.csl.specs.Demand3.{needed}
 use Rattle.soundness.proofs.Good.{Good, Ok}
 use Rattle.soundness.proofs.Runs.{cells-len, runAt, tooMany-is}
 use Rattle.cells.specs.Reduce.{Reduced}
 use Rattle.cells.specs.Reduce as cells
-use Rattle.cells.specs.Tables.{reducedTable}
+use Rattle.cells.specs.Tables.{headOf, reducedTable}
 use Rattle.bridge.proofs.Shows.{Shows}
 
 -- the units that an outcome needs
@@ -32,14 +33,14 @@ module _ (ag : Agreement) (W : ℕ → Type 0) where
 
   module _ (P : List ℕ) where
     -- a good outcome's table is the table of what shows it
-    pub table-shows : (now : ℕ) (o : Outcome) (x : Reduced) → Good ag W P o → Shows o x
-        → tableOf (runAt now o) ≡ reducedTable now x
-    unfolding Good Shows tableOf reducedTable
-    table-shows now done x g h = rw h refl
-    table-shows now (breach t ps) x g h = rw h refl
-    table-shows now (running res) x g h = rw h
-        (ap (λ n. padded 3080 (headCells 1 now 0 0 n ++ residueCells res)) (units-are res (g .0) (g .1)))
-    table-shows now stuck x g h = absurd h
+    pub table-shows : (now m : ℕ) (o : Outcome) (x : Reduced) → Good ag W P o → Shows o x
+        → tableOf (runAt now m o) ≡ reducedTable now (pos m) x
+    unfolding Good Shows tableOf reducedTable headOf headCells natCells
+    table-shows now m done x g h = rw h refl
+    table-shows now m (breach t ps) x g h = rw h refl
+    table-shows now m (running res) x g h = rw h
+        (ap (λ n. padded 3080 (headCells 1 now 0 0 n m ++ residueCells res)) (units-are res (g .0) (g .1)))
+    table-shows now m stuck x g h = absurd h
 
     pub needed-shows : (o : Outcome) (x : Reduced) → Good ag W P o → Shows o x → needed o ≡ unitsIn x
     unfolding Good Shows needed unitsIn

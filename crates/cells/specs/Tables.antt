@@ -1,12 +1,31 @@
--- The table of a run, from its outcome on cells and its last reading time.
-use mathlib.Core.List.{List, _++_}
-use Prim.Native.Nat.{ℕ, _/_}
-use lib.IntN.{ℤ}
-use lib.ListN.{length}
-use Rattle.csl.specs.Table.{headCells, padded, tableLength}
+-- The table of a run, from its outcome on cells, its last reading time, and the cell that says when it last moved.
+use mathlib.Core.Bool.{cond}
+use mathlib.Core.List.{List, [], _∷_, _++_}
+use Prim.Native.Nat.{ℕ, _*_, _/_}
+use lib.IntN.{ℤ, pos}
+use lib.ListN.{drop, getD, length, take}
+use Rattle.csl.specs.Run.{sameNumbers}
+use Rattle.csl.specs.Table.{natCells, padded, tableLength}
 use Rattle.cells.specs.Reduce.{Reduced, breach, done, running}
 
-unfoldable pub reducedTable : ℕ → Reduced → List ℤ
-reducedTable now done = padded tableLength (headCells 2 now 0 0 0)
-reducedTable now (breach t b) = padded tableLength (headCells 3 now t b 0)
-reducedTable now (running cs) = padded tableLength (headCells 1 now 0 0 (length cs / 24) ++ cs)
+-- the head: state, last reading time, breach time, parties by bit, units in use, when it last moved
+unfoldable pub headOf : ℕ → ℕ → ℕ → ℕ → ℕ → ℤ → List ℤ
+headOf state now time parties used moved =
+    natCells (state ∷ now ∷ time ∷ parties ∷ used ∷ []) ++ (moved ∷ pos 0 ∷ pos 0 ∷ [])
+
+unfoldable pub reducedTable : ℕ → ℤ → Reduced → List ℤ
+reducedTable now moved done = padded tableLength (headOf 2 now 0 0 0 moved)
+reducedTable now moved (breach t b) = padded tableLength (headOf 3 now t b 0 moved)
+reducedTable now moved (running cs) = padded tableLength (headOf 1 now 0 0 (length cs / 24) moved ++ cs)
+
+-- when a run last moved, after a step at `now` from a table with n units in use: it stays where the run goes on with
+-- the same units
+unfoldable pub movedCell : ℕ → ℕ → List ℤ → Reduced → ℤ
+movedCell now n us done = pos now
+movedCell now n us (breach t b) = pos now
+movedCell now n us (running cs) =
+    cond (sameNumbers cs (take (24 * n) (drop 8 us))) (getD us 5 (pos 0)) (pos now)
+
+-- the table that a step at `now` leaves
+unfoldable pub steppedTable : ℕ → ℕ → List ℤ → Reduced → List ℤ
+steppedTable now n us x = reducedTable now (movedCell now n us x) x

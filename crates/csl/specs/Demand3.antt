@@ -2,13 +2,17 @@
 -- The claim itself stands in monitor/specs/Demand3, of calls of the entries; `soundness` proves what it rests on.
 use mathlib.Core.List.{List, [], _∷_}
 use mathlib.Core.Option.{Option}
+use mathlib.Core.Path.{_≡_}
 use Prim.Native.Nat.{ℕ}
 use lib.Dec.{T, ltb}
-use Rattle.csl.specs.Lists.{_>>=_, all}
+use lib.IntN.{ℤ}
+use lib.ListN.{drop}
+use Rattle.csl.specs.Lists.{_>>=_, all, at}
 use Rattle.csl.specs.Syntax.{Agreement}
 use Rattle.csl.specs.Outcomes.{Outcome, done, breach, running, stuck, units}
 use Rattle.csl.specs.Rules.{Reading, follow}
-use Rattle.csl.specs.Run.{Run, rawReading, typedReading, step}
+use Rattle.csl.specs.Table.{Run}
+use Rattle.csl.specs.Run.{rawReading, typedReading, step}
 
 unfoldable pub Bytes : List ℕ → Type 0
 Bytes bs = T (all (λ b. ltb b 256) bs)
@@ -40,6 +44,10 @@ NotStuck done = Unit {0}
 NotStuck (breach t ps) = Unit {0}
 NotStuck (running r) = Unit {0}
 NotStuck stuck = ⊥
+
+-- paper 02, No. 1: "Altered means that a unit cell or the state cell holds another number afterwards.": none does
+unfoldable pub Unaltered : List ℤ → List ℤ → Type 0
+Unaltered before after = (at before 0 ≡ at after 0) × (drop 8 before ≡ drop 8 after)
 
 unfoldable pub IsBreach : Outcome → Type 0
 IsBreach done = ⊥

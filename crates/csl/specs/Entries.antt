@@ -12,8 +12,8 @@ use Rattle.csl.specs.Syntax.{Agreement}
 use Rattle.csl.specs.Check.{CheckResult, refused, accepted, checked}
 use Rattle.csl.specs.Outcomes.{Outcome, done, breach, running, stuck}
 use Rattle.csl.specs.Rules.{forecast}
-use Rattle.csl.specs.Run.{Run, Stepped, started, step}
-use Rattle.csl.specs.Table.{tableLength, tableOf, runOf}
+use Rattle.csl.specs.Run.{Stepped, started, step}
+use Rattle.csl.specs.Table.{Run, tableLength, tableOf, runOf}
 
 -- a number, and the table afterwards
 pub record Answer : Type 0 where

@@ -20,18 +20,18 @@ use Rattle.csl.specs.Check.{CheckResult, refused, accepted, checked, che
 use Rattle.csl.specs.Values.{Val, num, bool, who, valuesOf, eval}
 use Rattle.csl.specs.Outcomes.{Sight, Sort, anObligation, aChoice, Residue, unit, both, Outcome, done, breach}
 use Rattle.csl.specs.Outcomes.{running, stuck, joined}
-use Rattle.csl.specs.Run.{Run, Stepped, started, step}
+use Rattle.csl.specs.Run.{Stepped, altered, started, step}
 use Rattle.csl.specs.Places.{clauseAt}
 use Rattle.csl.specs.Rules.{activate}
 use Rattle.csl.specs.Widths.{narrowAll}
-use Rattle.csl.specs.Table.{addUnit, cellsOf, isSort, tableOf, runOf}
+use Rattle.csl.specs.Table.{Run, addUnit, cellsOf, isSort, tableOf, runOf}
 use Rattle.csl.specs.Entries.{refusedForecast, noForecast, shown, startOf, readingOf, forecastOf, forecastRun}
 use Rattle.csl.specs.Build.{le2, le4, recordOf, lit, truthOf, yes′, partyOf, var, opposite, op, nothing}
 use Rattle.csl.specs.Build.{owesTyped, owes, simply, may, mayTyped, ifs, all′, any′, inst, readingTypeOf}
 use Rattle.csl.specs.Build.{templateWith, agreementWith, agreement, readingWith, reading, mark, sample, zeros}
 use Rattle.csl.specs.Build.{filled, unitOf, joinUnit, flat, runningTable, fulfilledTable}
 use Rattle.csl.specs.Trials.{Trial, Seen, checks, answers, forecasts, steps, reads, becomes, decides, evaluates}
-use Rattle.csl.specs.Trials.{holds, counts, gives, follows, live, breaches, harness}
+use Rattle.csl.specs.Trials.{holds, counts, gives, follows, live, fulfils, breaches, harness}
 
 -- ---- forms of a trial
 unfoldable pub shows : String → List Seen → List Seen → Trial
@@ -72,9 +72,10 @@ runSeen (accepted ag ps) rs = stepsOf ag (started ag) rs
 unfoldable pub obeys : String → List ℕ → List (List ℕ) → List Seen → Trial
 obeys n b rs es = record { name = n; shown = runSeen (checked b) rs; expected = es }
 
--- a number, the last reading time, the outcome and what would become of it
-unfoldable pub leads : ℕ → ℕ → Outcome → Outcome → Seen
-leads n now o f = steps (record { number = n; run = record { lastTime = now; outcome = o } }) f
+-- a number, the last reading time, when it last moved, the outcome and what would become of it
+unfoldable pub leads : ℕ → ℕ → ℕ → Outcome → Outcome → Seen
+leads n now moved o f =
+    steps (record { number = n; run = record { lastTime = now; lastMoved = moved; outcome = o } }) f
 
 unfoldable pub waits : Sort → ℕ → ℕ → List ℕ → List Val → Outcome
 waits s p a qs vs = running (unit s p a (record { params = qs; values = vs }))
@@ -224,7 +225,7 @@ equations =
 
 unfoldable pub taken : String → List ℕ → Trial
 taken n e = obeys n (main (asking e)) (reading 110 (pos 1) ∷ [])
-    (leads 0 100 (owed 17 100) (by 160 0) ∷ leads 0 110 done done ∷ [])
+    (leads 0 100 100 (owed 17 100) (by 160 0) ∷ leads 0 110 110 done done ∷ [])
 
 -- three templates: the third names the second, which names the first with its parameters crossed
 unfoldable pub chain : List ℕ
@@ -249,52 +250,55 @@ runs =
     ∷ obeys "a choice waits, is taken, and its `then` does not see the reading again"
     (main (may (op 42 (lit (pos 5)) (var 0)) (pos 0) (pos 50) (simply 1 (pos 20)) nothing))
     (reading 110 (pos 5) ∷ reading 120 (pos 7) ∷ []) (
-    leads 0 100 (chosen 17 100) done
-    ∷ leads 0 110 (chosen 17 100) done
-    ∷ leads 0 120 (waits anObligation 55 120 [] (nums (7 ∷ 30 ∷ []))) (by 140 1) ∷ [])
+    leads 0 100 100 (chosen 17 100) done
+    ∷ leads 0 110 100 (chosen 17 100) done
+    ∷ leads 0 120 120 (waits anObligation 55 120 [] (nums (7 ∷ 30 ∷ []))) (by 140 1) ∷ [])
     ∷ obeys "an if by a value, its first side"
     (main (next (ifs (op 42 (var 0) (lit (pos 5))) (simply 0 (pos 60)) (simply 1 (pos 50)))))
     (reading 110 (pos 3) ∷ []) (
-    leads 0 100 (owed 17 100) (by 160 0) ∷ leads 0 110 (waits anObligation 65 110 [] (nums (3 ∷ 50 ∷ []))) (by 170 0)
+    leads 0 100 100 (owed 17 100) (by 160 0)
+    ∷ leads 0 110 110 (waits anObligation 65 110 [] (nums (3 ∷ 50 ∷ []))) (by 170 0)
     ∷ [])
     ∷ obeys "an if by a value, its second side"
     (main (next (ifs (op 42 (var 0) (lit (pos 5))) (simply 0 (pos 60)) (simply 1 (pos 50)))))
     (reading 110 (pos 5) ∷ []) (
-    leads 0 100 (owed 17 100) (by 160 0) ∷ leads 0 110 (waits anObligation 96 110 [] (nums (5 ∷ 50 ∷ []))) (by 160 1)
+    leads 0 100 100 (owed 17 100) (by 160 0)
+    ∷ leads 0 110 110 (waits anObligation 96 110 [] (nums (5 ∷ 50 ∷ []))) (by 160 1)
     ∷ [])
     ∷ obeys "only the wanted reading type, only from `first` on"
     (agreementWith 2 (readingTypeOf [] ∷ aNumber ∷ []) [] (owesTyped 0 2 yes′ (lit (pos 30)) (lit (pos 60)) nothing))
     (readingWith 140 1 [] ∷ reading 150 (pos 1) ∷ readingWith 150 2 (pos 1 ∷ []) ∷ []) (
-    leads 0 100 (owed 22 100) (by 190 0) ∷ leads 0 140 (owed 22 100) (by 190 0) ∷ leads 9 140 (owed 22 100) (by 190 0)
-    ∷ leads 0 150 done done ∷ [])
+    leads 0 100 100 (owed 22 100) (by 190 0) ∷ leads 0 140 100 (owed 22 100) (by 190 0)
+    ∷ leads 9 140 100 (owed 22 100) (by 190 0) ∷ leads 0 150 150 done done ∷ [])
     ∷ obeys "before `first` and at it" (main (owes 0 yes′ (pos 30) (pos 20) nothing))
     (reading 129 (pos 1) ∷ reading 130 (pos 1) ∷ []) (
-    leads 0 100 (owed 17 100) (by 150 0) ∷ leads 0 129 (owed 17 100) (by 150 0) ∷ leads 0 130 done done ∷ [])
+    leads 0 100 100 (owed 17 100) (by 150 0)
+    ∷ leads 0 129 100 (owed 17 100) (by 150 0) ∷ leads 0 130 130 done done ∷ [])
     ∷ obeys "three templates: values, parameters, and a `then` that sees both" chain
     (reading 110 (pos 5) ∷ reading 115 (pos 8) ∷ reading 120 (pos 8) ∷ mark 134 ∷ []) (
-    leads 0 100 (owed 135 100) (by 160 0)
-    ∷ leads 0 110 (waits anObligation 27 110 (0 ∷ 1 ∷ []) (nums (6 ∷ 9 ∷ []))) (by 125 1)
-    ∷ leads 0 115 (waits anObligation 27 110 (0 ∷ 1 ∷ []) (nums (6 ∷ 9 ∷ []))) (by 125 1)
-    ∷ leads 0 120 (waits anObligation 48 120 (0 ∷ 1 ∷ []) (nums (6 ∷ 9 ∷ 8 ∷ 5 ∷ []))) (by 133 0)
-    ∷ leads 0 134 (by 133 0) (by 133 0) ∷ [])
+    leads 0 100 100 (owed 135 100) (by 160 0)
+    ∷ leads 0 110 110 (waits anObligation 27 110 (0 ∷ 1 ∷ []) (nums (6 ∷ 9 ∷ []))) (by 125 1)
+    ∷ leads 0 115 110 (waits anObligation 27 110 (0 ∷ 1 ∷ []) (nums (6 ∷ 9 ∷ []))) (by 125 1)
+    ∷ leads 0 120 120 (waits anObligation 48 120 (0 ∷ 1 ∷ []) (nums (6 ∷ 9 ∷ 8 ∷ 5 ∷ []))) (by 133 0)
+    ∷ leads 0 134 134 (by 133 0) (by 133 0) ∷ [])
     ∷ obeys "the second template's clause waits"
     (agreement (template 0 nothing ∷ template 1 (simply 0 (pos 60)) ∷ []) (call 1)) (mark 161 ∷ [])
-    (leads 0 100 (owed 37 100) (by 160 0) ∷ leads 0 161 (by 160 0) (by 160 0) ∷ [])
+    (leads 0 100 100 (owed 37 100) (by 160 0) ∷ leads 0 161 161 (by 160 0) (by 160 0) ∷ [])
     ∷ obeys "an else sees the values and the parameters"
     (agreement (templateWith (1 ∷ 1 ∷ []) 2 0
     (mayTyped 1 yes′ (lit (pos 0)) (var 0) nothing (owesTyped 129 1 yes′ (lit (pos 0)) (var 1) nothing)) ∷ [])
     (inst 0 (lit (pos 30) ∷ lit (pos 20) ∷ []) (0 ∷ 1 ∷ []))) (mark 131 ∷ []) (
-    leads 0 100 (waits aChoice 27 100 (0 ∷ 1 ∷ []) (nums (30 ∷ 20 ∷ []))) (by 150 1)
-    ∷ leads 0 131 (waits anObligation 54 130 (0 ∷ 1 ∷ []) (nums (30 ∷ 20 ∷ []))) (by 150 1) ∷ [])
+    leads 0 100 100 (waits aChoice 27 100 (0 ∷ 1 ∷ []) (nums (30 ∷ 20 ∷ []))) (by 150 1)
+    ∷ leads 0 131 131 (waits anObligation 54 130 (0 ∷ 1 ∷ []) (nums (30 ∷ 20 ∷ []))) (by 150 1) ∷ [])
     ∷ obeys "a window that ended below 0" (main (simply 0 (negsuc 199))) (mark 100 ∷ [])
-    (leads 0 100 (owed 17 100) (by 100 0) ∷ leads 0 100 (by 100 0) (by 100 0) ∷ [])
+    (leads 0 100 100 (owed 17 100) (by 100 0) ∷ leads 0 100 100 (by 100 0) (by 100 0) ∷ [])
     ∷ obeys "a choice's window that ended below 0" (main (may yes′ (pos 0) (negsuc 199) nothing (simply 1 (pos 20))))
-    (mark 100 ∷ []) (leads 0 100 (chosen 17 100) (by 120 1) ∷ leads 0 100 (owed 47 100) (by 120 1) ∷ [])
+    (mark 100 ∷ []) (leads 0 100 100 (chosen 17 100) (by 120 1) ∷ leads 0 100 100 (owed 47 100) (by 120 1) ∷ [])
     ∷ obeys "a window beyond a number's end" (main (owes 0 yes′ most most nothing)) []
-    (leads 0 100 (owed 17 100) (by 2_000_000_100 0) ∷ [])
+    (leads 0 100 100 (owed 17 100) (by 2_000_000_100 0) ∷ [])
     ∷ obeys "a start of four bytes" (recordOf 1 (le4 16_909_060 ++ (2 ∷ 1 ∷ 0 ∷ (aNumber ++ simply 0 (pos 60)))))
     (reading 16_909_061 (pos 1) ∷ []) (
-    leads 0 16_909_060 (owed 17 16_909_060) (by 16_909_120 0) ∷ leads 0 16_909_061 done done ∷ [])
+    leads 0 16_909_060 16_909_060 (owed 17 16_909_060) (by 16_909_120 0) ∷ leads 0 16_909_061 16_909_061 done done ∷ [])
     ∷ []
 
 -- ---- joining
@@ -333,9 +337,9 @@ joins =
     (becoming (breach 5 (0 ∷ 1 ∷ []) ∷ stuck ∷ stuck ∷ by 5 1 ∷ []))
     ∷ obeys "a tie of an `or`, seen with its party" (main (any′ (simply 1 (pos 60)) (simply 1 (pos 60))))
     (mark 161 ∷ []) (
-    leads 0 100 (running (both or (unit anObligation 21 100 (record { params = []; values = [] }))
+    leads 0 100 100 (running (both or (unit anObligation 21 100 (record { params = []; values = [] }))
     (unit anObligation 52 100 (record { params = []; values = [] })))) (by 160 1)
-    ∷ leads 0 161 (by 160 1) (by 160 1) ∷ [])
+    ∷ leads 0 161 161 (by 160 1) (by 160 1) ∷ [])
     ∷ []
 
 -- ---- readings: 8, 9 and 10
@@ -344,7 +348,7 @@ unfoldable pub values : ℕ → ℤ → ℤ → ℤ → List ℕ
 values t a b c = readingWith t 1 (a ∷ b ∷ c ∷ [])
 
 unfoldable pub refused′ : ℕ → ℕ → Seen
-refused′ n now = leads n now done done
+refused′ n now = leads n now 100 done done
 
 unfoldable pub readings : List Trial
 readings =
@@ -370,9 +374,10 @@ readings =
     ∷ refused′ 0 4_294_967_295 ∷ [])
     ∷ obeys "8, 9 and 10 also after a breach, and nothing else" (main (simply 0 (pos 60)))
     (mark 170 ∷ [] ∷ mark 161 ∷ reading 171 (pos 1_000_000_001) ∷ mark 180 ∷ mark 170 ∷ []) (
-    leads 0 100 (owed 17 100) (by 160 0)
-    ∷ leads 0 170 (by 160 0) (by 160 0) ∷ leads 8 170 (by 160 0) (by 160 0) ∷ leads 10 170 (by 160 0) (by 160 0)
-    ∷ leads 9 170 (by 160 0) (by 160 0) ∷ leads 0 170 (by 160 0) (by 160 0) ∷ leads 0 170 (by 160 0) (by 160 0) ∷ [])
+    leads 0 100 100 (owed 17 100) (by 160 0)
+    ∷ leads 0 170 170 (by 160 0) (by 160 0) ∷ leads 8 170 170 (by 160 0) (by 160 0)
+    ∷ leads 10 170 170 (by 160 0) (by 160 0) ∷ leads 9 170 170 (by 160 0) (by 160 0)
+    ∷ leads 0 170 170 (by 160 0) (by 160 0) ∷ leads 0 170 170 (by 160 0) (by 160 0) ∷ [])
     ∷ []
 
 -- ---- 1 and 2: records
@@ -696,9 +701,10 @@ offered z b = unitOf 18 99 110 [] (z ∷ pos b ∷ pos 2 ∷ pos 50 ∷ [])
 unfoldable pub units′ : ℕ → ℕ → ℤ → ℕ → ℕ → ℕ → List (List ℤ)
 units′ j k z b p a = joinUnit j ∷ offered z b ∷ joinUnit k ∷ lent p 1 ∷ unitOf 17 179 a [] [] ∷ []
 
--- a head and units: what lies behind them to 3,080 cells is left out, but for one unit
+-- a head and units that last moved at the start: what lies behind them to 3,080 cells is left out, but for one unit
 unfoldable pub short : ℕ → List (List ℤ) → List ℤ
-short now us = filled 8 (pos 1 ∷ pos now ∷ pos 0 ∷ pos 0 ∷ pos (length us) ∷ []) ++ (flat us ++ replicate 24 (pos 0))
+short now us =
+    filled 8 (pos 1 ∷ pos now ∷ pos 0 ∷ pos 0 ∷ pos (length us) ∷ pos 100 ∷ []) ++ (flat us ++ replicate 24 (pos 0))
 
 unfoldable pub good : List ℤ
 good = short 110 (units′ 20 21 (pos 7) 1 1 100)
@@ -707,10 +713,10 @@ unfoldable pub ended : List ℤ → List ℤ
 ended zs = filled 40 zs
 
 unfoldable pub broke : ℕ → ℕ → List ℤ
-broke time bits = ended (pos 3 ∷ pos 170 ∷ pos time ∷ pos bits ∷ [])
+broke time bits = ended (pos 3 ∷ pos 170 ∷ pos time ∷ pos bits ∷ pos 0 ∷ pos 100 ∷ [])
 
 unfoldable pub full : ℕ → List ℤ
-full now = ended (pos 2 ∷ pos now ∷ [])
+full now = ended (pos 2 ∷ pos now ∷ pos 0 ∷ pos 0 ∷ pos 0 ∷ pos 100 ∷ [])
 
 -- the table with another number in a cell; cell k of unit u
 unfoldable pub set : ℕ → ℤ → List ℤ → List ℤ
@@ -728,8 +734,15 @@ readBy (accepted ag ps) ts = map (λ t. reads (runOf ag ps t)) ts
 unfoldable pub rejects : String → List (List ℤ) → Trial
 rejects n ts = record { name = n; shown = readBy (checked mixed) ts; expected = map (λ t. reads none) ts }
 
+-- a run that last moved at the start, or later
+unfoldable pub ends : ℕ → Outcome → Seen
+ends now o = reads (some (record { lastTime = now; lastMoved = 100; outcome = o }))
+
 unfoldable pub running′ : ℕ → Residue → Seen
-running′ now r = reads (some (record { lastTime = now; outcome = running r }))
+running′ now r = ends now (running r)
+
+unfoldable pub moves : ℕ → ℕ → Outcome → Seen
+moves now moved o = reads (some (record { lastTime = now; lastMoved = moved; outcome = o }))
 
 -- the residue of those units
 unfoldable pub lent′ : ℕ → ℕ → Residue
@@ -747,10 +760,8 @@ sound =
     ∷ short 110 (units′ 20 21 least 1 1 100)
     ∷ short 110 (joinUnit 20 ∷ joinUnit 21 ∷ lent 1 0 ∷ lent 1 1 ∷ lent 0 2 ∷ [])
     ∷ full 100 ∷ full 4_294_967_295
-    ∷ broke 160 3 ∷ broke 100 2 ∷ broke 170 1 ∷ []
-
-unfoldable pub ends : ℕ → Outcome → Seen
-ends now o = reads (some (record { lastTime = now; outcome = o }))
+    ∷ broke 160 3 ∷ broke 100 2 ∷ broke 170 1
+    ∷ set 5 (pos 110) good ∷ set 5 (pos 120) (full 120) ∷ set 5 (pos 170) (broke 160 1) ∷ []
 
 -- waiting clauses in each place of a `then`, which sees a value and the remaining time, and in a template
 unfoldable pub sights : List ℕ
@@ -783,7 +794,8 @@ tables =
     ∷ running′ 110 (residue and or least true 1 100)
     ∷ running′ 110 (both and (both or (lent′ 1 0) (lent′ 1 1)) (lent′ 0 2))
     ∷ ends 100 done ∷ ends 4_294_967_295 done
-    ∷ ends 170 (breach 160 (0 ∷ 1 ∷ [])) ∷ ends 170 (by 100 1) ∷ ends 170 (by 170 0) ∷ [])
+    ∷ ends 170 (breach 160 (0 ∷ 1 ∷ [])) ∷ ends 170 (by 100 1) ∷ ends 170 (by 170 0)
+    ∷ moves 110 110 (running (residue and or (pos 7) true 1 100)) ∷ moves 120 120 done ∷ moves 170 170 (by 160 0) ∷ [])
     ∷ shows "in each place what is in sight there; the last with a party not of the main clause"
     (readBy (checked sights) inPlace) (
     alone′ anObligation 154 [] (7 ∷ 50 ∷ [])
@@ -799,10 +811,14 @@ tables =
     ∷ rejects "7: a last reading time outside its range"
     (full 99 ∷ set 1 (negsuc 0) (full 100) ∷ full 4_294_967_296 ∷ set 1 (pos 4_294_967_296) good ∷ [])
     ∷ rejects "7: a breach time, parties or a zero while running"
-    (set 2 (pos 105) good ∷ set 3 (pos 1) good ∷ set 5 (pos 1) good ∷ set 6 (negsuc 0) good ∷ set 7 (pos 1) good ∷ [])
+    (set 2 (pos 105) good ∷ set 3 (pos 1) good ∷ set 6 (negsuc 0) good ∷ set 7 (pos 1) good ∷ [])
+    ∷ rejects "7: moved before the start, after the last reading or at no time, in each state"
+    (set 5 (pos 99) good ∷ set 5 (pos 111) good ∷ set 5 (negsuc 99) good
+    ∷ set 5 (pos 99) (full 120) ∷ set 5 (pos 121) (full 120) ∷ set 5 (negsuc 99) (full 120)
+    ∷ set 5 (pos 99) (broke 160 1) ∷ set 5 (pos 171) (broke 160 1) ∷ set 5 (negsuc 99) (broke 160 1) ∷ [])
     ∷ rejects "7: units in use"
     (set 4 (pos 0) good ∷ set 4 (pos 4) good ∷ set 4 (pos 6) good ∷ short 110 [] ∷
-    (filled 8 (pos 1 ∷ pos 110 ∷ pos 0 ∷ pos 0 ∷ pos 129 ∷ []) ++
+    (filled 8 (pos 1 ∷ pos 110 ∷ pos 0 ∷ pos 0 ∷ pos 129 ∷ pos 100 ∷ []) ++
     (flat (replicate 64 (joinUnit 20)) ++ flat (replicate 65 (lent 1 1)))) ∷ [])
     ∷ rejects "7: joins without sides, two residues"
     (short 110 (joinUnit 20 ∷ []) ∷ short 110 (joinUnit 21 ∷ lent 1 1 ∷ []) ∷ short 110 (lent 1 1 ∷ joinUnit 20 ∷ [])
@@ -847,7 +863,7 @@ unfoldable pub entries : List Trial
 entries =
     follows "values, truths, parties and parameters in cells" mixed
     (readingWith 110 1 (pos 7 ∷ pos 1 ∷ pos 2 ∷ []) ∷ [])
-    (live 100 begun 160 3 ∷ live 110 (units′ 20 21 (pos 7) 1 1 100) 160 2 ∷ [])
+    (live 100 100 begun 160 3 ∷ live 110 110 (units′ 20 21 (pos 7) 1 1 100) 160 2 ∷ [])
     ∷ shows "6: a cell too few and one too many"
     (answers (startOf sample (take 3079 zeros)) ∷ answers (readingOf sample (take 3079 zeros) []) ∷ forecasts
     (forecastOf sample (take 3079 zeros)) ∷ answers (startOf sample (pos 1 ∷ zeros)) ∷ [])
@@ -856,10 +872,54 @@ entries =
     ∷ shows "a start whatever the table was, 7 before 8"
     (answers (startOf sample (set 0 (pos 9) zeros)) ∷ answers (readingOf sample zeros []) ∷ forecasts
     (forecastOf sample zeros) ∷ [])
-    (gives 0 (runningTable 100 (unitOf 17 17 100 [] [] ∷ [])) ∷ gives 7 zeros ∷ forecasts (refusedForecast 7) ∷ [])
+    (gives 0 (runningTable 100 100 (unitOf 17 17 100 [] [] ∷ [])) ∷ gives 7 zeros ∷ forecasts (refusedForecast 7) ∷ [])
     ∷ shows "11 at the start, 8 on a fulfilled table"
-    (answers (startOf crowd zeros) ∷ answers (readingOf sample (fulfilledTable 100) []) ∷ [])
-    (gives 11 zeros ∷ gives 8 (fulfilledTable 100) ∷ [])
+    (answers (startOf crowd zeros) ∷ answers (readingOf sample (fulfilledTable 120 100) []) ∷ [])
+    (gives 11 zeros ∷ gives 8 (fulfilledTable 120 100) ∷ [])
+    ∷ []
+
+-- ---- when a run last moved: paper 02, No. 1
+-- an obligation within 60 whose `then` is itself anew, at place 25
+unfoldable pub ever : List ℕ
+ever = agreement (template 1 (next (call 0)) ∷ []) (call 0)
+
+unfoldable pub since : ℕ → List (List ℤ)
+since a = unitOf 17 25 a [] [] ∷ []
+
+-- a head and two cells, as if they were units
+unfoldable pub ten : List ℤ
+ten = map pos (1 ∷ 12 ∷ 13 ∷ 14 ∷ 15 ∷ 16 ∷ 17 ∷ 18 ∷ 19 ∷ []) ++ (negsuc 20 ∷ [])
+
+unfoldable pub unlike : List (List ℤ)
+unlike =
+    set 0 (pos 2) ten ∷ set 0 (negsuc 1) ten ∷ set 8 (pos 20) ten ∷ set 8 (negsuc 19) ten ∷ set 9 (negsuc 21) ten
+    ∷ set 9 (pos 20) ten ∷ take 9 ten ∷ (ten ++ (pos 0 ∷ [])) ∷ []
+
+unfoldable pub alike : List (List ℤ)
+alike =
+    ten ∷ set 1 (pos 0) ten ∷ set 2 (pos 0) ten ∷ set 3 (pos 0) ten ∷ set 4 (pos 0) ten ∷ set 5 (pos 0) ten
+    ∷ set 6 (pos 0) ten ∷ set 7 (pos 0) ten ∷ []
+
+unfoldable pub moved : List Trial
+moved =
+    follows "a mark moves the last reading time alone; a unit with another A, a breach" ever
+    (mark 105 ∷ reading 110 (pos 1) ∷ mark 120 ∷ reading 120 (pos 1) ∷ mark 181 ∷ mark 190 ∷ [])
+    (live 100 100 (since 100) 160 1 ∷ live 105 100 (since 100) 160 1 ∷ live 110 110 (since 110) 170 1
+    ∷ live 120 110 (since 110) 170 1 ∷ live 120 120 (since 120) 180 1 ∷ breaches 181 181 180 1
+    ∷ breaches 181 181 180 1 ∷ [])
+    ∷ follows "fulfilled, and a mark and a reading after it" sample
+    (mark 105 ∷ reading 110 (pos 250) ∷ mark 120 ∷ reading 130 (pos 250) ∷ [])
+    (live 100 100 (unitOf 17 17 100 [] [] ∷ []) 160 1 ∷ live 105 100 (unitOf 17 17 100 [] [] ∷ []) 160 1
+    ∷ fulfils 110 110 ∷ fulfils 120 110 ∷ fulfils 130 110 ∷ [])
+    ∷ shows "a unit replaced by its equal, and by one a minute later"
+    (answers (readingOf ever (runningTable 120 105 (since 120)) (reading 120 (pos 1))) ∷ answers
+    (readingOf ever (runningTable 120 105 (since 120)) (reading 121 (pos 1))) ∷ [])
+    (gives 0 (runningTable 120 105 (since 120)) ∷ gives 0 (runningTable 121 121 (since 121)) ∷ [])
+    ∷ shows "what has altered: the state cell, a unit cell"
+    (map (λ t. holds (altered ten t)) unlike ++ map (λ t. holds (altered t ten)) unlike)
+    (replicate 16 (holds true))
+    ∷ shows "what has not: any other cell of the head" (map (λ t. holds (altered ten t)) alike)
+    (replicate 8 (holds false))
     ∷ []
 
 -- ---- where no accepted agreement leads: what is not typed is stuck, and refused
@@ -875,7 +935,7 @@ unfoldable pub op′ : Op → Expr → Expr → Seen
 op′ o a b = evaluates (eval [] (binary o a b))
 
 unfoldable pub still : Outcome → Run
-still o = record { lastTime = 5; outcome = o }
+still o = record { lastTime = 5; lastMoved = 5; outcome = o }
 
 unfoldable pub absent : {A : Type 0} → Option A → Bool
 absent none = true
@@ -900,7 +960,7 @@ unreached =
     (shown (running left)) ∷ becomes (forecastRun (laddered [] fulfilled) (still stuck)) ∷ steps
     (step (laddered [] fulfilled) (still stuck) (mark 9)) done ∷ steps (started (laddered [] badClause)) done ∷ [])
     (gives 0 [] ∷ forecasts noForecast ∷ forecasts noForecast ∷ becomes stuck ∷ steps
-    (record { number = 0; run = still stuck }) done ∷ leads 0 100 stuck done ∷ [])
+    (record { number = 0; run = still stuck }) done ∷ leads 0 100 100 stuck done ∷ [])
     ∷ shows "fewer values than types" (holds (absent (valuesOf 2 (number ∷ []) [])) ∷ []) (holds true ∷ [])
     ∷ shows "a unit without cells" (holds (absent (addUnit (laddered [] fulfilled) [] [])) ∷ []) (holds true ∷ [])
     ∷ shows "a byte that is not there" (says (byte [] 0) 0 ∷ []) (says 0 0 ∷ [])
@@ -915,7 +975,7 @@ unreached =
 
 unfoldable pub further : List Trial
 further = runs ++ (joins ++ (readings ++
-    (records ++ (types ++ (guards ++ (widths ++ (tables ++ (entries ++ unreached))))))))
+    (records ++ (types ++ (guards ++ (widths ++ (tables ++ (entries ++ (moved ++ unreached)))))))))
 
 pub further-pass : map (λ t. t .shown) further ≡ map (λ t. t .expected) further
 unfolding harness says accepts refuses mains five refusesAll stepsOf runSeen obeys leads waits owed chosen by shows
@@ -923,6 +983,7 @@ unfolding harness says accepts refuses mains five refusesAll stepsOf runSeen obe
     lending every is isNot calculated most least sums fractions wholes equations taken chain nums runs pairs
     becoming left right joins values refused′ readings records named inSight parameters partySets types guards
     ladder wide calls both′ body ladder′ wide′ waiting next′ either′ if′ widest tooWide laddered narrow over widths
-    mixed lent offered units′ short good ended broke full set alter readBy rejects running′ lent′ residue sound ends
-    sights alone alone′ inPlace tables begun two crowd entries bare asked op′ still absent unreached further
+    mixed lent offered units′ short good ended broke full set alter readBy rejects ends running′ moves lent′ residue
+    sound sights alone alone′ inPlace tables begun two crowd entries ever since ten unlike alike moved bare asked op′
+    still absent unreached further
 further-pass = refl

@@ -12,8 +12,8 @@ pub mod Values
 pub mod Outcomes
 pub mod Places
 pub mod Rules
-pub mod Run
 pub mod Table
+pub mod Run
 pub mod Entries
 pub mod Demand3
 pub mod Marks

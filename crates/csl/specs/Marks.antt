@@ -32,9 +32,9 @@ AllTimes P (m ∷ ms) = P (timeIn m) × AllTimes P ms
 unfoldable pub Breached : List ℤ → Type 0
 Breached cells = at cells 0 ≡ some (pos 3)
 
--- the table of a breach: last reading time, breach time, parties by bit
-unfoldable pub breachTable : ℕ → ℕ → ℕ → List ℤ
-breachTable now t b = padded tableLength (headCells 3 now t b 0)
+-- the table of a breach: last reading time, when the run last moved, breach time, parties by bit
+unfoldable pub breachTable : ℕ → ℕ → ℕ → ℕ → List ℤ
+breachTable now moved t b = padded tableLength (headCells 3 now t b 0 moved)
 
 -- no refusal: none, or a breach by at least one party, only by the main clause's, not before the start
 unfoldable pub ForecastFits : Agreement → List ℕ → Forecast → Type 0

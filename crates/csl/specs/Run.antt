@@ -1,19 +1,21 @@
 -- Paper 01, "The run by the rules", and refusals 8 to 11: fed the agreement and the readings' bytes,
--- nothing from a table.
-use mathlib.Core.Bool.{Bool, true, false, _&&_}
+-- nothing from a table. Paper 02, No. 1: when it last moved, "judged by its own tables before and after".
+use mathlib.Core.Bool.{Bool, true, false, not, _&&_}
 use mathlib.Core.List.{List, [], _∷_}
 use mathlib.Core.Option.{Option, none, some}
 use Prim.Native.Nat.{ℕ, zero, suc, _+_, _-_, _/_, _%_}
 use lib.Dec.{leb, ltb, eqb}
 use lib.IntN.{ℤ}
-use lib.ListN.{length}
+use lib.ListN.{length, take, drop}
 use Rattle.csl.specs.Lists.{_>>=_, need, at}
+use Rattle.csl.specs.Numbers.{eqZ}
 use Rattle.csl.specs.Bytes.{byte, le32, signed32, isRecord, kindNumber}
 use Rattle.csl.specs.Syntax.{Ty, Agreement}
 use Rattle.csl.specs.Decode.{between}
 use Rattle.csl.specs.Values.{valuesOf}
 use Rattle.csl.specs.Outcomes.{units, Outcome, done, breach, running, stuck}
 use Rattle.csl.specs.Rules.{Reading, activate, follow}
+use Rattle.csl.specs.Table.{Run, tableOf}
 
 -- ---- a reading's bytes
 pub record Raw : Type 0 where
@@ -61,11 +63,32 @@ fitOf a now bytes = elim (rawReading bytes) [
   ]
 ]
 
--- ---- the run
-pub record Run : Type 0 where
-  pub lastTime : ℕ
-  pub outcome : Outcome
+-- ---- when a run last moved
+unfoldable pub sameNumbers : List ℤ → List ℤ → Bool
+sameNumbers [] [] = true
+sameNumbers [] (y ∷ ys) = false
+sameNumbers (x ∷ xs) [] = false
+sameNumbers (x ∷ xs) (y ∷ ys) = eqZ x y && sameNumbers xs ys
 
+-- "Altered means that a unit cell or the state cell holds another number afterwards.": the tables before and after,
+-- whose state cell is the first and whose unit cells stand behind a head of 8
+unfoldable pub altered : List ℤ → List ℤ → Bool
+altered before after = not (sameNumbers (take 1 before) (take 1 after) && sameNumbers (drop 8 before) (drop 8 after))
+
+-- "the time of the last reading that altered a unit or the state": this one's, or as it was
+unfoldable pub movedBy : Run → Run → ℕ
+movedBy before after = elim (altered (tableOf before) (tableOf after)) [
+  | true ↦ after .lastTime
+  | false ↦ before .lastMoved
+]
+
+-- the run that a reading at `time` leads to, with this outcome; no cell that is judged tells when it last moved
+unfoldable pub readAt : Run → ℕ → Outcome → Run
+readAt r time o =
+    let after : Run = record { lastTime = time; lastMoved = r .lastMoved; outcome = o } in
+    record { lastTime = time; lastMoved = movedBy r after; outcome = o }
+
+-- ---- the run
 -- "Over 128 units is 11"
 unfoldable pub tooMany : Outcome → Bool
 tooMany done = false
@@ -85,19 +108,20 @@ kept before next = elim (tooMany (next .outcome)) [
   | false ↦ record { number = 0; run = next }
 ]
 
--- "the main clause is activated at the start time, which is the last reading time at first"
+-- "the main clause is activated at the start time, which is the last reading time at first"; paper 02, No. 1: "It
+-- begins as the start time"
 unfoldable pub started : Agreement → Stepped
 started a =
     let o = activate (a .templates) (a .main) (record { params = []; values = [] }) (a .start) in
-    let r : Run = record { lastTime = a .start; outcome = o } in
+    let r : Run = record { lastTime = a .start; lastMoved = a .start; outcome = o } in
     kept r r
 
 -- "Else, once breached, it is 0 and nothing changes. Else it is followed"
 unfoldable pub followed : Agreement → Run → Reading → Stepped
 followed a r d = elim (r .outcome) [
-  | done ↦ record { number = 0; run = record { lastTime = d .time; outcome = done } }
+  | done ↦ record { number = 0; run = readAt r (d .time) done }
   | breach t ps ↦ record { number = 0; run = r }
-  | running res ↦ kept r (record { lastTime = d .time; outcome = follow a d res })
+  | running res ↦ kept r (readAt r (d .time) (follow a d res))
   | stuck ↦ record { number = 0; run = r }
 ]
 
@@ -110,5 +134,6 @@ step a r bytes = elim (fitOf a (r .lastTime) bytes) [
 
 -- what a proof by computation unfolds
 unfoldable pub computes : Unit {0}
-unfolding numbersFrom rawReading valuesWanted typedReading fitOf tooMany kept started followed step
+unfolding numbersFrom rawReading valuesWanted typedReading fitOf sameNumbers altered movedBy readAt tooMany
+    kept started followed step
 computes = tt

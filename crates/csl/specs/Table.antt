@@ -16,7 +16,13 @@ use Rattle.csl.specs.Outcomes.{Sight, Sort, anObligation, aChoice, Resid
 use Rattle.csl.specs.Outcomes.{breach, running, stuck}
 use Rattle.csl.specs.Rules.{blamed}
 use Rattle.csl.specs.Places.{clauseAt}
-use Rattle.csl.specs.Run.{Run}
+
+-- ---- what a run has come to: its last reading time, when it last moved ("the time of the last reading that altered a
+-- unit or the state", paper 02, No. 1), and its outcome
+pub record Run : Type 0 where
+  pub lastTime : ℕ
+  pub lastMoved : ℕ
+  pub outcome : Outcome
 
 -- ---- a run's table
 unfoldable pub cellOf : Val → ℤ
@@ -60,18 +66,20 @@ residueCells (unit s p a e) = unitCells s p a e
 residueCells (both j l r) = joinCells j ++ (residueCells l ++ residueCells r)
 
 -- "Head: 0 state (1 running, 2 fulfilled, 3 breached), 1 last reading time, 2 breach time, 3 blamed parties by bit,
--- 4 units in use, 5 to 7 zero."
-unfoldable pub headCells : ℕ → ℕ → ℕ → ℕ → ℕ → List ℤ
-headCells state time breachTime parties used = natCells (state ∷ time ∷ breachTime ∷ parties ∷ used ∷ 0 ∷ 0 ∷ 0 ∷ [])
+-- 4 units in use, 5 to 7 zero."; paper 02, No. 1: "Head cell 5 now holds it", when the run last moved
+unfoldable pub headCells : ℕ → ℕ → ℕ → ℕ → ℕ → ℕ → List ℤ
+headCells state time breachTime parties used moved =
+    natCells (state ∷ time ∷ breachTime ∷ parties ∷ used ∷ moved ∷ 0 ∷ 0 ∷ [])
 
 abbrev pub tableLength : ℕ
 tableLength = 3080
 
 unfoldable pub tableOf : Run → List ℤ
 tableOf r = elim (r .outcome) [
-  | done ↦ padded tableLength (headCells 2 (r .lastTime) 0 0 0)
-  | breach t ps ↦ padded tableLength (headCells 3 (r .lastTime) t (bitsOf ps) 0)
-  | running res ↦ padded tableLength (headCells 1 (r .lastTime) 0 0 (units res) ++ residueCells res)
+  | done ↦ padded tableLength (headCells 2 (r .lastTime) 0 0 0 (r .lastMoved))
+  | breach t ps ↦ padded tableLength (headCells 3 (r .lastTime) t (bitsOf ps) 0 (r .lastMoved))
+  | running res ↦ padded tableLength
+      (headCells 1 (r .lastTime) 0 0 (units res) (r .lastMoved) ++ residueCells res)
   | stuck ↦ []
 ]
 
@@ -176,10 +184,11 @@ pub record HeadNumbers : Type 0 where
   pub time : ℕ
   pub parties : ℕ
   pub used : ℕ
+  pub moved : ℕ
 
 unfoldable pub headNumbers : List ℤ → Option HeadNumbers
 headNumbers cells = do
-  h ← split 5 cells
+  h ← split 6 cells
   _ ← need (all isZero (h .1))
   ns ← asNats (h .0)
   a ← at ns 0
@@ -187,7 +196,8 @@ headNumbers cells = do
   c ← at ns 2
   d ← at ns 3
   e ← at ns 4
-  some (record { state = a; now = b; time = c; parties = d; used = e })
+  f ← at ns 5
+  some (record { state = a; now = b; time = c; parties = d; used = e; moved = f })
 
 -- "Cells 2 and 3 are zero unless breached, cell 4 unless running."; a breach without party, with one not of the main
 -- clause, or with a time outside start to last reading is 7
@@ -213,14 +223,15 @@ readState ag mains h cells (suc (suc (suc zero))) = do
   some (breach (h .time) (members (h .parties)))
 readState ag mains h cells (suc (suc (suc (suc n)))) = none
 
--- "The last reading time runs from the start to 4,294,967,295."; refusal 7 where this is none
+-- "The last reading time runs from the start to 4,294,967,295."; paper 02, No. 1: when the run last moved "lies from
+-- the start to the last reading time; a table where it doesn't is damaged under 7"; refusal 7 where this is none
 unfoldable pub runOf : Agreement → List ℕ → List ℤ → Option Run
 runOf ag mains cells = do
   s ← split 8 cells
   h ← headNumbers (s .0)
-  _ ← need (leb (ag .start) (h .now) && ltb (h .now) (2 ^ 32))
+  _ ← need (leb (ag .start) (h .moved) && leb (h .moved) (h .now) && ltb (h .now) (2 ^ 32))
   o ← readState ag mains h (s .1) (h .state)
-  some (record { lastTime = h .now; outcome = o })
+  some (record { lastTime = h .now; lastMoved = h .moved; outcome = o })
 
 -- what a proof by computation unfolds
 unfoldable pub computes : Unit {0}

@@ -29,8 +29,8 @@ use Rattle.csl.specs.Syntax.{Agreement}
 use Rattle.csl.specs.Check.{CheckAnswer, CheckResult, refused, accepted, checked}
 use Rattle.csl.specs.Values.{Val}
 use Rattle.csl.specs.Outcomes.{Outcome}
-use Rattle.csl.specs.Run.{Run, Stepped, started, step}
-use Rattle.csl.specs.Table.{tableOf}
+use Rattle.csl.specs.Run.{Stepped, started, step}
+use Rattle.csl.specs.Table.{Run, tableOf}
 use Rattle.csl.specs.Entries.{Answer, Forecast, noBreach, breachAt, startOf, readingOf, forecastOf}
 use Rattle.csl.specs.Build.{lit, yes′, op, nothing, owes, simply, may, all′, any′, inst, templateWith, agreement}
 use Rattle.csl.specs.Build.{reading, mark, sample, zeros, unitOf, joinUnit, runningTable, fulfilledTable}
@@ -118,15 +118,15 @@ grows n bytes rs ms = record {
   expected = ofRules ms ++ ofRules ms;
 }
 
--- running: the last reading time, the units, and the forecast breach
-unfoldable pub live : ℕ → List (List ℤ) → ℕ → ℕ → Moment
-live now us t b = record { number = 0; table = runningTable now us; forecast = breachAt t b }
+-- running: the last reading time, when it last moved, the units, and the forecast breach
+unfoldable pub live : ℕ → ℕ → List (List ℤ) → ℕ → ℕ → Moment
+live now moved us t b = record { number = 0; table = runningTable now moved us; forecast = breachAt t b }
 
-unfoldable pub fulfils : ℕ → Moment
-fulfils now = record { number = 0; table = fulfilledTable now; forecast = noBreach }
+unfoldable pub fulfils : ℕ → ℕ → Moment
+fulfils now moved = record { number = 0; table = fulfilledTable now moved; forecast = noBreach }
 
-unfoldable pub breaches : ℕ → ℕ → ℕ → Moment
-breaches now t b = record { number = 0; table = breachedTable now t b; forecast = breachAt t b }
+unfoldable pub breaches : ℕ → ℕ → ℕ → ℕ → Moment
+breaches now moved t b = record { number = 0; table = breachedTable now moved t b; forecast = breachAt t b }
 
 -- the moment before, with a number
 unfoldable pub refusing : ℕ → Moment → Moment
@@ -142,20 +142,20 @@ chosen p a = unitOf 18 p a [] []
 -- ---- P1 to P15
 -- one obligation of party 0 at place 17 that waits, with the forecast of the sample
 unfoldable pub unmet : ℕ → Moment
-unmet now = live now (owed 17 100 ∷ []) 160 1
+unmet now = live now 100 (owed 17 100 ∷ []) 160 1
 
 unfoldable pub p1to4 : Trial
 p1to4 = follows "P1 to P4 and the transcript's refused reading" sample
     (reading 110 (pos 240) ∷ reading 105 (pos 250) ∷ mark 160 ∷ reading 160 (pos 250) ∷ [])
-    (unmet 100 ∷ unmet 110 ∷ refusing 10 (unmet 110) ∷ unmet 160 ∷ fulfils 160 ∷ [])
+    (unmet 100 ∷ unmet 110 ∷ refusing 10 (unmet 110) ∷ unmet 160 ∷ fulfils 160 160 ∷ [])
 
 unfoldable pub p5and6 : Trial
 p5and6 = follows "P5 and P6" sample (mark 161 ∷ reading 161 (pos 250) ∷ [])
-    (unmet 100 ∷ breaches 161 160 1 ∷ breaches 161 160 1 ∷ [])
+    (unmet 100 ∷ breaches 161 161 160 1 ∷ breaches 161 161 160 1 ∷ [])
 
 unfoldable pub p7 : Trial
 p7 = follows "P7" (agreement [] (simply 0 (negsuc 4))) (mark 100 ∷ [])
-    (live 100 (owed 17 100 ∷ []) 100 1 ∷ breaches 100 100 1 ∷ [])
+    (live 100 100 (owed 17 100 ∷ []) 100 1 ∷ breaches 100 100 100 1 ∷ [])
 
 -- two obligations joined, from place 17 on
 unfoldable pub pair : ℕ → List (List ℤ)
@@ -163,29 +163,30 @@ pair s = joinUnit s ∷ owed 21 100 ∷ owed 52 100 ∷ []
 
 unfoldable pub p8 : Trial
 p8 = follows "P8" (agreement [] (all′ (simply 0 (pos 60)) (simply 1 (pos 60)))) (mark 161 ∷ [])
-    (live 100 (pair 20) 160 3 ∷ breaches 161 160 3 ∷ [])
+    (live 100 100 (pair 20) 160 3 ∷ breaches 161 161 160 3 ∷ [])
 
 unfoldable pub p9 : Trial
 p9 = follows "P9" (agreement [] (all′ (simply 0 (pos 60)) (simply 1 (pos 50)))) (mark 161 ∷ [])
-    (live 100 (pair 20) 150 2 ∷ breaches 161 150 2 ∷ [])
+    (live 100 100 (pair 20) 150 2 ∷ breaches 161 161 150 2 ∷ [])
 
 unfoldable pub p10 : Trial
 p10 = follows "P10" (agreement [] (all′ (simply 0 (pos 60)) (simply 1 (pos 50)))) (reading 120 (pos 1) ∷ [])
-    (live 100 (pair 20) 150 2 ∷ fulfils 120 ∷ [])
+    (live 100 100 (pair 20) 150 2 ∷ fulfils 120 120 ∷ [])
 
 unfoldable pub p11 : Trial
 p11 = follows "P11" (agreement [] (any′ (simply 0 (pos 50)) (simply 0 (pos 60)))) (mark 155 ∷ mark 161 ∷ [])
-    (live 100 (pair 21) 160 1 ∷ live 155 (owed 52 100 ∷ []) 160 1 ∷ breaches 161 160 1 ∷ [])
+    (live 100 100 (pair 21) 160 1 ∷ live 155 155 (owed 52 100 ∷ []) 160 1 ∷ breaches 161 161 160 1 ∷ [])
 
 unfoldable pub choosing : List ℕ
 choosing = agreement [] (may yes′ (pos 0) (pos 50) nothing (simply 1 (pos 20)))
 
 unfoldable pub p12a : Trial
 p12a = follows "P12, a reading" choosing (reading 165 (pos 1) ∷ [])
-    (live 100 (chosen 17 100 ∷ []) 170 2 ∷ fulfils 165 ∷ [])
+    (live 100 100 (chosen 17 100 ∷ []) 170 2 ∷ fulfils 165 165 ∷ [])
 
 unfoldable pub p12b : Trial
-p12b = follows "P12, a mark" choosing (mark 171 ∷ []) (live 100 (chosen 17 100 ∷ []) 170 2 ∷ breaches 171 170 2 ∷ [])
+p12b = follows "P12, a mark" choosing (mark 171 ∷ [])
+    (live 100 100 (chosen 17 100 ∷ []) 170 2 ∷ breaches 171 171 170 2 ∷ [])
 
 -- an obligation whose `where` is an equation of two numbers
 unfoldable pub asks : List ℕ → ℤ → List ℕ
@@ -193,11 +194,11 @@ asks e z = agreement [] (owes 0 (op 43 e (lit z)) (pos 0) (pos 60) nothing)
 
 unfoldable pub p13 : Trial
 p13 = follows "P13" (asks (op 40 (lit (negsuc 6)) (lit (pos 2))) (negsuc 3)) (reading 110 (pos 1) ∷ [])
-    (unmet 100 ∷ fulfils 110 ∷ [])
+    (unmet 100 ∷ fulfils 110 110 ∷ [])
 
 unfoldable pub p14 : Trial
 p14 = follows "P14" (asks (op 37 (lit (pos 1_000_000_000)) (lit (pos 1))) (pos 1_000_000_000))
-    (reading 110 (pos 1) ∷ []) (unmet 100 ∷ fulfils 110 ∷ [])
+    (reading 110 (pos 1) ∷ []) (unmet 100 ∷ fulfils 110 110 ∷ [])
 
 unfoldable pub self : List ℕ
 self = inst 0 [] []
@@ -213,14 +214,14 @@ doubled a (suc n) = joinUnit 20 ∷ (doubled a n ++ doubled a n)
 unfoldable pub p15 : Trial
 p15 = grows "P15" doubling (reading 101 (pos 0) ∷ reading 102 (pos 0) ∷ reading 103 (pos 0) ∷ reading 104 (pos 0)
     ∷ reading 105 (pos 0) ∷ reading 106 (pos 0) ∷ reading 107 (pos 0) ∷ [])
-    (live 100 (doubled 100 0) 160 1
-    ∷ live 101 (doubled 101 1) 161 1
-    ∷ live 102 (doubled 102 2) 162 1
-    ∷ live 103 (doubled 103 3) 163 1
-    ∷ live 104 (doubled 104 4) 164 1
-    ∷ live 105 (doubled 105 5) 165 1
-    ∷ live 106 (doubled 106 6) 166 1
-    ∷ refusing 11 (live 106 (doubled 106 6) 166 1) ∷ [])
+    (live 100 100 (doubled 100 0) 160 1
+    ∷ live 101 101 (doubled 101 1) 161 1
+    ∷ live 102 102 (doubled 102 2) 162 1
+    ∷ live 103 103 (doubled 103 3) 163 1
+    ∷ live 104 104 (doubled 104 4) 164 1
+    ∷ live 105 105 (doubled 105 5) 165 1
+    ∷ live 106 106 (doubled 106 6) 166 1
+    ∷ refusing 11 (live 106 106 (doubled 106 6) 166 1) ∷ [])
 
 unfoldable pub trials : List Trial
 trials = p1to4 ∷ p5and6 ∷ p7 ∷ p8 ∷ p9 ∷ p10 ∷ p11 ∷ p12a ∷ p12b ∷ p13 ∷ p14 ∷ p15 ∷ []

@@ -10,3 +10,4 @@ pub mod Cells
 pub mod Residues
 pub mod Types
 pub mod Templates
+pub mod Sameness

@@ -13,8 +13,7 @@ use lib.ListN.{length, getD}
 use Rattle.csl.specs.Syntax.{Agreement}
 use Rattle.csl.specs.Decode.{agreementOf}
 use Rattle.csl.specs.Check.{CheckAnswer, checked, accepted}
-use Rattle.csl.specs.Run.{Run}
-use Rattle.csl.specs.Table.{runOf}
+use Rattle.csl.specs.Table.{Run, runOf}
 use Rattle.csl.specs.Entries as entries
 use Rattle.csl.specs.Entries.{Answer, Forecast, forecastOf, forecastRun}
 use Rattle.csl.specs.Marks.{ForecastFits}
@@ -117,7 +116,7 @@ forecast-plain s us = from-check s (λ n h ck _. subst Plain (sym (forecast-refu
     by-run mains ck l (some q) e =
         let a = agreementOf s in
         let good = runOf-good a mains us q (isFair s a mains ck) e in
-        let ok = run-ok s a mains ck (q .lastTime) (q .outcome) good in
+        let ok = run-ok s a mains ck (q .lastTime) (q .lastMoved) (q .outcome) good in
         let here : ForecastFits a mains (forecastOf s us) =
         subst (ForecastFits a mains) (sym (forecast-is s a mains ck us q l e))
         (fits s a mains ck (forecastRun a q) ok) in

@@ -3,6 +3,7 @@ use mathlib.Core.Path.{_≡_, sym, ap, _∙_}
 use mathlib.Core.Bool.{Bool, true, false, not}
 use mathlib.Core.List.{List}
 use Prim.Native.Nat.{ℕ, _≤_, _<_}
+use native.Mathlib.Omega.{arith}
 use borrow.Author.Tests.{not-true, not-false}
 use lib.Dec.{leb, leb→le}
 use lib.IntN.{ℤ}
@@ -37,6 +38,7 @@ module _ {s places : List ℕ} {p : ℕ} (g : Goes s places p) {us : List ℤ} (
     short = short g;
     isTable = l;
     few = few;
+    held = omega arith;
     soon = h;
     units = tt;
   }
@@ -45,7 +47,7 @@ module _ {s places : List ℕ} {p : ℕ} (g : Goes s places p) {us : List ℤ} (
       (et : t ≡ le32 s 4) where
     begun : advanced fits left ≡ startOf s us
     unfolding reduced mainReduced agreementOf
-    begun = a .is ∙ ap (λ k. keptCells k us (mainReduced s)) et ∙ sym (start-reduce s (g .mains) (g .isAccepted) us l)
+    begun = a .is ∙ ap (λ k. keptCells k 0 us (mainReduced s)) et ∙ sym (start-reduce s (g .mains) (g .isAccepted) us l)
 
     pub begin-no : not fits ≡ true → startAnswer (refusedStart Units) left ≡ startOf s us
     begin-no e = ap (λ b. advanced b left) (sym (not-true fits e)) ∙ begun

@@ -10,8 +10,8 @@ use denote.Triple.Clauses.{AtExit}
 use lib.IntN.{ℤ}
 use Rattle.csl.specs.Syntax.{Agreement}
 use Rattle.csl.specs.Check.{checked, accepted}
-use Rattle.csl.specs.Run.{Run, step}
-use Rattle.csl.specs.Table.{tableOf}
+use Rattle.csl.specs.Run.{step}
+use Rattle.csl.specs.Table.{Run, tableOf}
 use Rattle.csl.specs.Entries.{forecastOf, readingOf, startOf}
 use Rattle.csl.specs.Demand3.{AllBytes, numbersBy, runAfter}
 use Rattle.soundness.proofs.Runs.{InvOf, reading-fine, step-inv}
@@ -74,7 +74,7 @@ module _ (s : List ℕ) (a : Agreement) (mains : List ℕ) (ck : checked s ≡ a
       → (numberIn c ≡ (step a q (c .bytes)) .number) × (c .left ≡ tableOf ((step a q (c .bytes)) .run))
   unfolding numberIn
   called q us c e i meets =
-      let fine = reading-fine s a mains ck (q .lastTime) (q .outcome) (c .bytes) i in
+      let fine = reading-fine s a mains ck q (c .bytes) i in
       let is : takenAnswer (c .answer) (c .left) ≡ readingOf s (tableOf q) (c .bytes) = meets
       ∙ ap (λ us. readingOf s us (c .bytes)) e in
       (ap (λ x. x .number) is ∙ fine .0, sym (table-of (c .answer) (c .left)) ∙ ap (λ x. x .table) is ∙ fine .1)
@@ -85,7 +85,7 @@ module _ (s : List ℕ) (a : Agreement) (mains : List ℕ) (ck : checked s ≡ a
   unfolding Calls AllBytes readingsIn lastTable runAfter
   last-table q us [] e i h cs = e
   last-table q us (c ∷ calls) e i h cs = last-table ((step a q (c .bytes)) .run) (c .left) calls
-      ((called q us c e i (cs .0)) .1) (step-inv s a mains ck (q .lastTime) (q .outcome) (c .bytes) (h .0) i) (h .1)
+      ((called q us c e i (cs .0)) .1) (step-inv s a mains ck q (c .bytes) (h .0) i) (h .1)
       (cs .1)
 
   pub all-numbers : (q : Run) (us : List ℤ) (calls : List Call) → us ≡ tableOf q → Sound q → AllBytes (readingsIn calls)
@@ -95,7 +95,7 @@ module _ (s : List ℕ) (a : Agreement) (mains : List ℕ) (ck : checked s ≡ a
   all-numbers q us (c ∷ calls) e i h cs =
       let x = called q us c e i (cs .0) in
       ap₂ (λ n ns. n ∷ ns) (x .0) (all-numbers ((step a q (c .bytes)) .run) (c .left) calls (x .1)
-      (step-inv s a mains ck (q .lastTime) (q .outcome) (c .bytes) (h .0) i) (h .1) (cs .1))
+      (step-inv s a mains ck q (c .bytes) (h .0) i) (h .1) (cs .1))
 
   -- ---- one of the calls, on a table that was the run q's at first
   module _ (q : Run) (us : List ℤ) (is : us ≡ tableOf q) (i : Sound q) (calls : List Call)
@@ -129,7 +129,7 @@ module _ (s : List ℕ) (a : Agreement) (mains : List ℕ) (ck : checked s ≡ a
           table = t;
           number = x .0;
           left = x .1;
-          next = step-inv s a mains ck (run .lastTime) (run .outcome) (one .bytes) (bs .1 .0) i′;
+          next = step-inv s a mains ck run (one .bytes) (bs .1 .0) i′;
           bytes = (bs .0, bs .1 .1);
           meets = (two .0, two .1 .1);
         }

@@ -4,22 +4,24 @@ use mathlib.Core.Path.{_≡_, refl, sym, ap, _∙_}
 use mathlib.Core.Bool.{Bool, true, false}
 use mathlib.Core.List.{List, _∷_, _++_}
 use mathlib.Core.Logic.{_↔_}
+use mathlib.Core.Option.{some}
 use Prim.Native.Nat.{ℕ}
 use native.Mathlib.Omega.{arith}
 use borrow.Author.Tests.{eqb-true, eqb-false}
 use lib.Dec.{eqb}
-use lib.IntN.{ℤ}
+use lib.IntN.{ℤ, pos}
 use lib.ListN.{length}
+use Rattle.csl.specs.Lists.{at}
 use Rattle.csl.specs.Syntax.{Agreement}
 use Rattle.csl.specs.Decode.{agreementOf}
 use Rattle.csl.specs.Check.{checked, accepted}
-use Rattle.csl.specs.Run.{Run, started}
-use Rattle.csl.specs.Table.{runOf, tableOf}
+use Rattle.csl.specs.Run.{started}
+use Rattle.csl.specs.Table.{Run, runOf, tableOf}
 use Rattle.csl.specs.Entries.{startOf}
-use Rattle.csl.specs.Demand3.{AllBytes, Bytes}
-use Rattle.soundness.proofs.Runs.{Case, cases, not-stuck, start-is, table-typed, written-number, written-zero}
-use Rattle.soundness.proofs.Demand3.{after-inv, start-inv, start-unbreached, step-eleven, step-final, step-refused}
-use Rattle.soundness.proofs.Demand3.{step-shows, step-taken}
+use Rattle.csl.specs.Demand3.{AllBytes, Bytes, Unaltered}
+use Rattle.soundness.proofs.Runs.{CaseOf, case-of, not-stuck, start-is, table-typed, written-number, written-zero}
+use Rattle.soundness.proofs.Demand3.{after-inv, moved-cell, start-inv, start-moved, start-unbreached, step-eleven}
+use Rattle.soundness.proofs.Demand3.{step-final, step-moves, step-refused, step-shows, step-stays, step-taken}
 use Rattle.bridge.proofs.Refusals.{from-check, start-refused, start-six}
 use Rattle.monitor.specs.declared.Refusal.{Refusal}
 use Rattle.monitor.specs.declared.Refusal.the-variants.{AgreementLength, AgreementForm, AgreementTyping}
@@ -60,6 +62,10 @@ table-left (Refused w) us = refl
 carries : {P : Type 0} {m n k : ℕ} → m ≡ n → (n ≡ k) ↔ P → (m ≡ k) ↔ P
 carries e h = (λ x. h .0 (sym e ∙ x), λ p. e ∙ h .1 p)
 
+-- the same tables
+unaltered-in : {us vs xs ys : List ℤ} → us ≡ xs → vs ≡ ys → Unaltered us vs → Unaltered xs ys
+unaltered-in e f u = rw (e, f) at u
+
 module _ (s : List ℕ) (lent : List ℤ) (a : Agreement) (mains : List ℕ) (st : IsStarted s lent a mains) (r : Started)
     (us : List ℤ) (start : startAnswer r us ≡ startOf s lent) (hs : Bytes s) where
   run : Run
@@ -79,16 +85,22 @@ module _ (s : List ℕ) (lent : List ℤ) (a : Agreement) (mains : List ℕ) (st
   unfolding run
   run-inv = start-inv s a mains ck hs (st .notEleven)
 
+  -- when a run last moved, in the cells of its table
+  cell-five : {cells : List ℤ} {q : Run} → cells ≡ tableOf q → Sound s a mains ck q
+      → at cells 5 ≡ some (pos (q .lastMoved))
+  cell-five {q = q} e i = ap (λ cells. at cells 5) e
+      ∙ moved-cell q (not-stuck a mains (q .lastTime) (q .outcome) (i .good))
+
   module _ (calls : List Call) (hr : AllBytes (readingsIn calls)) (cs : Calls s us calls) where
     -- of one of the calls: what it finds, and the case of its reading
     at-call : (before : List Call) (one : Call) (later : List Call) → calls ≡ before ++ (one ∷ later)
         → Found s a mains ck run us us-is run-inv calls hr cs before one later
-        × Case a (runBy a before .lastTime) (runBy a before .outcome) (one .bytes)
+        × CaseOf a (runBy a before) (one .bytes)
     unfolding runBy run
     at-call before one later e =
         let f = found s a mains ck run us us-is run-inv calls hr cs before one later e in (
           f,
-          cases a (runBy a before .lastTime) (runBy a before .outcome) (one .bytes)
+          case-of a (runBy a before) (one .bytes)
               (not-stuck a mains (runBy a before .lastTime) (runBy a before .outcome) (f .inv .good)),
         )
 
@@ -107,20 +119,27 @@ module _ (s : List ℕ) (lent : List ℤ) (a : Agreement) (mains : List ℕ) (st
           wellTyped = (typed .1 .0, ap (runOf a mains) whole ∙ typed .1 .1);
           table = whole;
           eleven = λ before one later e. let f = at-call before one later e in
-              carries (f .0 .number) (step-eleven a (runBy a before .lastTime) (runBy a before .outcome) (one .bytes)
-              (f .1));
+              carries (f .0 .number) (step-eleven a (runBy a before) (one .bytes) (f .1));
           taken = λ before one later e. let f = at-call before one later e in
-              carries (f .0 .number) (step-taken a (runBy a before .lastTime) (runBy a before .outcome) (one .bytes)
-              (f .1));
+              carries (f .0 .number) (step-taken a (runBy a before) (one .bytes) (f .1));
           refused = λ before one later e nz. let f = at-call before one later e in
-              f .0 .left ∙ ap tableOf (step-refused a (runBy a before .lastTime) (runBy a before .outcome)
-              (one .bytes) (f .1) (λ z. nz (f .0 .number ∙ z))) ∙ sym (f .0 .table);
+              f .0 .left ∙ ap tableOf (step-refused a (runBy a before) (one .bytes) (f .1)
+              (λ z. nz (f .0 .number ∙ z))) ∙ sym (f .0 .table);
+          movedFirst = cell-five us-is run-inv ∙ ap (λ m. some (pos m)) (start-moved s a mains ck);
+          stays = λ before one later e u. let f = at-call before one later e in
+              cell-five (f .0 .left) (f .0 .next)
+              ∙ ap (λ m. some (pos m)) (step-stays a (runBy a before) (one .bytes) (f .1)
+              (unaltered-in (f .0 .table) (f .0 .left) u))
+              ∙ sym (cell-five (f .0 .table) (f .0 .inv));
+          moves = λ before one later e h. let f = at-call before one later e in
+              cell-five (f .0 .left) (f .0 .next)
+              ∙ ap (λ m. some (pos m)) (step-moves a (runBy a before) (one .bytes) (f .1)
+              (λ u. h (unaltered-in (sym (f .0 .table)) (sym (f .0 .left)) u)));
           breached = λ before one later e. step-shows s a mains ck (runBy a before) (one .bytes)
               ((at-call before one later e) .0 .inv);
           unbreached = start-unbreached s a mains ck;
           final = λ before one later e b. let f = at-call before one later e in
-              f .0 .left ∙ ap tableOf (step-final a (runBy a before .lastTime) (runBy a before .outcome) (one .bytes)
-              (f .1) b) ∙ sym (f .0 .table);
+              f .0 .left ∙ ap tableOf (step-final a (runBy a before) (one .bytes) (f .1) b) ∙ sym (f .0 .table);
         }
 
 -- The single claim over the whole list.

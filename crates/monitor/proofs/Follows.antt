@@ -19,7 +19,7 @@ use Rattle.csl.specs.Syntax.{Agreement}
 use Rattle.csl.specs.Decode.{agreementOf}
 use Rattle.csl.specs.Check.{checked, accepted}
 use Rattle.csl.specs.Outcomes.{Residue, units, done}
-use Rattle.csl.specs.Run as csl
+use Rattle.csl.specs.Table as csl
 use Rattle.csl.specs.Run.{rawReading}
 use Rattle.csl.specs.Table.{tableOf, padded, headCells, natCells, cellsOf}
 use Rattle.csl.specs.Entries.{readingOf}
@@ -33,7 +33,7 @@ use Rattle.csl.specs.Check.{mainsOf}
 use Rattle.laws.proofs.Integers.{pos-inj}
 use Rattle.bridge.proofs.Across.{follow-across}
 use Rattle.bridge.proofs.Refusals.{answer}
-use Rattle.cells.specs.Tables.{reducedTable}
+use Rattle.cells.specs.Tables.{headOf, reducedTable}
 use Rattle.bridge.proofs.Entries.{keptCells, reading-eight, reading-nine, reading-ten, reading-done, reading-breach}
 use Rattle.bridge.proofs.Entries.{reading-running}
 use Rattle.readings.specs.Taking.{TakenIs, UntypedRead, FittingRead}
@@ -75,10 +75,11 @@ time-fits h = small (omega arith)
 pub prefix-length : {n : ℕ} (values : List ℤ) → n ≤ 4 → length values ≡ 4 → n ≡ length (take n values)
 prefix-length {n = n} values h e = omega (arith, length-take n values)
 
--- a fulfilled run's last reading time moves
-moved : (us : List ℤ) (now t : ℕ) → us ≡ tableOf (runAt now done) → set us 1 (pos t) ≡ reducedTable t cells.done
-unfolding tableOf padded headCells natCells reducedTable
-moved us now t e = rw e refl
+-- of a fulfilled run's table the last reading time alone is another
+retimed : (us : List ℤ) (now m t : ℕ) → us ≡ tableOf (runAt now m done)
+    → set us 1 (pos t) ≡ reducedTable t (pos m) cells.done
+unfolding tableOf padded headCells natCells reducedTable headOf
+retimed us now m t e = rw e refl
 
 module _ {s places : List ℕ} {us : List ℤ} {sights : List ℕ} {run : Run} (o : Opened s places us sights run) where
   abbrev ag : Agreement
@@ -99,19 +100,22 @@ module _ {s places : List ℕ} {us : List ℤ} {sights : List ℕ} {n : ℕ} (o 
   abbrev now : ℕ
   now = o .shows .shows .now
 
+  abbrev moved : ℕ
+  moved = o .shows .shows .moved
+
   pub residue-sights : take (2 * units res) sights ≡ sightNumbers res
   residue-sights = rw (o .shows .count) at (o .shows .sighted)
 
   pub units-ready : Tree (length s) sights (drop 8 us) n
   units-ready = rw (o .shows .count)
-      (has-tree s (mainsOf s) (ck o) now res us (o .isTable) (o .shows .shows .is) sights residue-sights)
+      (has-tree s (mainsOf s) (ck o) now moved res us (o .isTable) (o .shows .shows .is) sights residue-sights)
 
   module _ {bytes : List ℕ} {e : Event} {rs : List ℤ} (f : Fitted s bytes us e rs) where
     -- what the rules on cells give for a reading
     record Given : Type 0 where
       given : cells.Reduced
       is : table.across (modeAt e rs) s n sights (drop 8 us) ≡ given ∷ []
-      reads : readingOf s us bytes ≡ keptCells (e .time) us given
+      reads : readingOf s us bytes ≡ keptCells (e .time) n us given
 
     following : Given
     following =
@@ -119,17 +123,17 @@ module _ {s places : List ℕ} {us : List ℤ} {sights : List ℕ} {n : ℕ} (o 
         let more = drop (2 * units res) sights in
         let le = in-order o f (o .shows .shows) in
         let w = follow-across s (mainsOf s) (isFair s (ag o) (mainsOf s) (ck o)) (founds s (mainsOf s) (ck o)) now
-        res us (o .isTable) (o .shows .shows .is) more d ((reading-ok (ag o) (f .raw) d (f .typed)) .0) le in
-        let seen = sighted s (mainsOf s) (ck o) now res us (o .isTable) (o .shows .shows .is) sights
+        moved res us (o .isTable) (o .shows .shows .is) more d ((reading-ok (ag o) (f .raw) d (f .typed)) .0) le in
+        let seen = sighted s (mainsOf s) (ck o) now moved res us (o .isTable) (o .shows .shows .is) sights
         residue-sights in
         record {
           given = w .given;
           is = ap (λ m. table.across m s n sights (drop 8 us)) (mode-as f)
               ∙ ap₂ (λ k q. table.across (cells.following (d .time) (d .type) (cellsOf (d .values))) s k q
               (drop 8 us)) (o .shows .count) seen ∙ w .only;
-          reads = reading-running s (mainsOf s) (ck o) us (o .isTable) now bytes d (fits-as f) le
+          reads = reading-running s (mainsOf s) (ck o) us (o .isTable) now moved bytes d (fits-as f) le
               (founds s (mainsOf s) (ck o)) res more (w .given) (o .shows .shows .is) (w .only)
-              ∙ ap (λ t. keptCells t us (w .given)) (sym (f .time));
+              ∙ ap₂ (λ t k. keptCells t k us (w .given)) (sym (f .time)) (sym (o .shows .count));
         }
 
     follows-as : reduced s sights us n e rs ≡ following .given
@@ -139,7 +143,7 @@ module _ {s places : List ℕ} {us : List ℤ} {sights : List ℕ} {n : ℕ} (o 
 
     reads-as : {fits : Bool} {left : List ℤ} → Advances s sights us n e rs left fits
         → advanced fits left ≡ readingOf s us bytes
-    reads-as a = a .is ∙ ap (keptCells (e .time) us) follows-as ∙ sym (following .reads)
+    reads-as a = a .is ∙ ap (keptCells (e .time) n us) follows-as ∙ sym (following .reads)
 
   module _ {e : Event} {rs : List ℤ} where
     pub follow-due : SomeReading s us e rs → Due s places sights us n e rs
@@ -155,6 +159,7 @@ module _ {s places : List ℕ} {us : List ℤ} {sights : List ℕ} {n : ℕ} (o 
           short = short (o .goes);
           isTable = o .isTable;
           few = f .few;
+          held = o .shows .few;
           soon = f .fits;
           units = subst (λ k. DueBy k (UnitsDue s sights us n e rs)) (sym (f .follows)) all;
         }
@@ -173,7 +178,8 @@ module _ {s places : List ℕ} {us : List ℤ} {sights : List ℕ} {e : Event} {
   read-breached o =
       let b = o .shows in
       record {
-        is = λ bytes f. sym (reading-breach s (mainsOf s) (ck o) us (o .isTable) (b .shows .now) bytes (f .reading)
+        is = λ bytes f. sym (reading-breach s (mainsOf s) (ck o) us (o .isTable) (b .shows .now) (b .shows .moved) bytes
+            (f .reading)
             (fits-as f) (in-order o f (b .shows)) (b .time) _ (b .shows .is));
       }
 
@@ -181,12 +187,13 @@ module _ {s places : List ℕ} {us : List ℤ} {sights : List ℕ} {e : Event} {
       → ReadAs s us e rs acceptedReading (set us 1 (toZ w64 (e .time)))
   read-done o =
       let r = o .shows in
-      let back = sym (table-back (ag o) (mainsOf s) us (runAt (r .now) done) (r .is) (o .isTable)) in
+      let back = sym (table-back (ag o) (mainsOf s) us (runAt (r .now) (r .moved) done) (r .is) (o .isTable)) in
       record {
         is = λ bytes f.
             ap (answer 0) (ap (set us 1) (toZ-pos w64 (e .time) (omega (arith, f .fits)) ∙ ap pos (f .time))
-            ∙ moved us (r .now) (f .reading .time) back)
-            ∙ sym (reading-done s (mainsOf s) (ck o) us (o .isTable) (r .now) bytes (f .reading) (fits-as f)
+            ∙ retimed us (r .now) (r .moved) (f .reading .time) back)
+            ∙ sym (reading-done s (mainsOf s) (ck o) us (o .isTable) (r .now) (r .moved) bytes (f .reading)
+            (fits-as f)
             (in-order o f r) (r .is));
       }
 

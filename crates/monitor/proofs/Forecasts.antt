@@ -10,8 +10,8 @@ use Rattle.csl.specs.Parties.{bitsOf, members, subset}
 use Rattle.csl.specs.Syntax.{Agreement}
 use Rattle.csl.specs.Check.{checked, accepted}
 use Rattle.csl.specs.Outcomes.{Outcome, breach, done, running, stuck}
-use Rattle.csl.specs.Run.{Run, step}
-use Rattle.csl.specs.Table.{tableOf}
+use Rattle.csl.specs.Run.{step}
+use Rattle.csl.specs.Table.{Run, tableOf}
 use Rattle.csl.specs.Entries.{Forecast, breachAt, forecastOf, forecastRun, noBreach, shown}
 use Rattle.csl.specs.Demand3.{AllBytes, IsBreach, runAfter}
 use Rattle.csl.specs.Marks.{Breached, ForecastFits, breachTable, timeIn}
@@ -53,7 +53,7 @@ module _ (s : List ℕ) (a : Agreement) (mains : List ℕ) (ck : checked s ≡ a
         m .0,
         sym (x .0) ∙ accepted-zero c (m .1),
         run-marks ((step a q (c .bytes)) .run) (c .left) marks (x .1)
-            (step-inv s a mains ck (q .lastTime) (q .outcome) (c .bytes) (h .0) i) (h .1) (cs .1) (m .2),
+            (step-inv s a mains ck q (c .bytes) (h .0) i) (h .1) (cs .1) (m .2),
       )
 
   -- of the run q, whose table the marks begin with
@@ -86,31 +86,33 @@ module _ (s : List ℕ) (a : Agreement) (mains : List ℕ) (ck : checked s ≡ a
       stayed : (g : Forecast) → Stays a g end → (Breached (lastTable us marks) → ⊥) × (f′ ≡ g)
       unfolding Stays
       stayed g st = (
-        (λ b. st .0 (table-state (end .lastTime) (end .outcome) (subst Breached end-table b))),
+        (λ b. st .0 (table-state (end .lastTime) (end .lastMoved) (end .outcome) (subst Breached end-table b))),
         end-forecast ∙ st .1,
       )
 
       -- a breached table gives its verdict
       verdict-of : (o : Outcome) → q .outcome ≡ o → IsBreach o
-          → (t : ℕ) × (b : ℕ) × (us ≡ breachTable (q .lastTime) t b) × (f ≡ breachAt t b)
+          → (t : ℕ) × (b : ℕ) × (us ≡ breachTable (q .lastTime) (q .lastMoved) t b) × (f ≡ breachAt t b)
       unfolding IsBreach tableOf breachTable forecastRun shown
       verdict-of done e b = absurd b
       verdict-of (breach t ps) e b = (
         t,
         bitsOf ps,
-        is ∙ ap (λ o. tableOf (runAt (q .lastTime) o)) e,
-        fe ∙ ap (λ o. shown (forecastRun a (runAt (q .lastTime) o))) e,
+        is ∙ ap (λ o. tableOf (runAt (q .lastTime) (q .lastMoved) o)) e,
+        fe ∙ ap (λ o. shown (forecastRun a (runAt (q .lastTime) (q .lastMoved) o))) e,
       )
       verdict-of (running r) e b = absurd b
       verdict-of stuck e b = absurd b
 
       verdict : Breached us
-          → (now : ℕ) × (t : ℕ) × (b : ℕ) × (us ≡ breachTable now t b) × (f ≡ breachAt t b) × (lastTable us marks ≡ us)
+          → (now : ℕ) × (moved : ℕ) × (t : ℕ) × (b : ℕ) × (us ≡ breachTable now moved t b) × (f ≡ breachAt t b)
+          × (lastTable us marks ≡ us)
       unfolding end
       verdict b =
-          let ib = table-state (q .lastTime) (q .outcome) (subst Breached is b) in
+          let ib = table-state (q .lastTime) (q .lastMoved) (q .outcome) (subst Breached is b) in
           let v = verdict-of (q .outcome) refl ib in (
             q .lastTime,
+            q .lastMoved,
             v .0,
             v .1,
             v .2,
@@ -121,7 +123,7 @@ module _ (s : List ℕ) (a : Agreement) (mains : List ℕ) (ck : checked s ≡ a
       -- the first later mark
       first-later : (t b : ℕ) → f ≡ breachAt t b → (before : List Call) (one : Call) (later : List Call)
           → marks ≡ before ++ (one ∷ later) → (Breached (lastTable us before) → ⊥) → t < timeIn (one .bytes)
-          → (lastTable us marks ≡ breachTable (timeIn (one .bytes)) t b) × (f′ ≡ f)
+          → (lastTable us marks ≡ breachTable (timeIn (one .bytes)) (timeIn (one .bytes)) t b) × (f′ ≡ f)
       unfolding Marks AcceptedMarks lastTable tableOf breachTable forecastRun shown IsBreach Stays
       first-later t b fe₂ before one later e nb lt =
           let x = found s a mains ck q us is i marks h cs before one later e in
@@ -143,7 +145,7 @@ module _ (s : List ℕ) (a : Agreement) (mains : List ℕ) (ck : checked s ≡ a
           let last : lastTable us marks ≡ tableOf next = ap (lastTable us) e ∙ last-++ us before (one ∷ later)
           ∙ last-table s a mains ck next (one .left) later (x .left) (x .next) (x .bytes .1) (x .meets .1)
           ∙ ap tableOf (frozen s a mains ck next (readingsIn later) (x .next) ib) in (
-            last ∙ ap tableOf (g .1) ∙ ap (breachTable (timeIn (one .bytes)) t) (g .2),
+            last ∙ ap tableOf (g .1) ∙ ap (breachTable (timeIn (one .bytes)) (timeIn (one .bytes)) t) (g .2),
             fe′ ∙ ap (forecastOf s) last ∙ forecast-shows s a mains ck next (x .next)
                 ∙ ap (λ r. shown (forecastRun a r)) (g .1) ∙ ap (breachAt t) (g .2) ∙ sym fe₂,
           )
@@ -152,10 +154,10 @@ module _ (s : List ℕ) (a : Agreement) (mains : List ℕ) (ck : checked s ≡ a
       unfolding end
       foretells = record {
         fits = subst (ForecastFits a mains) (sym fe)
-            (fits s a mains ck (forecastRun a q) (run-ok s a mains ck (q .lastTime) (q .outcome) i));
+            (fits s a mains ck (forecastRun a q) (run-ok s a mains ck (q .lastTime) (q .lastMoved) (q .outcome) i));
         verdict = verdict;
         never = λ e. stayed noBreach (never s a mains ck q (readingsIn marks) h i marked
-            (begins noBreach e (λ b. let v = verdict b in none-breach (sym e ∙ v .4))));
+            (begins noBreach e (λ b. let v = verdict b in none-breach (sym e ∙ v .5))));
         notYet = λ t b e nb c. let x = stayed (breachAt t b)
             (not-yet s a mains ck q (readingsIn marks) h i marked t b (begins (breachAt t b) e nb) c) in
             (x .0, x .1 ∙ sym e);
@@ -167,7 +169,7 @@ module _ (s : List ℕ) (a : Agreement) (mains : List ℕ) (ck : checked s ≡ a
           once : (t b : ℕ) → f ≡ breachAt t b
               → Stays a (breachAt t b) (runAfter a q (readingsIn marks)) ⊎ AtOnce t b (runAfter a q (readingsIn marks))
               → ((Breached (lastTable us marks) → ⊥) × (f′ ≡ f)) ⊎
-              ((c : ℕ) × (lastTable us marks ≡ breachTable t t c) × (0 < c) × T (subset (members c) (members b)))
+              ((c : ℕ) × (lastTable us marks ≡ breachTable t t t c) × (0 < c) × T (subset (members c) (members b)))
           once t b e (inl st) = let x = stayed (breachAt t b) st in inl (x .0, x .1 ∙ sym e)
           once t b e (inr k) = inr (
             bitsOf (k .parties),

@@ -63,10 +63,11 @@ module _ {s places : List ℕ} {us : List ℤ} {sights : List ℕ} {n : ℕ}
       let res = o .shows .residue in
       let more = drop (2 * units res) sights in
       let w = forecast-across s (mainsOf s) (isFair s (agreementOf s) (mainsOf s) ck) (founds s (mainsOf s) ck)
-      (shown .now) res us (o .isTable) (shown .is) more in
-      let f = forecast-running s (mainsOf s) ck us (o .isTable) (founds s (mainsOf s) ck) (shown .now) res more
-      (w .given) (shown .is) (w .only) in
-      let same = sighted s (mainsOf s) ck (shown .now) res us (o .isTable) (shown .is) sights (residue-sights o) in
+      (shown .now) (shown .moved) res us (o .isTable) (shown .is) more in
+      let f = forecast-running s (mainsOf s) ck us (o .isTable) (founds s (mainsOf s) ck) (shown .now)
+      (shown .moved) res more (w .given) (shown .is) (w .only) in
+      let same = sighted s (mainsOf s) ck (shown .now) (shown .moved) res us (o .isTable) (shown .is) sights
+      (residue-sights o) in
       record {
         given = w .given;
         is = ap₂ (λ k q. table.across cells.forecasting s k q (drop 8 us)) (o .shows .count) same ∙ w .only;
@@ -111,7 +112,7 @@ module _ {s places : List ℕ} {us : List ℤ} {sights : List ℕ} {n : ℕ}
 module _ {s places : List ℕ} {us : List ℤ} {sights : List ℕ} where
   pub foretell-done : Opened s places us sights run.Fulfilled → forecastAnswer Nothing ≡ forecastOf s us
   foretell-done o = let r = o .shows in
-      sym (forecast-done s (mainsOf s) (accepts (o .goes)) us (o .isTable) (r .now) (r .is))
+      sym (forecast-done s (mainsOf s) (accepts (o .goes)) us (o .isTable) (r .now) (r .moved) (r .is))
 
   module _ {t : ℤ} {b : ℕ} (fits : mag t < 2 ^ 63) (o : Opened s places us sights (run.Breached t b)) where
     pub foretell-time : pos 0 ≤ℤ seen t
@@ -121,5 +122,5 @@ module _ {s places : List ℕ} {us : List ℤ} {sights : List ℕ} where
     foretell-breach h =
         let r = o .shows in
         ap₂ entries.breachAt (time-read fits (r .isTime) h) (sym (bits-members b (omega (arith, r .small))))
-        ∙ sym (forecast-breach s (mainsOf s) (accepts (o .goes)) us (o .isTable) (r .shows .now) (r .time)
-        (members b) (r .shows .is))
+        ∙ sym (forecast-breach s (mainsOf s) (accepts (o .goes)) us (o .isTable) (r .shows .now) (r .shows .moved)
+        (r .time) (members b) (r .shows .is))

@@ -9,17 +9,20 @@ use mathlib.Core.List.{List, [], _∷_, _++_}
 use mathlib.Core.Option.{some}
 use Prim.Native.Nat.{ℕ, _≤_, _<_}
 use lib.Dec.{T}
-use lib.IntN.{ℤ}
+use lib.IntN.{ℤ, pos}
 use lib.ListN.{length}
+use Rattle.csl.specs.Lists.{at}
 use Rattle.csl.specs.Parties.{subset}
 use Rattle.csl.specs.Syntax.{Agreement}
 use Rattle.csl.specs.Check.{checked, accepted}
 use Rattle.csl.specs.Outcomes.{breach}
 use Rattle.csl.specs.Rules.{Reading}
-use Rattle.csl.specs.Run.{Run, started, step}
-use Rattle.csl.specs.Table.{tableLength, tableOf, runOf}
+use Rattle.csl.specs.Run.{started, step}
+use Rattle.csl.specs.Table.{Run, tableLength, tableOf, runOf}
 use Rattle.csl.specs.Entries.{startOf}
-use Rattle.csl.specs.Demand3.{Bytes, AllBytes, fitting, reached, needed, NotStuck, IsBreach, runAfter, numbersBy}
+use Rattle.csl.specs.Demand3.{Bytes, AllBytes, fitting, reached, needed, NotStuck, IsBreach, Unaltered, runAfter}
+use Rattle.csl.specs.Demand3.{numbersBy}
+use Rattle.csl.specs.Marks.{timeIn}
 use Rattle.monitor.specs.declared.Started.{Started}
 use Rattle.monitor.specs.declared.Started.the-variants.{Begun}
 use Rattle.monitor.specs.Answers.{startAnswer}
@@ -56,6 +59,15 @@ pub record Upheld (a : Agreement) (mains : List ℕ) (r : Started) (us : List �
   -- every other answer is a refusal, which alters no cell
   pub refused : (before : List Call) (one : Call) (later : List Call) → calls ≡ before ++ (one ∷ later)
       → numberIn one ≢ 0 → one .left ≡ lastTable us before
+  -- paper 02, No. 1: head cell 5 holds "the time of the last reading that altered a unit or the state". "It begins as
+  -- the start time"
+  pub movedFirst : at us 5 ≡ some (pos (a .start))
+  -- where neither a unit cell nor the state cell holds another number afterwards it stays
+  pub stays : (before : List Call) (one : Call) (later : List Call) → calls ≡ before ++ (one ∷ later)
+      → Unaltered (lastTable us before) (one .left) → at (one .left) 5 ≡ at (lastTable us before) 5
+  -- and where one does it is the reading's time
+  pub moves : (before : List Call) (one : Call) (later : List Call) → calls ≡ before ++ (one ∷ later)
+      → (Unaltered (lastTable us before) (one .left) → ⊥) → at (one .left) 5 ≡ some (pos (timeIn (one .bytes)))
   -- "a breach names only parties that can be blamed, at a time from the start to the reading that showed it", here
   -- `one`
   pub breached : (before : List Call) (one : Call) (later : List Call) → calls ≡ before ++ (one ∷ later)

@@ -11,8 +11,7 @@ use lib.ListN.{length}
 use Rattle.csl.specs.Parties.{members, subset}
 use Rattle.csl.specs.Syntax.{Agreement}
 use Rattle.csl.specs.Check.{checked, accepted}
-use Rattle.csl.specs.Run.{Run}
-use Rattle.csl.specs.Table.{tableLength, runOf}
+use Rattle.csl.specs.Table.{Run, tableLength, runOf}
 use Rattle.csl.specs.Entries.{Forecast, noBreach, breachAt, forecastOf}
 use Rattle.csl.specs.Demand3.{AllBytes}
 use Rattle.csl.specs.Marks.{IsMark, timeIn, AllTimes, Breached, breachTable, ForecastFits}
@@ -32,7 +31,8 @@ pub record Foretells (a : Agreement) (mains : List ℕ) (us : List ℤ) (f : For
   pub fits : ForecastFits a mains f
   -- "A breached table gives its verdict.", and no mark alters it
   pub verdict : Breached us
-      → (now : ℕ) × (t : ℕ) × (b : ℕ) × (us ≡ breachTable now t b) × (f ≡ breachAt t b) × (lastTable us marks ≡ us)
+      → (now : ℕ) × (moved : ℕ) × (t : ℕ) × (b : ℕ) × (us ≡ breachTable now moved t b) × (f ≡ breachAt t b)
+      × (lastTable us marks ≡ us)
   -- "with forecast none, no mark breaches", and none it stays
   pub never : f ≡ noBreach → (Breached (lastTable us marks) → ⊥) × (f′ ≡ noBreach)
   -- while all marks are earlier than the forecast time: no breach, and the forecast stays as it was
@@ -43,12 +43,12 @@ pub record Foretells (a : Agreement) (mains : List ℕ) (us : List ℤ) (f : For
   pub atOnce : (t b : ℕ) → f ≡ breachAt t b → (Breached us → ⊥)
       → AllTimes (λ time. time ≤ t) (readingsIn marks)
       → ((Breached (lastTable us marks) → ⊥) × (f′ ≡ f))
-      ⊎ ((c : ℕ) × (lastTable us marks ≡ breachTable t t c) × (0 < c) × T (subset (members c) (members b)))
+      ⊎ ((c : ℕ) × (lastTable us marks ≡ breachTable t t t c) × (0 < c) × T (subset (members c) (members b)))
   -- "An accepted mark later than a forecast time gives just that breach": the first later one, and the breach stays
   pub given : (t b : ℕ) → f ≡ breachAt t b
       → (before : List Call) (one : Call) (later : List Call) → marks ≡ before ++ (one ∷ later)
       → (Breached (lastTable us before) → ⊥) → t < timeIn (one .bytes)
-      → (lastTable us marks ≡ breachTable (timeIn (one .bytes)) t b) × (f′ ≡ f)
+      → (lastTable us marks ≡ breachTable (timeIn (one .bytes)) (timeIn (one .bytes)) t b) × (f′ ≡ f)
 
 -- for every accepted agreement and every well-typed table, reached by readings or made by hand;
 -- the calls are what their contracts say of them

@@ -12,6 +12,7 @@ ghost use Rattle.monitor.specs.Steps.{indexLength, sightsLength, Goes, V
 ghost use Rattle.monitor.specs.Steps.{SomeReading, ReadAs};
 use arith::less;
 use cells::HEAD_CELLS;
+use cells::LAST_TIME;
 use cells::MOST_UNITS;
 use cells::TABLE_CELLS;
 use octets::unsigned32;
@@ -31,9 +32,6 @@ const PLACES: usize = 49;
 
 // The most values of a reading.
 const VALUES: usize = 4;
-
-// The head's cell of the last reading time.
-const LAST_TIME: usize = 1;
 
 // Two numbers for each unit say what is in sight there.
 const SIGHTS: usize = 2 * MOST_UNITS;

@@ -58,14 +58,14 @@ units-counted out (cells.running cs) (Breach t b) i = absurd i
 units-counted out (cells.running cs) (Running n) i = counted (i .units) (i .count) (i .size)
 
 -- over 128 are 11, others are written
-kept-over : (x : cells.Reduced) (now : ℕ) (before : List ℤ) {u : ℕ} → u ≡ min (unitsIn x) 129 → 128 < u
-    → answer 11 before ≡ keptCells now before x
+kept-over : (x : cells.Reduced) (now n : ℕ) (before : List ℤ) {u : ℕ} → u ≡ min (unitsIn x) 129 → 128 < u
+    → answer 11 before ≡ keptCells now n before x
 unfolding keptCells
-kept-over x now before e h = rw (lt-ltb 128 (unitsIn x) (omega arith)) refl
+kept-over x now n before e h = rw (lt-ltb 128 (unitsIn x) (omega arith)) refl
 
-module _ (r : Reduced) (out : List ℤ) (x : cells.Reduced) (i : Is x r out) (now : ℕ) (before : List ℤ) where
-  kept-few : {left : List ℤ} {q : Bool} → Settles now r out before left q → unitsOf r ≤ 128
-      → answer 0 left ≡ keptCells now before x
+module _ (r : Reduced) (out : List ℤ) (x : cells.Reduced) (i : Is x r out) (now n : ℕ) (before : List ℤ) where
+  kept-few : {left : List ℤ} {q : Bool} → Settles now n r out before left q → unitsOf r ≤ 128
+      → answer 0 left ≡ keptCells now n before x
   unfolding keptCells
   kept-few settles h = rw (
     le-ltb 128 (unitsIn x) (omega (arith, units-counted out x r i)),
@@ -139,13 +139,13 @@ module _ {s places sights : List ℕ} {us : List ℤ} {n : ℕ} {e : Event} {rs 
       }
 
       pub tried-room : {room : List ℤ} {u t : ℕ} {left : List ℤ} {q : Bool} → length room ≡ length out
-          → u ≡ unitsOf r → 24 * u ≤ length out → length out ≤ 3072 → t ≡ e .time → Settles t r out us left q
+          → u ≡ unitsOf r → 24 * u ≤ length out → length out ≤ 3072 → t ≡ e .time → Settles t n r out us left q
           → Tried s sights us n e rs room left u
       tried-room {left = left} same eu h l et settles = record {
         count = eu ∙ units-counted out (reduced s sights us n e rs) r i;
         fits = λ k. record {
-          is = subst (λ t. answer 0 left ≡ keptCells t us (reduced s sights us n e rs)) et
-              (kept-few r out (reduced s sights us n e rs) i _ us settles (omega (arith, eu)));
+          is = subst (λ t. answer 0 left ≡ keptCells t n us (reduced s sights us n e rs)) et
+              (kept-few r out (reduced s sights us n e rs) i _ n us settles (omega (arith, eu)));
         };
         kept = λ k. absurd (omega arith);
       }
@@ -155,7 +155,7 @@ module _ {s sights : List ℕ} {us : List ℤ} {n : ℕ} {e : Event} {rs room le
     (t : Tried s sights us n e rs room left u) where
   pub tried-over : length room ≤ 3072 → 128 < u → Advances s sights us n e rs left false
   tried-over l h = record {
-    is = ap (answer 11) (t .kept (omega arith)) ∙ kept-over (reduced s sights us n e rs) (e .time) us (t .count) h;
+    is = ap (answer 11) (t .kept (omega arith)) ∙ kept-over (reduced s sights us n e rs) (e .time) n us (t .count) h;
   }
 
   module _ (h : length room < 24 * u) where

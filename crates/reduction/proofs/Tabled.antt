@@ -16,7 +16,7 @@ use Rattle.csl.specs.Syntax.{Agreement, Clause, Join, and, or}
 use Rattle.csl.specs.Decode.{agreementOf, headsOf, clause, clauseHead, clauseBody, whole, wellFormed}
 use Rattle.csl.specs.Check.{checked, accepted}
 use Rattle.csl.specs.Outcomes.{Residue, Sight, Sort, anObligation, aChoice, unit, both, units, running}
-use Rattle.csl.specs.Table.{runOf, tableOf, padded, headCells, natCells, cellsOf, residueCells, unitCells, joinCells}
+use Rattle.csl.specs.Table.{runOf, padded, natCells, cellsOf, residueCells, unitCells, joinCells}
 use Rattle.csl.specs.Table.{joinNumber, sortNumber}
 use Rattle.csl.specs.Demand3.{needed}
 use Rattle.laws.proofs.Cells.{length-join, length-padded}
@@ -25,6 +25,7 @@ use Rattle.soundness.proofs.Decoding.{decode-is}
 use Rattle.soundness.proofs.Good.{Good, Ok, OkUnit}
 use Rattle.soundness.proofs.RoundTrip.{units-length, len-nats, len-cells, len-typed}
 use Rattle.soundness.proofs.Runs.{Since, cells-len, isFair, runAt}
+use Rattle.soundness.proofs.Moved.{units-behind, withZeros}
 use Rattle.soundness.proofs.ReadBack.{runOf-good, table-back}
 use Rattle.cells.specs.Across.{natOf}
 use Rattle.places.proofs.Found.{found-is}
@@ -176,18 +177,16 @@ module _ (s mains : List ℕ) (ck : checked s ≡ accepted (agreementOf s) mains
     sights-same (both j l r) ps ok = rw (sights-same l (ok .0) (ok .2), sights-same r (ok .1) (ok .3)) refl
 
   -- ---- a table that shows a running run
-  module _ (now : ℕ) (res : Residue) (us : List ℤ) (l : length us ≡ 3080)
-      (is : runOf ag mains us ≡ some (runAt now (running res))) where
-    units-behind : drop 8 us ≡ residueCells res
-        ++ replicate (3080 - length (headCells 1 now 0 0 (units res) ++ residueCells res)) (pos 0)
-    unfolding tableOf padded headCells natCells
-    units-behind = ap (drop 8) (sym (table-back ag mains us (runAt now (running res)) is l))
+  module _ (now m : ℕ) (res : Residue) (us : List ℤ) (l : length us ≡ 3080)
+      (is : runOf ag mains us ≡ some (runAt now m (running res))) where
+    units-there : drop 8 us ≡ withZeros (residueCells res)
+    units-there = ap (drop 8) (sym (table-back ag mains us (runAt now m (running res)) is l)) ∙ units-behind now m res
 
     module _ (sights : List ℕ) (taken : take (2 * units res) sights ≡ sightNumbers res) where
       pub sighted : sights ≡ sightsOf ag res ++ drop (2 * units res) sights
       unfolding Good
       sighted =
-          let inv = runOf-good ag mains us (runAt now (running res)) (isFair s ag mains ck) is in
+          let inv = runOf-good ag mains us (runAt now m (running res)) (isFair s ag mains ck) is in
           sym (take-append-drop (2 * units res) sights)
           ∙ ap (λ x. x ++ drop (2 * units res) sights)
           (taken ∙ sights-same now (inv .fits) res (inv .good .0) (inv .good .1))
@@ -195,14 +194,12 @@ module _ (s mains : List ℕ) (ck : checked s ≡ accepted (agreementOf s) mains
       pub has-tree : Tree (length s) sights (drop 8 us) (units res)
       unfolding Good needed
       has-tree =
-          let inv = runOf-good ag mains us (runAt now (running res)) (isFair s ag mains ck) is in
+          let inv = runOf-good ag mains us (runAt now m (running res)) (isFair s ag mains ck) is in
           record {
             residue = res;
             count = refl;
             few = inv .small;
-            stands = subst (TreeOf (length s) res sights) (sym units-behind)
-                (subst (λ q. TreeOf (length s) res q
-                (residueCells res ++ replicate (3080 - length (headCells 1 now 0 0 (units res) ++ residueCells res))
-                (pos 0))) (sym sighted) (residue-tree now (inv .fits) res (inv .good .0) (drop (2 * units res) sights)
-                _ (inv .good .1)));
+            stands = subst (TreeOf (length s) res sights) (sym units-there)
+                (subst (λ q. TreeOf (length s) res q (withZeros (residueCells res))) (sym sighted)
+                (residue-tree now (inv .fits) res (inv .good .0) (drop (2 * units res) sights) _ (inv .good .1)));
           }

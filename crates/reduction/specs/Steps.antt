@@ -44,6 +44,7 @@ pub record Due (s places sights : List ℕ) (us : List ℤ) (n : ℕ) (e : Event
   pub short : length s ≤ 16_384
   pub isTable : length us ≡ tableLength
   pub few : length rs ≤ 4
+  pub held : n ≤ 128
   pub soon : e .time < 4_294_967_296
   pub units : DueBy (e .step) (UnitsDue s sights us n e rs)
 
@@ -63,7 +64,7 @@ advanced false left = record { number = 11; table = left }
 
 pub record Advances (s sights : List ℕ) (us : List ℤ) (n : ℕ) (e : Event) (rs left : List ℤ) (fits : Bool)
     : Type 0 where
-  pub is : advanced fits left ≡ keptCells (e .time) us (reduced s sights us n e rs)
+  pub is : advanced fits left ≡ keptCells (e .time) n us (reduced s sights us n e rs)
 
 -- what comes of it needs so many units, counted up to 129: where `room` has cells for them, the table is written, else
 -- not

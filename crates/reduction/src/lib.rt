@@ -96,7 +96,7 @@ fn reduce_into(
     if UNIT_CELLS * units > out.len() {
         return units;
     }
-    settle(table, event.time as i64, r, out);
+    settle(table, used, event.time as i64, r, out);
     units
 }
 

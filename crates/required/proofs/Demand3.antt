@@ -5,17 +5,20 @@ use mathlib.Core.List.{List, [], _∷_, _++_}
 use mathlib.Core.Option.{some}
 use Prim.Native.Nat.{ℕ, _≤_, _<_}
 use lib.Dec.{T}
-use lib.IntN.{ℤ}
-use lib.ListN.{length}
+use lib.IntN.{ℤ, pos}
+use lib.ListN.{length, drop}
+use Rattle.csl.specs.Lists.{at}
 use Rattle.csl.specs.Parties.{subset}
 use Rattle.csl.specs.Syntax.{Agreement}
 use Rattle.csl.specs.Check.{checked, accepted}
 use Rattle.csl.specs.Outcomes.{breach, stuck}
 use Rattle.csl.specs.Rules.{Reading}
-use Rattle.csl.specs.Run.{Run, started, step}
-use Rattle.csl.specs.Table.{tableOf, runOf}
+use Rattle.csl.specs.Run.{started, step}
+use Rattle.csl.specs.Table.{Run, tableOf, runOf}
 use Rattle.csl.specs.Entries.{startOf}
-use Rattle.csl.specs.Demand3.{Bytes, AllBytes, fitting, reached, needed, NotStuck, IsBreach, runAfter, numbersBy}
+use Rattle.csl.specs.Demand3.{Bytes, AllBytes, fitting, reached, needed, NotStuck, IsBreach, Unaltered, runAfter}
+use Rattle.csl.specs.Demand3.{numbersBy}
+use Rattle.csl.specs.Marks.{timeIn}
 use Rattle.monitor.specs.declared.Started.{Started}
 use Rattle.monitor.specs.declared.Started.the-variants.{Begun}
 use Rattle.monitor.specs.Answers.{startAnswer}
@@ -94,6 +97,21 @@ module _ (s : List ℕ) (lent : List ℤ) (a : Agreement) (mains : List ℕ) (r 
     stays-breached : IsBreach (ran a before .outcome) → one .left ≡ lastTable us before
     unfolding runBy
     stays-breached = claim .final before one later split
+
+    -- paper 02, No. 1
+    moved-stays : (at (lastTable us before) 0 ≡ at (one .left) 0)
+        × (drop 8 (lastTable us before) ≡ drop 8 (one .left)) → at (one .left) 5 ≡ at (lastTable us before) 5
+    unfolding Unaltered
+    moved-stays = claim .stays before one later split
+
+    moved-moves : ((at (lastTable us before) 0 ≡ at (one .left) 0)
+        × (drop 8 (lastTable us before) ≡ drop 8 (one .left)) → ⊥)
+        → at (one .left) 5 ≡ some (pos (timeIn (one .bytes)))
+    unfolding Unaltered
+    moved-moves = claim .moves before one later split
+
+  moved-first : at us 5 ≡ some (pos (a .start))
+  moved-first = claim .movedFirst
 
   begins-unbreached : IsBreach ((started a) .run .outcome) → ⊥
   begins-unbreached = claim .unbreached

@@ -11,8 +11,7 @@ use Rattle.csl.specs.Lists.{at}
 use Rattle.csl.specs.Parties.{members, subset}
 use Rattle.csl.specs.Syntax.{Agreement}
 use Rattle.csl.specs.Check.{checked, accepted}
-use Rattle.csl.specs.Run.{Run}
-use Rattle.csl.specs.Table.{runOf}
+use Rattle.csl.specs.Table.{Run, runOf}
 use Rattle.csl.specs.Entries.{noBreach, breachAt, forecastOf}
 use Rattle.csl.specs.Demand3.{AllBytes}
 use Rattle.csl.specs.Marks.{AllTimes, Breached, ForecastFits, breachTable, timeIn}
@@ -40,8 +39,8 @@ module _ (s : List ℕ) (a : Agreement) (mains : List ℕ) (us : List ℤ) (q : 
   fits = claim .fits
 
   verdict : Breached us
-      → (now : ℕ) × (t : ℕ) × (b : ℕ) × (us ≡ breachTable now t b) × (forecastAnswer r ≡ breachAt t b)
-      × (lastTable us marks ≡ us)
+      → (now : ℕ) × (moved : ℕ) × (t : ℕ) × (b : ℕ) × (us ≡ breachTable now moved t b)
+      × (forecastAnswer r ≡ breachAt t b) × (lastTable us marks ≡ us)
   verdict = claim .verdict
 
   never : forecastAnswer r ≡ noBreach → (Breached (lastTable us marks) → ⊥) × (forecastAnswer r′ ≡ noBreach)
@@ -55,11 +54,12 @@ module _ (s : List ℕ) (a : Agreement) (mains : List ℕ) (us : List ℤ) (q : 
   at-once : (t b : ℕ) → forecastAnswer r ≡ breachAt t b → (Breached us → ⊥)
       → AllTimes (λ time. time ≤ t) (readingsIn marks)
       → ((Breached (lastTable us marks) → ⊥) × (forecastAnswer r′ ≡ forecastAnswer r))
-      ⊎ ((c : ℕ) × (lastTable us marks ≡ breachTable t t c) × (0 < c) × T (subset (members c) (members b)))
+      ⊎ ((c : ℕ) × (lastTable us marks ≡ breachTable t t t c) × (0 < c) × T (subset (members c) (members b)))
   at-once = claim .atOnce
 
   given : (t b : ℕ) → forecastAnswer r ≡ breachAt t b
       → (before : List Call) (one : Call) (later : List Call) → marks ≡ before ++ (one ∷ later)
       → (Breached (lastTable us before) → ⊥) → t < timeIn (one .bytes)
-      → (lastTable us marks ≡ breachTable (timeIn (one .bytes)) t b) × (forecastAnswer r′ ≡ forecastAnswer r)
+      → (lastTable us marks ≡ breachTable (timeIn (one .bytes)) (timeIn (one .bytes)) t b)
+      × (forecastAnswer r′ ≡ forecastAnswer r)
   given = claim .given

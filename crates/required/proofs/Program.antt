@@ -8,8 +8,7 @@ use Prim.Native.Nat.{ℕ}
 use lib.IntN.{ℤ}
 use lib.ListN.{length, take}
 use Rattle.csl.specs.Syntax.{Agreement}
-use Rattle.csl.specs.Run.{Run}
-use Rattle.csl.specs.Table.{runOf, tableOf}
+use Rattle.csl.specs.Table.{Run, runOf, tableOf}
 use Rattle.soundness.proofs.Walks.{Fair}
 use Rattle.soundness.proofs.Runs.{Inv}
 use Rattle.soundness.proofs.ReadBack.{well-typed}
@@ -35,5 +34,5 @@ lines-tried = trials-pass
 -- 7 does not apply to 3,080 cells if and only if they are the table of a well-typed run
 tables-typed : (a : Agreement) (mains : List ℕ) (cells : List ℤ) → Fair a mains → length cells ≡ 3080
     → ((q : Run) × (runOf a mains cells ≡ some q))
-    ↔ ((q : Run) × Inv a mains (q .lastTime) (q .outcome) × (cells ≡ tableOf q))
+    ↔ ((q : Run) × Inv a mains (q .lastTime) (q .lastMoved) (q .outcome) × (cells ≡ tableOf q))
 tables-typed = well-typed

@@ -18,7 +18,7 @@ use Rattle.csl.specs.Rules.{Reading, activate, follow, forecast}
 use Rattle.csl.specs.Run.{started}
 use Rattle.csl.specs.Table.{tableOf}
 use Rattle.csl.specs.Entries.{forecastOf, shown, startOf}
-use Rattle.csl.specs.Demand3.{AllBytes, Bytes, NotStuck, fitting}
+use Rattle.csl.specs.Demand3.{AllBytes, Bytes, NotStuck, fitting, runAfter}
 use Rattle.soundness.proofs.Evaluation.{HaveTy}
 use Rattle.published.specs.Fig6.{Evaluates}
 use Rattle.published.specs.Fig8.{Activates, Follows, sightOf}
@@ -39,7 +39,8 @@ module _ (bytes : List ℕ) (a : Agreement) (mains : List ℕ) (cells : List ℤ
 
   one-run : (f : Outcome) × (t : ℕ) × (o : Outcome)
       × Activates (a .templates) (sightOf [] []) (a .start) (a .main) f × Runs a (a .start) f readings t o
-      × (tableLeft bytes ((startOf bytes cells) .table) readings ≡ tableOf (record { lastTime = t; outcome = o }))
+      × (tableLeft bytes ((startOf bytes cells) .table) readings ≡ tableOf
+      (record { lastTime = t; lastMoved = runAfter a ((started a) .run) readings .lastMoved; outcome = o }))
   one-run = (claim .first, claim .time, claim .last, claim .activated, claim .run, claim .table)
 
   no-other : (f o : Outcome) (t : ℕ)
@@ -53,7 +54,11 @@ module _ (bytes : List ℕ) (a : Agreement) (mains : List ℕ) (cells : List ℤ
 
   one-verdict : (res : Residue) → claim .last ≡ running res
       → (ν : Outcome) × Foretells a res ν × ((q : Outcome) → Foretells a res q → q ≡ ν)
-      × (forecastOf bytes (tableOf (record { lastTime = claim .time; outcome = claim .last })) ≡ shown ν)
+      × (forecastOf bytes (tableOf (record {
+        lastTime = claim .time;
+        lastMoved = runAfter a ((started a) .run) readings .lastMoved;
+        outcome = claim .last;
+      })) ≡ shown ν)
   one-verdict = claim .ahead
 
 -- where templates are guarded, the rules derive just what the definitions compute

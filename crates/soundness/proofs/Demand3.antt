@@ -1,7 +1,7 @@
 -- What demand 3 rests on: a run of an accepted, started agreement keeps to the invariant through every list of
 -- readings,
 -- and what it does with one more reading, whatever its bytes. Main theorems: `start-inv`, `after-inv`, `step-taken`,
--- `step-eleven`, `step-shows`.
+-- `step-eleven`, `step-shows`, `step-stays`, `step-moves`.
 use mathlib.Core.Bool.{Bool, false, not, true}
 use mathlib.Core.List.{List, [], _∷_}
 use mathlib.Core.Logic.{inl, inr, _↔_, _≢_, _⊎_}
@@ -10,6 +10,8 @@ use mathlib.Core.Path.{ap, refl, subst, sym, _∙_, _≡_}
 use Prim.Native.Nat.{_<_, suc, zero, ℕ, _≤_}
 use native.Mathlib.Omega.{arith}
 use lib.Dec.{T, nltb→le}
+use lib.IntN.{pos}
+use lib.ListN.{drop}
 use Rattle.csl.specs.Lists.{_>>=_, all, at}
 use Rattle.csl.specs.Parties.{subset}
 use Rattle.csl.specs.Syntax.{Agreement, Clause, Join, Template, and, badClause, choice, fulfilled, if, instance, join}
@@ -18,41 +20,43 @@ use Rattle.csl.specs.Check.{accepted, checked}
 use Rattle.csl.specs.Values.{Val, evalBool, evals}
 use Rattle.csl.specs.Outcomes.{Outcome, Sight, breach, done, joinBoth, joinEither, joined, orStuck, running, stuck}
 use Rattle.csl.specs.Rules.{Reading, activate, activating, blamedAll, during, walk, walkIn}
-use Rattle.csl.specs.Run.{Run, Stepped, kept, started, step, tooMany}
-use Rattle.csl.specs.Table.{standFor}
-use Rattle.csl.specs.Demand3.{AllBytes, Bytes, IsBreach, fitting, needed, reached, runAfter}
+use Rattle.csl.specs.Run.{Stepped, kept, started, step, tooMany}
+use Rattle.csl.specs.Table.{Run, headCells, natCells, padded, standFor, tableOf}
+use Rattle.csl.specs.Demand3.{AllBytes, Bytes, IsBreach, NotStuck, Unaltered, fitting, needed, reached, runAfter}
+use Rattle.csl.specs.Marks.{timeIn}
 use Rattle.laws.proofs.Options.{some-none, some-inj}
 use Rattle.soundness.proofs.Members.{In, Sub, stand-in}
 use Rattle.soundness.proofs.Evaluation.{HaveTy}
 use Rattle.soundness.proofs.Good.{Good, good-sub}
 use Rattle.soundness.proofs.Walks.{blamed-constant, stands-blamed}
 use Rattle.soundness.proofs.Activation.{activate-good}
-use Rattle.soundness.proofs.Readings.{start-lt}
-use Rattle.soundness.proofs.Runs.{Case, InvOf, Since, moved, breach-ok, cases, backward, few-mains, final}
+use Rattle.soundness.proofs.Readings.{fitting-time, start-lt}
+use Rattle.soundness.proofs.Runs.{CaseOf, InvOf, Since, taken, breach-ok, case-of, backward, few-mains, final}
 use Rattle.soundness.proofs.Runs.{isFair}
 use Rattle.soundness.proofs.Runs.{isPassed, many, misfit, not-stuck, reached-good, runAt, step-inv, stepped}
 use Rattle.soundness.proofs.Runs.{tooMany-is}
+use Rattle.soundness.proofs.Moved.{moved-no, moved-yes}
 
 -- ---- one more reading
-module _ (a : Agreement) (now : ℕ) (o : Outcome) (r : List ℕ) where
+module _ (a : Agreement) (q : Run) (r : List ℕ) where
   abbrev next : Stepped
-  next = step a (runAt now o) r
+  next = step a q r
 
   -- the reading fits, is not earlier than the last, and what it reaches needs so many units
   abbrev Fits : (ℕ → Type 0) → Type 0
-  Fits P = (d : Reading) × (fitting a r ≡ some d) × (now ≤ d .time) × P (needed (reached a o d))
+  Fits P = (d : Reading) × (fitting a r ≡ some d) × (q .lastTime ≤ d .time) × P (needed (reached a (q .outcome) d))
 
   same-reading : (d d′ : Reading) → fitting a r ≡ some d → fitting a r ≡ some d′ → d ≡ d′
   same-reading d d′ e f = some-inj (sym e ∙ f)
 
   -- a reading is one reading
   fits-only : (P : ℕ → Type 0) (d : Reading) → fitting a r ≡ some d → Fits P
-      → (now ≤ d .time) × P (needed (reached a o d))
-  fits-only P d f h = subst (λ x. (now ≤ x .time) × P (needed (reached a o x))) (same-reading (h .0) d (h .1) f)
-      (h .2, h .3)
+      → (q .lastTime ≤ d .time) × P (needed (reached a (q .outcome) d))
+  fits-only P d f h = subst (λ x. (q .lastTime ≤ x .time) × P (needed (reached a (q .outcome) x)))
+      (same-reading (h .0) d (h .1) f) (h .2, h .3)
 
-  numbered : (k n : ℕ) (q : Run) → next ≡ stepped n q → next .number ≡ k → n ≡ k
-  numbered k n q e z = sym (ap (λ s. s .number) e) ∙ z
+  numbered : (k n : ℕ) (p : Run) → next ≡ stepped n p → next .number ≡ k → n ≡ k
+  numbered k n p e z = sym (ap (λ s. s .number) e) ∙ z
 
   -- 8 and 9 are neither 0 nor 11
   eight-or-nine : (n k : ℕ) → (n ≡ 8) ⊎ (n ≡ 9) → n ≡ k → (k ≡ 0) ⊎ (k ≡ 11) → ⊥
@@ -62,7 +66,7 @@ module _ (a : Agreement) (now : ℕ) (o : Outcome) (r : List ℕ) where
   eight-or-nine n k (inr p) q (inr s) = omega arith
 
   -- 0 if and only if it fits, is not earlier and needs at most 128 units
-  pub step-taken : Case a now o r → (next .number ≡ 0) ↔ Fits (λ n. n ≤ 128)
+  pub step-taken : CaseOf a q r → (next .number ≡ 0) ↔ Fits (λ n. n ≤ 128)
   step-taken (misfit n w f e) = (
     λ z. absurd (eight-or-nine n 0 w (numbered 0 n _ e z) (inl refl)),
     λ h. some-none f (h .1),
@@ -75,11 +79,11 @@ module _ (a : Agreement) (now : ℕ) (o : Outcome) (r : List ℕ) where
     λ z. let q : _≡_ {A = ℕ} 11 0 = numbered 0 11 _ e z in absurd (omega arith),
     λ h. let t = fits-only (λ n. n ≤ 128) d f h in absurd (omega (arith, t .1)),
   )
-  step-taken (moved d f le nd nb ok lt e) = (λ z. (d, f, le, nd), λ h. ap (λ s. s .number) e)
+  step-taken (taken d f le nd nb ok lt e) = (λ z. (d, f, le, nd), λ h. ap (λ s. s .number) e)
   step-taken (final d f le ib nd e) = (λ z. (d, f, le, nd), λ h. ap (λ s. s .number) e)
 
   -- 11 if and only if it fits, is not earlier and needs more
-  pub step-eleven : Case a now o r → (next .number ≡ 11) ↔ Fits (λ n. 128 < n)
+  pub step-eleven : CaseOf a q r → (next .number ≡ 11) ↔ Fits (λ n. 128 < n)
   step-eleven (misfit n w f e) = (
     λ z. absurd (eight-or-nine n 11 w (numbered 11 n _ e z) (inr refl)),
     λ h. some-none f (h .1),
@@ -89,7 +93,7 @@ module _ (a : Agreement) (now : ℕ) (o : Outcome) (r : List ℕ) where
     λ h. let t = fits-only (λ n. 128 < n) d f h in absurd (omega (arith, t .0)),
   )
   step-eleven (many d f le nd e) = (λ z. (d, f, le, nd), λ h. ap (λ s. s .number) e)
-  step-eleven (moved d f le nd nb ok lt e) = (
+  step-eleven (taken d f le nd nb ok lt e) = (
     λ z. let q : _≡_ {A = ℕ} 0 11 = numbered 11 0 _ e z in absurd (omega arith),
     λ h. let t = fits-only (λ n. 128 < n) d f h in absurd (omega (arith, t .1)),
   )
@@ -99,20 +103,57 @@ module _ (a : Agreement) (now : ℕ) (o : Outcome) (r : List ℕ) where
   )
 
   -- a refusal changes nothing
-  pub step-refused : Case a now o r → next .number ≢ 0 → next .run ≡ runAt now o
+  pub step-refused : CaseOf a q r → next .number ≢ 0 → next .run ≡ q
   step-refused (misfit n w f e) nz = ap (λ s. s .run) e
   step-refused (backward d f lt e) nz = ap (λ s. s .run) e
   step-refused (many d f le nd e) nz = ap (λ s. s .run) e
-  step-refused (moved d f le nd nb ok lt e) nz = absurd (nz (ap (λ s. s .number) e))
+  step-refused (taken d f le nd nb ok lt e) nz = absurd (nz (ap (λ s. s .number) e))
   step-refused (final d f le ib nd e) nz = ap (λ s. s .run) e
 
   -- nor does anything after a breach
-  pub step-final : Case a now o r → IsBreach o → next .run ≡ runAt now o
+  pub step-final : CaseOf a q r → IsBreach (q .outcome) → next .run ≡ q
   step-final (misfit n w f e) b = ap (λ s. s .run) e
   step-final (backward d f lt e) b = ap (λ s. s .run) e
   step-final (many d f le nd e) b = ap (λ s. s .run) e
-  step-final (moved d f le nd nb ok lt e) b = absurd (nb b)
+  step-final (taken d f le nd nb ok lt e) b = absurd (nb b)
   step-final (final d f le ib nd e) b = ap (λ s. s .run) e
+
+  -- ---- when it last moved
+  unmoved : {p : Run} → p ≡ q → Unaltered (tableOf q) (tableOf p)
+  unfolding Unaltered
+  unmoved e = (ap (λ p. at (tableOf p) 0) (sym e), ap (λ p. drop 8 (tableOf p)) (sym e))
+
+  -- where neither a unit cell nor the state cell holds another number it stays
+  pub step-stays : CaseOf a q r → Unaltered (tableOf q) (tableOf (next .run))
+      → next .run .lastMoved ≡ q .lastMoved
+  step-stays (misfit n w f e) u = ap (λ s. s .run .lastMoved) e
+  step-stays (backward d f lt e) u = ap (λ s. s .run .lastMoved) e
+  step-stays (many d f le nd e) u = ap (λ s. s .run .lastMoved) e
+  step-stays (taken d f le nd nb ok lt e) u = ap (λ s. s .run .lastMoved) e
+      ∙ moved-no (q .lastTime) (q .lastMoved) (q .outcome) (d .time) (reached a (q .outcome) d)
+      (subst (λ s. Unaltered (tableOf q) (tableOf (s .run))) e u)
+  step-stays (final d f le ib nd e) u = ap (λ s. s .run .lastMoved) e
+
+  -- and where one does it is the reading's time
+  pub step-moves : CaseOf a q r → (Unaltered (tableOf q) (tableOf (next .run)) → ⊥)
+      → next .run .lastMoved ≡ timeIn r
+  step-moves (misfit n w f e) h = absurd (h (unmoved (ap (λ s. s .run) e)))
+  step-moves (backward d f lt e) h = absurd (h (unmoved (ap (λ s. s .run) e)))
+  step-moves (many d f le nd e) h = absurd (h (unmoved (ap (λ s. s .run) e)))
+  step-moves (taken d f le nd nb ok lt e) h = ap (λ s. s .run .lastMoved) e
+      ∙ moved-yes (q .lastTime) (q .lastMoved) (q .outcome) (d .time) (reached a (q .outcome) d)
+      (subst (λ s. Unaltered (tableOf q) (tableOf (s .run)) → ⊥) e h) ∙ fitting-time a r d f
+  step-moves (final d f le ib nd e) h = absurd (h (unmoved (ap (λ s. s .run) e)))
+
+-- its cell
+pub moved-cell : (q : Run) → NotStuck (q .outcome) → at (tableOf q) 5 ≡ some (pos (q .lastMoved))
+moved-cell q = go (q .lastTime) (q .lastMoved) (q .outcome)
+  where
+    go : (t m : ℕ) (o : Outcome) → NotStuck o → at (tableOf (runAt t m o)) 5 ≡ some (pos m)
+    go t m done ns = unfold tableOf padded headCells natCells at in refl
+    go t m (breach u ps) ns = unfold tableOf padded headCells natCells at in refl
+    go t m (running res) ns = unfold tableOf padded headCells natCells at in refl
+    go t m stuck ns = unfold NotStuck in absurd ns
 
 -- ---- a start shows no breach: what is activated waits or is fulfilled
 Unbreached : Outcome → Type 0
@@ -185,22 +226,22 @@ module _ (bytes : List ℕ) (a : Agreement) (mains : List ℕ) (ck : checked byt
       → (step a q r) .run .outcome ≡ breach t ps
       → (d : Reading) × (fitting a r ≡ some d) × (ps ≢ []) × T (subset ps mains) × (a .start ≤ t) × (t ≤ d .time)
   unfolding IsBreach
-  step-shows q r i nb t ps b = go (cases a (q .lastTime) (q .outcome) r
+  step-shows q r i nb t ps b = go (case-of a q r
       (not-stuck a mains (q .lastTime) (q .outcome) (i .good)))
     where
       unmoved : (n : ℕ) → step a q r ≡ stepped n q → ⊥
       unmoved n e = nb (subst IsBreach (sym (sym (ap (λ s. s .run .outcome) e) ∙ b)) tt)
 
-      go : Case a (q .lastTime) (q .outcome) r
+      go : CaseOf a q r
           → (d : Reading) × (fitting a r ≡ some d) × (ps ≢ []) × T (subset ps mains) × (a .start ≤ t) × (t ≤ d .time)
       go (misfit n w f e) = absurd (unmoved n e)
       go (backward d f lt e) = absurd (unmoved 10 e)
       go (many d f le nd e) = absurd (unmoved 11 e)
-      go (moved d f le nd nb′ ok lt e) =
+      go (taken d f le nd nb′ ok lt e) =
           let reaches : reached a (q .outcome) d ≡ breach t ps = sym (ap (λ s. s .run .outcome) e) ∙ b in
           let k = breach-ok a mains (d .time) t ps
           (subst (Good a (Since a (d .time)) mains) reaches
-          (reached-good bytes a mains ck (q .lastTime) (q .outcome) d le ok nb i)) in
+          (reached-good bytes a mains ck (q .lastTime) (q .lastMoved) (q .outcome) d le ok nb i)) in
           (d, f, k .0, k .1, k .2, k .3)
       go (final d f le ib nd e) = absurd (nb ib)
 
@@ -222,33 +263,45 @@ module _ (bytes : List ℕ) (a : Agreement) (mains : List ℕ) (ck : checked byt
       (record { count = refl; fewParams = omega arith; range = tt; values = tt }) (omega arith, omega arith)
       ((isFair bytes a mains ck) .main) ((isFair bytes a mains ck) .mainPlaced))
 
+  begun : Run
+  begun = runAt (a .start) (a .start) first
+
   choose : Bool → Stepped
-  choose b = elim b [ true ↦ stepped 11 (runAt (a .start) first) | false ↦ stepped 0 (runAt (a .start) first) ]
+  choose b = elim b [ true ↦ stepped 11 begun | false ↦ stepped 0 begun ]
 
   pub start-inv : Bytes bytes → (started a) .number ≡ 0 → Sound ((started a) .run)
-  unfolding started kept first choose
+  unfolding started kept first begun choose
   start-inv hb h = go (tooMany first) refl h
     where
       go : (b : Bool) → tooMany first ≡ b → (choose b) .number ≡ 0 → Sound ((choose b) .run)
       go true e q = absurd (omega arith)
       go false e q = record {
         from = omega arith;
+        to = omega arith;
         fits = start-lt bytes a hb ((isPassed bytes a mains ck) .decodes);
         good = first-good;
         small = nltb→le 128 (needed first) (subst (λ b. T (not b)) (sym e ∙ tooMany-is first) tt);
       }
 
   pub start-unbreached : IsBreach ((started a) .run .outcome) → ⊥
-  unfolding started kept first choose activate during Unbreached
+  unfolding started kept first begun choose activate during Unbreached
   start-unbreached = go (tooMany first)
     where
       go : (b : Bool) → IsBreach ((choose b) .run .outcome) → ⊥
       go true = walkIn-unbreached (a .templates) _ (a .main) _ (a .start)
       go false = walkIn-unbreached (a .templates) _ (a .main) _ (a .start)
 
+  pub start-moved : (started a) .run .lastMoved ≡ a .start
+  unfolding started kept first begun choose
+  start-moved = go (tooMany first)
+    where
+      go : (b : Bool) → (choose b) .run .lastMoved ≡ a .start
+      go true = refl
+      go false = refl
+
   -- ---- every list of readings, whatever their bytes
   pub after-inv : (q : Run) (rs : List (List ℕ)) → AllBytes rs → Sound q → Sound (runAfter a q rs)
   unfolding runAfter AllBytes
   after-inv q [] h i = i
   after-inv q (r ∷ rs) h i = after-inv ((step a q r) .run) rs (h .1)
-      (step-inv bytes a mains ck (q .lastTime) (q .outcome) r (h .0) i)
+      (step-inv bytes a mains ck q r (h .0) i)

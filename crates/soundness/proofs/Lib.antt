@@ -12,6 +12,7 @@ pub mod Decoding
 pub mod Checked
 pub mod Readings
 pub mod Runs
+pub mod Moved
 pub mod Demand3
 pub mod ReadBack
 pub mod Forecasts

@@ -17,9 +17,8 @@ use Rattle.csl.specs.Typing.{joinOk, namesOf, typeClause, typed}
 use Rattle.csl.specs.Values.{Val, asNat, valueOf, valuesOf}
 use Rattle.csl.specs.Outcomes.{Outcome, Residue, Sort, aChoice, anObligation, both, unit, units}
 use Rattle.csl.specs.Places.{Found, clauseAt, find, findIn}
-use Rattle.csl.specs.Run.{Run}
 use Rattle.csl.specs.Table.{HeadNumbers, UnitSort, addUnit, asNats, cellsOf, headCells, headNumbers, isSort, isZero}
-use Rattle.csl.specs.Table.{joinCells, joinNumber, joining, natCells, padded, push, readState, residueCells}
+use Rattle.csl.specs.Table.{Run, joinCells, joinNumber, joining, natCells, padded, push, readState, residueCells}
 use Rattle.csl.specs.Table.{residueParties, runOf, single, sortNumber, standFor, tableOf, trees, unitCells, unitSort}
 use Rattle.csl.specs.Table.{waiting, waitingUnit}
 use Rattle.csl.specs.Demand3.{needed}
@@ -121,14 +120,22 @@ two-are (x ∷ []) a b l p q = absurd (omega arith)
 two-are (x ∷ y ∷ []) a b l p q = cc
 two-are (x ∷ y ∷ z ∷ ns) a b l p q = absurd (omega arith)
 
-five-are : (ns : List ℕ) (a b c d e : ℕ) → length ns ≡ 5 → at ns 0 ≡ some a → at ns 1 ≡ some b → at ns 2 ≡ some c
-    → at ns 3 ≡ some d → at ns 4 ≡ some e → ns ≡ a ∷ b ∷ c ∷ d ∷ e ∷ []
+cons-is : {x a : ℕ} {ns bs : List ℕ} → some x ≡ some a → ns ≡ bs → x ∷ ns ≡ a ∷ bs
+cons-is p e = ap₂ (λ k m. k ∷ m) (some-inj p) e
+
+four-are : (ns : List ℕ) (a b c d : ℕ) → length ns ≡ 4 → at ns 0 ≡ some a → at ns 1 ≡ some b → at ns 2 ≡ some c
+    → at ns 3 ≡ some d → ns ≡ a ∷ b ∷ c ∷ d ∷ []
 unfolding at
-five-are [] a b c d e l p q r s t = absurd (omega arith)
-five-are (x ∷ []) a b c d e l p q r s t = absurd (omega arith)
-five-are (x ∷ y ∷ []) a b c d e l p q r s t = absurd (omega arith)
-five-are (x ∷ y ∷ z ∷ ns) a b c d e l p q r s t = ap₂ (λ k m. k ∷ m) (some-inj p)
-    (ap₂ (λ k m. k ∷ m) (some-inj q) (ap₂ (λ k m. k ∷ m) (some-inj r) (two-are ns d e (omega arith) s t)))
+four-are [] a b c d l p q r s = absurd (omega arith)
+four-are (x ∷ []) a b c d l p q r s = absurd (omega arith)
+four-are (x ∷ y ∷ ns) a b c d l p q r s = cons-is p (cons-is q (two-are ns c d (omega arith) r s))
+
+six-are : (ns : List ℕ) (a b c d e f : ℕ) → length ns ≡ 6 → at ns 0 ≡ some a → at ns 1 ≡ some b → at ns 2 ≡ some c
+    → at ns 3 ≡ some d → at ns 4 ≡ some e → at ns 5 ≡ some f → ns ≡ a ∷ b ∷ c ∷ d ∷ e ∷ f ∷ []
+unfolding at
+six-are [] a b c d e f l p q r s t u = absurd (omega arith)
+six-are (x ∷ []) a b c d e f l p q r s t u = absurd (omega arith)
+six-are (x ∷ y ∷ ns) a b c d e f l p q r s t u = cons-is p (cons-is q (four-are ns c d e f (omega arith) r s t u))
 
 -- ---- units
 unfoldable numberOf : UnitSort → ℕ
@@ -321,10 +328,10 @@ some-member n h t = go (members n) (bits-members n h)
 
 -- ---- whole tables
 head-is : (cells : List ℤ) (h : HeadNumbers) → headNumbers cells ≡ some h → length cells ≡ 8
-    → cells ≡ headCells (h .state) (h .now) (h .time) (h .parties) (h .used)
+    → cells ≡ headCells (h .state) (h .now) (h .time) (h .parties) (h .used) (h .moved)
 unfolding headNumbers headCells natCells
 head-is cells h e l =
-    from-bind (split 5 cells) _ h e λ s a₁ b₁. let i = split-is 5 cells s a₁ in
+    from-bind (split 6 cells) _ h e λ s a₁ b₁. let i = split-is 6 cells s a₁ in
     from-need (all isZero (s .1)) _ h b₁ λ t b₂.
     from-bind (asNats (s .0)) _ h b₂ λ ns a₃ b₃. let j = nats-are (s .0) ns a₃ in
     from-bind (at ns 0) _ h b₃ λ a a₄ b₄.
@@ -332,17 +339,18 @@ head-is cells h e l =
     from-bind (at ns 2) _ h b₅ λ c a₆ b₆.
     from-bind (at ns 3) _ h b₆ λ d a₇ b₇.
     from-bind (at ns 4) _ h b₇ λ u a₈ b₈.
-    let three : length (s .1) ≡ 3 = omega (arith, i .2) in
-    i .0 ∙ ap₂ _++_ (j ∙ ap natCells (five-are ns a b c d u (sym (len-nats ns) ∙ sym (ap length j) ∙ i .1) a₄ a₅ a₆ a₇
-    a₈)) (zeros-are (s .1) t ∙ ap (λ k. replicate k (pos 0)) three)
-    ∙ ap (λ h. headCells (h .state) (h .now) (h .time) (h .parties) (h .used)) (some-inj b₈)
+    from-bind (at ns 5) _ h b₈ λ m a₉ b₉.
+    let two : length (s .1) ≡ 2 = omega (arith, i .2) in
+    i .0 ∙ ap₂ _++_ (j ∙ ap natCells (six-are ns a b c d u m (sym (len-nats ns) ∙ sym (ap length j) ∙ i .1) a₄ a₅ a₆ a₇
+    a₈ a₉)) (zeros-are (s .1) t ∙ ap (λ k. replicate k (pos 0)) two)
+    ∙ ap (λ h. headCells (h .state) (h .now) (h .time) (h .parties) (h .used) (h .moved)) (some-inj b₉)
 
 module _ (ag : Agreement) (mains : List ℕ) (h : HeadNumbers) (cells : List ℤ) where
   -- the outcome read is well typed, and head and cells are its table
   unfoldable StateIs : ℕ → Outcome → Type 0
   StateIs n o = (Fair ag mains → Good ag (Since ag (h .now)) mains o × (needed o ≤ 128))
-      × (length cells ≡ 3072 → headCells n (h .now) (h .time) (h .parties) (h .used)
-      ++ cells ≡ tableOf (runAt (h .now) o))
+      × (length cells ≡ 3072 → headCells n (h .now) (h .time) (h .parties) (h .used) (h .moved)
+      ++ cells ≡ tableOf (runAt (h .now) (h .moved) o))
 
   state-is : (n : ℕ) (o : Outcome) → readState ag mains h cells n ≡ some o → StateIs n o
   unfolding readState StateIs Good needed tableOf Shapes unitsIn cellsIn headCells natCells
@@ -369,8 +377,8 @@ module _ (ag : Agreement) (mains : List ℕ) (h : HeadNumbers) (cells : List ℤ
           eqb→eq (h .parties) 0 (T-right (eqb (h .time) 0) _ u),
           used,
         )
-            (ap (λ x. headCells 1 (h .now) 0 0 (units r) ++ x) same
-            ∙ filled 3080 (headCells 1 (h .now) 0 0 (units r) ++ residueCells r) (i .zeros) (i .allZero)
+            (ap (λ x. headCells 1 (h .now) 0 0 (units r) (h .moved) ++ x) same
+            ∙ filled 3080 (headCells 1 (h .now) 0 0 (units r) (h .moved) ++ residueCells r) (i .zeros) (i .allZero)
             (omega (arith, l, ap length same))),
       )
   state-is (suc (suc zero)) o e =
@@ -384,7 +392,7 @@ module _ (ag : Agreement) (mains : List ℕ) (h : HeadNumbers) (cells : List ℤ
           eqb→eq (h .parties) 0 (T-right (eqb (h .time) 0) _ v),
           eqb→eq (h .used) 0 (T-right (eqb (h .time) 0 && eqb (h .parties) 0) _ u),
         )
-            (filled 3080 (headCells 2 (h .now) 0 0 0) cells
+            (filled 3080 (headCells 2 (h .now) 0 0 0 (h .moved)) cells
             (T-right (eqb (h .time) 0 && eqb (h .parties) 0 && eqb (h .used) 0) _ t) (omega arith)),
       )
   state-is (suc (suc (suc zero))) o e =
@@ -407,26 +415,28 @@ module _ (ag : Agreement) (mains : List ℕ) (h : HeadNumbers) (cells : List ℤ
           ),
           omega arith,
         )),
-        λ l. filled 3080 (headCells 3 (h .now) (h .time) (h .parties) (h .used)) cells t₇ (omega arith)
-            ∙ ap₂ (λ b u. padded 3080 (headCells 3 (h .now) (h .time) b u)) (sym (bits-members (h .parties) small))
-            (eqb→eq (h .used) 0 t₆),
+        λ l. filled 3080 (headCells 3 (h .now) (h .time) (h .parties) (h .used) (h .moved)) cells t₇ (omega arith)
+            ∙ ap₂ (λ b u. padded 3080 (headCells 3 (h .now) (h .time) b u (h .moved)))
+            (sym (bits-members (h .parties) small)) (eqb→eq (h .used) 0 t₆),
       )
   state-is (suc (suc (suc (suc n)))) o e = impossible cc
 
 -- a run that is read, from any cells, is well typed
 pub runOf-good : (a : Agreement) (mains : List ℕ) (cells : List ℤ) (q : Run) → Fair a mains
-    → runOf a mains cells ≡ some q → Inv a mains (q .lastTime) (q .outcome)
+    → runOf a mains cells ≡ some q → Inv a mains (q .lastTime) (q .lastMoved) (q .outcome)
 unfolding runOf StateIs
 runOf-good a mains cells q fr e =
     from-bind (split 8 cells) _ q e λ s a₁ b₁.
     from-bind (headNumbers (s .0)) _ q b₁ λ h a₂ b₂.
-    from-need (leb (a .start) (h .now) && ltb (h .now) (2 ^ 32)) _ q b₂ λ t b₃.
+    from-need (leb (a .start) (h .moved) && leb (h .moved) (h .now) && ltb (h .now) (2 ^ 32)) _ q b₂ λ t b₃.
     from-bind (readState a mains h (s .1) (h .state)) _ q b₃ λ o a₄ b₄.
     let i = (state-is a mains h (s .1) (h .state) o a₄) .0 fr in
-    subst (λ q. Inv a mains (q .lastTime) (q .outcome)) (some-inj b₄)
+    let since = T-left (leb (a .start) (h .moved) && leb (h .moved) (h .now)) _ t in
+    subst (λ q. Inv a mains (q .lastTime) (q .lastMoved) (q .outcome)) (some-inj b₄)
     (record {
-      from = leb→le (a .start) (h .now) (T-left (leb (a .start) (h .now)) _ t);
-      fits = ltb→lt (h .now) (2 ^ 32) (T-right (leb (a .start) (h .now)) _ t);
+      from = leb→le (a .start) (h .moved) (T-left (leb (a .start) (h .moved)) _ since);
+      to = leb→le (h .moved) (h .now) (T-right (leb (a .start) (h .moved)) _ since);
+      fits = ltb→lt (h .now) (2 ^ 32) (T-right (leb (a .start) (h .moved) && leb (h .moved) (h .now)) _ t);
       good = i .0;
       small = i .1;
     })
@@ -438,7 +448,7 @@ unfolding runOf StateIs
 table-back a mains cells q e l =
     from-bind (split 8 cells) _ q e λ s a₁ b₁. let i = split-is 8 cells s a₁ in
     from-bind (headNumbers (s .0)) _ q b₁ λ h a₂ b₂.
-    from-need (leb (a .start) (h .now) && ltb (h .now) (2 ^ 32)) _ q b₂ λ t b₃.
+    from-need (leb (a .start) (h .moved) && leb (h .moved) (h .now) && ltb (h .now) (2 ^ 32)) _ q b₂ λ t b₃.
     from-bind (readState a mains h (s .1) (h .state)) _ q b₃ λ o a₄ b₄.
     sym (i .0 ∙ ap (λ x. x ++ s .1) (head-is (s .0) h a₂ (i .1))
     ∙ (state-is a mains h (s .1) (h .state) o a₄) .1 (omega (arith, i .2)) ∙ ap tableOf (some-inj b₄))
@@ -446,10 +456,10 @@ table-back a mains cells q e l =
 -- 7 does not apply to 3080 cells if and only if they are the table of a well-typed run
 pub well-typed : (a : Agreement) (mains : List ℕ) (cells : List ℤ) → Fair a mains → length cells ≡ 3080
     → ((q : Run) × (runOf a mains cells ≡ some q))
-    ↔ ((q : Run) × Inv a mains (q .lastTime) (q .outcome) × (cells ≡ tableOf q))
+    ↔ ((q : Run) × Inv a mains (q .lastTime) (q .lastMoved) (q .outcome) × (cells ≡ tableOf q))
 well-typed a mains cells fr l = (
   λ x. (x .0, runOf-good a mains cells (x .0) fr (x .1), sym (table-back a mains cells (x .0) (x .1) l)),
-  λ x. let r = reads a mains (λ p i. omega (arith, main-in a mains fr p i, fr .few)) (x .0 .lastTime) (x .0 .outcome)
-      (x .1) in
-      (runAt (x .0 .lastTime) (r .0), ap (runOf a mains) (x .2) ∙ r .1),
+  λ x. let r = reads a mains (λ p i. omega (arith, main-in a mains fr p i, fr .few)) (x .0 .lastTime)
+      (x .0 .lastMoved) (x .0 .outcome) (x .1) in
+      (runAt (x .0 .lastTime) (x .0 .lastMoved) (r .0), ap (runOf a mains) (x .2) ∙ r .1),
 )

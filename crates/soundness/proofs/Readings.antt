@@ -2,7 +2,7 @@
 use mathlib.Core.Bool.{_&&_}
 use mathlib.Core.List.{List, [], _∷_}
 use mathlib.Core.Option.{some}
-use mathlib.Core.Path.{refl, subst, sym, _∙_, _≡_}
+use mathlib.Core.Path.{ap, refl, subst, sym, _∙_, _≡_}
 use Prim.Native.Nat.{_%_, _+_, _-_, _<_, _^_, suc, zero, ℕ}
 use native.Mathlib.Omega.{arith}
 use lib.Dec.{eqb, ltb, ltb→lt}
@@ -17,7 +17,8 @@ use Rattle.csl.specs.Typing.{readingOfType}
 use Rattle.csl.specs.Values.{Val, asNat, asTruth, valueOf, valuesOf}
 use Rattle.csl.specs.Rules.{Reading}
 use Rattle.csl.specs.Run.{Raw, rawReading, typedReading, valuesWanted}
-use Rattle.csl.specs.Demand3.{Bytes}
+use Rattle.csl.specs.Demand3.{Bytes, fitting}
+use Rattle.csl.specs.Marks.{timeIn}
 use Rattle.laws.proofs.Bools.{T-left, T-right}
 use Rattle.laws.proofs.Options.{from-bind, from-need, some-inj}
 use Rattle.laws.proofs.Clash.{impossible}
@@ -97,3 +98,12 @@ raw-time s w h e =
 -- an agreement's start time fits 32 bits
 pub start-lt : (bytes : List ℕ) (a : Agreement) → Bytes bytes → decode bytes ≡ some a → a .start < 2 ^ 32
 start-lt s a h e = subst (λ t. t < 2 ^ 32) (sym (decoded s a e .start)) (time-below s 4 h)
+
+-- the time of a reading that fits is the one that its bytes give
+pub fitting-time : (a : Agreement) (m : List ℕ) (d : Reading) → fitting a m ≡ some d → d .time ≡ timeIn m
+unfolding fitting rawReading timeIn
+fitting-time a m d e =
+    from-bind (rawReading m) _ d e λ w p q.
+    from-need (isRecord m && eqb (kindNumber m) 64) _ w p λ _ b₁.
+    from-need (between 9 25 (length m) && eqb ((length m - 9) % 4) 0) _ w b₁ λ _ b₂. (reading-ok a w d q) .1
+    ∙ ap (λ x. x .time) (sym (some-inj b₂))

@@ -225,45 +225,49 @@ parties-read ag mains now (both j l r) ps ok sub =
     ∙ ap some (sym (ok .5))
 
 -- ---- whole tables
-module _ (ag : Agreement) (mains : List ℕ) (now : ℕ) (st : ag .start ≤ now) (fit : now < 2 ^ 32) where
-  head-reads : (state time parties used : ℕ) → headNumbers (headCells state now time parties used) ≡ some (record {
+module _ (ag : Agreement) (mains : List ℕ) (now m : ℕ) (from : ag .start ≤ m) (to : m ≤ now)
+    (fit : now < 2 ^ 32) where
+  head-reads : (state time parties used : ℕ) → headNumbers (headCells state now time parties used m) ≡ some (record {
     state = state;
     now = now;
     time = time;
     parties = parties;
     used = used;
+    moved = m;
   })
   unfolding headNumbers headCells natCells split need all isZero asNats asNat at _>>=_
   head-reads state time parties used = refl
 
   split-head : (state time parties used n : ℕ) (cells : List ℤ)
-      → split 8 (padded n (headCells state now time parties used ++ cells)) ≡ some (
-        headCells state now time parties used,
-        cells ++ replicate (n - length (headCells state now time parties used ++ cells)) (pos 0),
+      → split 8 (padded n (headCells state now time parties used m ++ cells)) ≡ some (
+        headCells state now time parties used m,
+        cells ++ replicate (n - length (headCells state now time parties used m ++ cells)) (pos 0),
       )
   unfolding padded headCells natCells
-  split-head state time parties used n cells = split-++ 8 (headCells state now time parties used)
-      (cells ++ replicate (n - length (headCells state now time parties used ++ cells)) (pos 0)) refl
+  split-head state time parties used n cells = split-++ 8 (headCells state now time parties used m)
+      (cells ++ replicate (n - length (headCells state now time parties used m ++ cells)) (pos 0)) refl
 
   run-reads : (state time parties used : ℕ) (cells : List ℤ) (o : Outcome)
-      → readState ag mains (record { state = state; now = now; time = time; parties = parties; used = used })
-      (cells ++ replicate (3080 - length (headCells state now time parties used ++ cells)) (pos 0)) state ≡ some o
-      → runOf ag mains (padded 3080 (headCells state now time parties used ++ cells)) ≡ some
-      (record { lastTime = now; outcome = o })
+      → readState ag mains (record { state = state; now = now; time = time; parties = parties; used = used; moved = m })
+      (cells ++ replicate (3080 - length (headCells state now time parties used m ++ cells)) (pos 0)) state ≡ some o
+      → runOf ag mains (padded 3080 (headCells state now time parties used m ++ cells)) ≡ some
+      (record { lastTime = now; lastMoved = m; outcome = o })
   unfolding runOf
   run-reads state time parties used cells o e =
-      some-bind (split 8 (padded 3080 (headCells state now time parties used ++ cells))) _ _
+      some-bind (split 8 (padded 3080 (headCells state now time parties used m ++ cells))) _ _
       (split-head state time parties used 3080 cells)
-      ∙ some-bind (headNumbers (headCells state now time parties used)) _ _ (head-reads state time parties used)
-      ∙ some-bind (need (leb (ag .start) now && ltb now (2 ^ 32))) _ tt
-      (true-need _ (T-both (leb (ag .start) now) (ltb now (2 ^ 32)) (le→leb _ _ st) (lt→ltb _ _ fit)))
+      ∙ some-bind (headNumbers (headCells state now time parties used m)) _ _ (head-reads state time parties used)
+      ∙ some-bind (need (leb (ag .start) m && leb m now && ltb now (2 ^ 32))) _ tt
+      (true-need _ (T-both (leb (ag .start) m && leb m now) (ltb now (2 ^ 32))
+      (T-both (leb (ag .start) m) (leb m now) (le→leb _ _ from) (le→leb _ _ to)) (lt→ltb _ _ fit)))
       ∙ some-bind (readState ag mains (record {
         state = state;
         now = now;
         time = time;
         parties = parties;
         used = used;
-      }) (cells ++ replicate (3080 - length (headCells state now time parties used ++ cells)) (pos 0)) state) _ o e
+        moved = m;
+      }) (cells ++ replicate (3080 - length (headCells state now time parties used m ++ cells)) (pos 0)) state) _ o e
 
   no-trees : (n : ℕ) → trees ag 0 (replicate n (pos 0)) ≡ some []
   unfolding trees
@@ -271,36 +275,38 @@ module _ (ag : Agreement) (mains : List ℕ) (now : ℕ) (st : ag .start ≤ now
 
   -- the table of a running run reads back as that run
   pub running-reads : (res : Residue) (ps : List ℕ) → Ok ag (λ t. (ag .start ≤ t) × (t ≤ now)) res ps → Sub ps mains
-      → units res ≤ 128 → runOf ag mains (tableOf (record { lastTime = now; outcome = running res })) ≡ some
-      (record { lastTime = now; outcome = running res })
+      → units res ≤ 128
+      → runOf ag mains (tableOf (record { lastTime = now; lastMoved = m; outcome = running res })) ≡ some
+      (record { lastTime = now; lastMoved = m; outcome = running res })
   unfolding tableOf readState single _>>=_ need
   running-reads res ps ok sub few = run-reads 1 0 0 (units res) (residueCells res) (running res)
       (some-bind (need (leb (units res) 128)) _ tt (true-need (leb (units res) 128) (le→leb _ _ few))
       ∙ some-bind (trees ag (units res) (residueCells res
-      ++ replicate (3080 - length (headCells 1 now 0 0 (units res) ++ residueCells res)) (pos 0))) _ (res ∷ [])
-      (subst (λ m. trees ag m (residueCells res
-      ++ replicate (3080 - length (headCells 1 now 0 0 (units res) ++ residueCells res)) (pos 0)) ≡ some
+      ++ replicate (3080 - length (headCells 1 now 0 0 (units res) m ++ residueCells res)) (pos 0))) _ (res ∷ [])
+      (subst (λ k. trees ag k (residueCells res
+      ++ replicate (3080 - length (headCells 1 now 0 0 (units res) m ++ residueCells res)) (pos 0)) ≡ some
       (res ∷ [])) (omega arith) (trees-read ag _ res ps 0
-      (replicate (3080 - length (headCells 1 now 0 0 (units res) ++ residueCells res)) (pos 0)) [] ok
-      (no-trees (3080 - length (headCells 1 now 0 0 (units res) ++ residueCells res)))))
+      (replicate (3080 - length (headCells 1 now 0 0 (units res) m ++ residueCells res)) (pos 0)) [] ok
+      (no-trees (3080 - length (headCells 1 now 0 0 (units res) m ++ residueCells res)))))
       ∙ some-bind (residueParties ag mains now res) _ ps (parties-read ag mains now res ps ok sub))
 
   -- the same of a fulfilled run
-  pub done-reads : runOf ag mains (tableOf (record { lastTime = now; outcome = done })) ≡ some
-      (record { lastTime = now; outcome = done })
+  pub done-reads : runOf ag mains (tableOf (record { lastTime = now; lastMoved = m; outcome = done })) ≡ some
+      (record { lastTime = now; lastMoved = m; outcome = done })
   unfolding tableOf readState headCells natCells
   done-reads = run-reads 2 0 0 0 [] done (some-bind
-      (need (all isZero (replicate (3080 - length (headCells 2 now 0 0 0 ++ [])) (pos 0)))) _ tt
-      (true-need _ (zeros-zero (3080 - length (headCells 2 now 0 0 0 ++ [])))))
+      (need (all isZero (replicate (3080 - length (headCells 2 now 0 0 0 m ++ [])) (pos 0)))) _ tt
+      (true-need _ (zeros-zero (3080 - length (headCells 2 now 0 0 0 m ++ [])))))
 
-module _ (ag : Agreement) (mains : List ℕ) (few : (q : ℕ) → In q mains → q < 16) (now : ℕ) (st : ag .start ≤ now)
-    (fit : now < 2 ^ 32) where
+module _ (ag : Agreement) (mains : List ℕ) (few : (q : ℕ) → In q mains → q < 16) (now m : ℕ)
+    (from : ag .start ≤ m) (to : m ≤ now) (fit : now < 2 ^ 32) where
   -- the same of a breached run, the parties being read back from their bits
   pub breach-reads : (t : ℕ) (ps : List ℕ) (p : ℕ) → In p ps → Sub ps mains → ag .start ≤ t → t ≤ now
-      → runOf ag mains (tableOf (record { lastTime = now; outcome = breach t ps })) ≡ some
-      (record { lastTime = now; outcome = breach t (members (bitsOf ps)) })
+      → runOf ag mains (tableOf (record { lastTime = now; lastMoved = m; outcome = breach t ps })) ≡ some
+      (record { lastTime = now; lastMoved = m; outcome = breach t (members (bitsOf ps)) })
   unfolding tableOf readState headCells natCells Sub members bitsOf
-  breach-reads t ps p i sub lo hi = run-reads ag mains now st fit 3 t (bitsOf ps) 0 [] (breach t (members (bitsOf ps)))
+  breach-reads t ps p i sub lo hi = run-reads ag mains now m from to fit 3 t (bitsOf ps) 0 []
+      (breach t (members (bitsOf ps)))
       (passes (leb (ag .start) t) _ (le→leb _ _ lo)
       ∙ passes (leb t now) _ (le→leb _ _ hi)
       ∙ passes (ltb (bitsOf ps) (2 ^ 16)) _ (lt→ltb (bitsOf ps) (2 ^ 16) (bits-lt 16 0 ps))
@@ -309,8 +315,8 @@ module _ (ag : Agreement) (mains : List ℕ) (few : (q : ℕ) → In q mains →
       ∙ passes (subset (members (bitsOf ps)) mains) _
       (sub→subset (members (bitsOf ps)) mains (λ x h. sub x (members-in 16 0 ps x h)))
       ∙ passes (eqb 0 0) _ tt
-      ∙ passes (all isZero (replicate (3080 - length (headCells 3 now t (bitsOf ps) 0 ++ [])) (pos 0))) _
-      (zeros-zero (3080 - length (headCells 3 now t (bitsOf ps) 0 ++ []))))
+      ∙ passes (all isZero (replicate (3080 - length (headCells 3 now t (bitsOf ps) 0 m ++ [])) (pos 0))) _
+      (zeros-zero (3080 - length (headCells 3 now t (bitsOf ps) 0 m ++ []))))
     where
       nonzero : (n : ℕ) → 0 < n → T (not (eqb n 0))
       nonzero n h = not-T (eqb n 0) (λ q. let e : n ≡ 0 = eqb→eq n 0 q in omega arith)

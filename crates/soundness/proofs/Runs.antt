@@ -17,9 +17,9 @@ use Rattle.csl.specs.Typing.{blameOk, namesOf}
 use Rattle.csl.specs.Check.{accepted, checked, refused}
 use Rattle.csl.specs.Outcomes.{Outcome, Residue, both, breach, done, running, stuck, unit, units}
 use Rattle.csl.specs.Rules.{Reading, follow}
-use Rattle.csl.specs.Run.{Fit, Raw, Run, Stepped, fit, fitOf, followed, kept, rawReading, started, step, tooMany}
-use Rattle.csl.specs.Run.{typedReading, unfit}
-use Rattle.csl.specs.Table.{headCells, joinCells, natCells, padded, residueCells, runOf, tableLength, tableOf}
+use Rattle.csl.specs.Run.{Fit, Raw, Stepped, altered, fit, fitOf, followed, kept, movedBy, rawReading, readAt, started}
+use Rattle.csl.specs.Run.{step, tooMany, typedReading, unfit}
+use Rattle.csl.specs.Table.{Run, headCells, joinCells, natCells, padded, residueCells, runOf, tableLength, tableOf}
 use Rattle.csl.specs.Entries.{Answer, isTable, readingOf, refusal, startOf, written}
 use Rattle.csl.specs.Demand3.{Bytes, IsBreach, NotStuck, fitting, needed, reached}
 use Rattle.laws.proofs.Bools.{T-left, T-or, T-right}
@@ -35,8 +35,9 @@ use Rattle.soundness.proofs.RoundTrip.{breach-reads, done-reads, runnin
 use Rattle.soundness.proofs.Checked.{Passed, fair, passed}
 use Rattle.soundness.proofs.Readings.{raw-time, reading-ok}
 
-abbrev pub runAt : ℕ → Outcome → Run
-runAt t o = record { lastTime = t; outcome = o }
+-- a run by its last reading time, when it last moved, and its outcome
+abbrev pub runAt : ℕ → ℕ → Outcome → Run
+runAt t m o = record { lastTime = t; lastMoved = m; outcome = o }
 
 abbrev pub stepped : ℕ → Run → Stepped
 stepped n r = record { number = n; run = r }
@@ -87,62 +88,87 @@ tooMany-is (breach t ps) = refl
 tooMany-is (running r) = refl
 tooMany-is stuck = refl
 
--- ---- the cases of a step
-pub data Case (a : Agreement) (t : ℕ) (o : Outcome) (bytes : List ℕ) : Type 0 where
-  misfit : (n : ℕ) → (n ≡ 8) ⊎ (n ≡ 9) → fitting a bytes ≡ none → step a (runAt t o) bytes ≡ stepped n (runAt t o)
-      → Case a t o bytes
-  backward : (d : Reading) → fitting a bytes ≡ some d → d .time < t → step a (runAt t o) bytes ≡ stepped 10 (runAt t o)
-      → Case a t o bytes
-  many : (d : Reading) → fitting a bytes ≡ some d → t ≤ d .time → 128 < needed (reached a o d)
-      → step a (runAt t o) bytes ≡ stepped 11 (runAt t o) → Case a t o bytes
-  moved : (d : Reading) → fitting a bytes ≡ some d → t ≤ d .time → needed (reached a o d) ≤ 128 → (IsBreach o → ⊥)
-      → ReadingOk a d → (Bytes bytes → d .time < 2 ^ 32)
-      → step a (runAt t o) bytes ≡ stepped 0 (runAt (d .time) (reached a o d)) → Case a t o bytes
-  final : (d : Reading) → fitting a bytes ≡ some d → t ≤ d .time → IsBreach o → needed (reached a o d) ≤ 128
-      → step a (runAt t o) bytes ≡ stepped 0 (runAt t o) → Case a t o bytes
+-- ---- the run that a reading leads to
+-- when it then last moved
+abbrev pub movedTo : ℕ → ℕ → Outcome → ℕ → Outcome → ℕ
+movedTo t m o time next = movedBy (runAt t m o) (runAt time m next)
 
-follow-case : (a : Agreement) (t : ℕ) (o : Outcome) (bytes : List ℕ) (d : Reading) → NotStuck o
-    → fitting a bytes ≡ some d → t ≤ d .time → ReadingOk a d → (Bytes bytes → d .time < 2 ^ 32)
-    → step a (runAt t o) bytes ≡ followed a (runAt t o) d → Case a t o bytes
-unfolding followed NotStuck reached needed IsBreach kept
-follow-case a t done bytes d ns f le ok lt e = moved d f le (omega arith) (λ b. b) ok lt e
-follow-case a t (breach u ps) bytes d ns f le ok lt e = final d f le tt (omega arith) e
-follow-case a t (running res) bytes d ns f le ok lt e = go (tooMany (follow a d res)) refl
+abbrev pub readTo : ℕ → ℕ → Outcome → ℕ → Outcome → Run
+readTo t m o time next = runAt time (movedTo t m o time next) next
+
+-- it is the reading's time, or it stays
+pub moved-from : (t m : ℕ) (o : Outcome) (time : ℕ) (next : Outcome)
+    → (movedTo t m o time next ≡ time) ⊎ (movedTo t m o time next ≡ m)
+unfolding movedBy
+moved-from t m o time next = go (altered (tableOf (runAt t m o)) (tableOf (runAt time m next)))
   where
-    go : (b : Bool) → tooMany (follow a d res) ≡ b → Case a t (running res) bytes
+    go : (b : Bool) → _⊎_ (elim b as (λ _. ℕ) [ true ↦ time | false ↦ m ] ≡ time)
+        (elim b as (λ _. ℕ) [ true ↦ time | false ↦ m ] ≡ m)
+    go true = inl refl
+    go false = inr refl
+
+-- ---- the cases of a step
+pub data Case (a : Agreement) (t m : ℕ) (o : Outcome) (bytes : List ℕ) : Type 0 where
+  misfit : (n : ℕ) → (n ≡ 8) ⊎ (n ≡ 9) → fitting a bytes ≡ none
+      → step a (runAt t m o) bytes ≡ stepped n (runAt t m o) → Case a t m o bytes
+  backward : (d : Reading) → fitting a bytes ≡ some d → d .time < t
+      → step a (runAt t m o) bytes ≡ stepped 10 (runAt t m o) → Case a t m o bytes
+  many : (d : Reading) → fitting a bytes ≡ some d → t ≤ d .time → 128 < needed (reached a o d)
+      → step a (runAt t m o) bytes ≡ stepped 11 (runAt t m o) → Case a t m o bytes
+  taken : (d : Reading) → fitting a bytes ≡ some d → t ≤ d .time → needed (reached a o d) ≤ 128 → (IsBreach o → ⊥)
+      → ReadingOk a d → (Bytes bytes → d .time < 2 ^ 32)
+      → step a (runAt t m o) bytes ≡ stepped 0 (readTo t m o (d .time) (reached a o d)) → Case a t m o bytes
+  final : (d : Reading) → fitting a bytes ≡ some d → t ≤ d .time → IsBreach o → needed (reached a o d) ≤ 128
+      → step a (runAt t m o) bytes ≡ stepped 0 (runAt t m o) → Case a t m o bytes
+
+follow-case : (a : Agreement) (t m : ℕ) (o : Outcome) (bytes : List ℕ) (d : Reading) → NotStuck o
+    → fitting a bytes ≡ some d → t ≤ d .time → ReadingOk a d → (Bytes bytes → d .time < 2 ^ 32)
+    → step a (runAt t m o) bytes ≡ followed a (runAt t m o) d → Case a t m o bytes
+unfolding followed NotStuck reached needed IsBreach kept readAt
+follow-case a t m done bytes d ns f le ok lt e = taken d f le (omega arith) (λ b. b) ok lt e
+follow-case a t m (breach u ps) bytes d ns f le ok lt e = final d f le tt (omega arith) e
+follow-case a t m (running res) bytes d ns f le ok lt e = go (tooMany (follow a d res)) refl
+  where
+    choose : Bool → Stepped
+    choose b = elim b [
+      | true ↦ stepped 11 (runAt t m (running res))
+      | false ↦ stepped 0 (readTo t m (running res) (d .time) (follow a d res))
+    ]
+
+    go : (b : Bool) → tooMany (follow a d res) ≡ b → Case a t m (running res) bytes
     go true g = many d f le (ltb→lt 128 (needed (follow a d res)) (subst T (sym g ∙ tooMany-is (follow a d res)) tt))
-        (e ∙ ap (λ b. elim b [
-          | true ↦ stepped 11 (runAt t (running res))
-          | false ↦ stepped 0 (runAt (d .time) (follow a d res))
-        ]) g)
-    go false g = moved d f le (nltb→le 128 (needed (follow a d res))
-        (subst (λ b. T (not b)) (sym g ∙ tooMany-is (follow a d res)) tt)) (λ b. b) ok lt
-        (e ∙ ap (λ b. elim b [
-          | true ↦ stepped 11 (runAt t (running res))
-          | false ↦ stepped 0 (runAt (d .time) (follow a d res))
-        ]) g)
-follow-case a t stuck bytes d ns f le ok lt e = absurd ns
+        (e ∙ ap choose g)
+    go false g = taken d f le (nltb→le 128 (needed (follow a d res))
+        (subst (λ b. T (not b)) (sym g ∙ tooMany-is (follow a d res)) tt)) (λ b. b) ok lt (e ∙ ap choose g)
+follow-case a t m stuck bytes d ns f le ok lt e = absurd ns
 
 -- what a reading can do to a run that is not stuck: one of five cases
-pub cases : (a : Agreement) (t : ℕ) (o : Outcome) (bytes : List ℕ) → NotStuck o → Case a t o bytes
+pub cases : (a : Agreement) (t m : ℕ) (o : Outcome) (bytes : List ℕ) → NotStuck o → Case a t m o bytes
 unfolding step
-cases a t o bytes ns = fit-cases a t bytes
-    (λ n w f e. misfit n w f (ap (λ x. elim x [ unfit m ↦ stepped m (runAt t o) | fit d ↦ followed a (runAt t o) d ])
-    e))
-    (λ d f lt e. backward d f lt
-    (ap (λ x. elim x [ unfit m ↦ stepped m (runAt t o) | fit d ↦ followed a (runAt t o) d ])
-    e))
+cases a t m o bytes ns = fit-cases a t bytes
+    (λ n w f e. misfit n w f (ap by e))
+    (λ d f lt e. backward d f lt (ap by e))
     (λ w d rw′ td f le e. let ok = reading-ok a w d td in
-    follow-case a t o bytes d ns f le (ok .0)
-    (λ h. subst (λ z. z < 2 ^ 32) (sym (ok .1)) (raw-time bytes w h rw′))
-    (ap (λ x. elim x [ unfit m ↦ stepped m (runAt t o) | fit d ↦ followed a (runAt t o) d ]) e))
+    follow-case a t m o bytes d ns f le (ok .0)
+    (λ h. subst (λ z. z < 2 ^ 32) (sym (ok .1)) (raw-time bytes w h rw′)) (ap by e))
+  where
+    by : Fit → Stepped
+    by x = elim x [ unfit n ↦ stepped n (runAt t m o) | fit d ↦ followed a (runAt t m o) d ]
+
+-- of a run
+abbrev pub CaseOf : Agreement → Run → List ℕ → Type 0
+CaseOf a q bytes = Case a (q .lastTime) (q .lastMoved) (q .outcome) bytes
+
+pub case-of : (a : Agreement) (q : Run) (bytes : List ℕ) → NotStuck (q .outcome) → CaseOf a q bytes
+case-of a q bytes ns = cases a (q .lastTime) (q .lastMoved) (q .outcome) bytes ns
 
 -- ---- the invariant of a run
 abbrev pub Since : Agreement → ℕ → ℕ → Type 0
 Since a now t = (a .start ≤ t) × (t ≤ now)
 
-pub record Inv (a : Agreement) (mains : List ℕ) (now : ℕ) (o : Outcome) : Type 0 where
-  pub from : a .start ≤ now
+pub record Inv (a : Agreement) (mains : List ℕ) (now m : ℕ) (o : Outcome) : Type 0 where
+  pub from : a .start ≤ m
+  pub to : m ≤ now
   pub fits : now < 2 ^ 32
   pub good : Good a (Since a now) mains o
   pub small : needed o ≤ 128
@@ -175,88 +201,88 @@ cells-len a W (both j l r) ps ok = length-append (joinCells j) (residueCells l +
       cells-len a W r (ok .1) (ok .3),
     )
 
-head-len : (s n t b u : ℕ) → length (headCells s n t b u) ≡ 8
+head-len : (s n t b u m : ℕ) → length (headCells s n t b u m) ≡ 8
 unfolding headCells natCells
-head-len s n t b u = refl
+head-len s n t b u m = refl
 
-pub table-len : (a : Agreement) (mains : List ℕ) (now : ℕ) (o : Outcome) → Inv a mains now o
-    → length (tableOf (runAt now o)) ≡ 3080
+pub table-len : (a : Agreement) (mains : List ℕ) (now m : ℕ) (o : Outcome) → Inv a mains now m o
+    → length (tableOf (runAt now m o)) ≡ 3080
 unfolding tableOf
-table-len a mains now done i = length-padded 3080 (headCells 2 now 0 0 0) (omega (arith, head-len 2 now 0 0 0))
-table-len a mains now (breach t ps) i = length-padded 3080 (headCells 3 now t (bitsOf ps) 0)
-    (omega (arith, head-len 3 now t (bitsOf ps) 0))
-table-len a mains now (running r) i = length-padded 3080 (headCells 1 now 0 0 (units r) ++ residueCells r)
+table-len a mains now m done i = length-padded 3080 (headCells 2 now 0 0 0 m) (omega (arith, head-len 2 now 0 0 0 m))
+table-len a mains now m (breach t ps) i = length-padded 3080 (headCells 3 now t (bitsOf ps) 0 m)
+    (omega (arith, head-len 3 now t (bitsOf ps) 0 m))
+table-len a mains now m (running r) i = length-padded 3080 (headCells 1 now 0 0 (units r) m ++ residueCells r)
     (unfold Good needed in omega (
       arith,
-      head-len 1 now 0 0 (units r),
-      length-append (headCells 1 now 0 0 (units r)) (residueCells r),
+      head-len 1 now 0 0 (units r) m,
+      length-append (headCells 1 now 0 0 (units r) m) (residueCells r),
       cells-len a (Since a now) r (i .good .0) (i .good .1),
       i .small,
     ))
-table-len a mains now stuck i = absurd (unfold Good in i .good)
+table-len a mains now m stuck i = absurd (unfold Good in i .good)
 
 -- what a table reads back as: the run, up to the form of a breach's set
 pub data Alike : Outcome → Outcome → Type 0 where
   same : (o : Outcome) → Alike o o
   breached : (t : ℕ) (ps : List ℕ) → Alike (breach t (members (bitsOf ps))) (breach t ps)
 
-pub reads : (a : Agreement) (mains : List ℕ) (few : (q : ℕ) → In q mains → q < 16) (now : ℕ) (o : Outcome)
-    → Inv a mains now o → (q : Outcome) × (runOf a mains (tableOf (runAt now o)) ≡ some (runAt now q)) × Alike q o
+pub reads : (a : Agreement) (mains : List ℕ) (few : (q : ℕ) → In q mains → q < 16) (now m : ℕ) (o : Outcome)
+    → Inv a mains now m o → (q : Outcome) × (runOf a mains (tableOf (runAt now m o)) ≡ some (runAt now m q)) × Alike q o
 unfolding Good needed
-reads a mains few now done i = (done, done-reads a mains now (i .from) (i .fits), same done)
-reads a mains few now (breach t ps) i = (
+reads a mains few now m done i = (done, done-reads a mains now m (i .from) (i .to) (i .fits), same done)
+reads a mains few now m (breach t ps) i = (
   breach t (members (bitsOf ps)),
-  breach-reads a mains few now (i .from) (i .fits) t ps (i .good .0) (i .good .1) (i .good .2) (i .good .3 .0)
+  breach-reads a mains few now m (i .from) (i .to) (i .fits) t ps (i .good .0) (i .good .1) (i .good .2) (i .good .3 .0)
       (i .good .3 .1),
   breached t ps,
 )
-reads a mains few now (running r) i = (
+reads a mains few now m (running r) i = (
   running r,
-  running-reads a mains now (i .from) (i .fits) r (i .good .0) (i .good .1) (i .good .2) (i .small),
+  running-reads a mains now m (i .from) (i .to) (i .fits) r (i .good .0) (i .good .1) (i .good .2) (i .small),
   same (running r),
 )
-reads a mains few now stuck i = absurd (i .good)
+reads a mains few now m stuck i = absurd (i .good)
 
 -- ---- what the entry answers on a run's table
-abbrev Fine : Agreement → ℕ → Outcome → List ℤ → List ℕ → Answer → Type 0
-Fine a now o cells r x = (x .number ≡ (step a (runAt now o) r) .number)
-    × (x .table ≡ tableOf ((step a (runAt now o) r) .run))
+abbrev Fine : Agreement → ℕ → ℕ → Outcome → List ℤ → List ℕ → Answer → Type 0
+Fine a now m o cells r x = (x .number ≡ (step a (runAt now m o) r) .number)
+    × (x .table ≡ tableOf ((step a (runAt now m o) r) .run))
 
-written-fine : (a : Agreement) (now : ℕ) (o : Outcome) (r : List ℕ) → NotStuck o
-    → Fine a now o (tableOf (runAt now o)) r (written (tableOf (runAt now o)) (step a (runAt now o) r))
+written-fine : (a : Agreement) (now m : ℕ) (o : Outcome) (r : List ℕ) → NotStuck o
+    → Fine a now m o (tableOf (runAt now m o)) r (written (tableOf (runAt now m o)) (step a (runAt now m o) r))
 unfolding written refusal
-written-fine a now o r ns = go (cases a now o r ns)
+written-fine a now m o r ns = go (cases a now m o r ns)
   where
-    refuses : (n : ℕ) → step a (runAt now o) r ≡ stepped (suc n) (runAt now o)
-        → Fine a now o (tableOf (runAt now o)) r (written (tableOf (runAt now o)) (step a (runAt now o) r))
-    refuses n e = subst (λ s. ((written (tableOf (runAt now o)) s) .number ≡ s .number)
-        × ((written (tableOf (runAt now o)) s) .table ≡ tableOf (s .run))) (sym e) (refl, refl)
+    refuses : (n : ℕ) → step a (runAt now m o) r ≡ stepped (suc n) (runAt now m o)
+        → Fine a now m o (tableOf (runAt now m o)) r (written (tableOf (runAt now m o)) (step a (runAt now m o) r))
+    refuses n e = subst (λ s. ((written (tableOf (runAt now m o)) s) .number ≡ s .number)
+        × ((written (tableOf (runAt now m o)) s) .table ≡ tableOf (s .run))) (sym e) (refl, refl)
 
-    takes : (s : Run) → step a (runAt now o) r ≡ stepped 0 s
-        → Fine a now o (tableOf (runAt now o)) r (written (tableOf (runAt now o)) (step a (runAt now o) r))
-    takes s e = subst (λ s. ((written (tableOf (runAt now o)) s) .number ≡ s .number)
-        × ((written (tableOf (runAt now o)) s) .table ≡ tableOf (s .run))) (sym e) (refl, refl)
+    takes : (s : Run) → step a (runAt now m o) r ≡ stepped 0 s
+        → Fine a now m o (tableOf (runAt now m o)) r (written (tableOf (runAt now m o)) (step a (runAt now m o) r))
+    takes s e = subst (λ s. ((written (tableOf (runAt now m o)) s) .number ≡ s .number)
+        × ((written (tableOf (runAt now m o)) s) .table ≡ tableOf (s .run))) (sym e) (refl, refl)
 
-    go : Case a now o r → Fine a now o (tableOf (runAt now o)) r
-        (written (tableOf (runAt now o)) (step a (runAt now o) r))
-    go (misfit n (inl e₈) f e) = refuses 7 (e ∙ ap (λ n. stepped n (runAt now o)) e₈)
-    go (misfit n (inr e₉) f e) = refuses 8 (e ∙ ap (λ n. stepped n (runAt now o)) e₉)
+    go : Case a now m o r → Fine a now m o (tableOf (runAt now m o)) r
+        (written (tableOf (runAt now m o)) (step a (runAt now m o) r))
+    go (misfit n (inl e₈) f e) = refuses 7 (e ∙ ap (λ n. stepped n (runAt now m o)) e₈)
+    go (misfit n (inr e₉) f e) = refuses 8 (e ∙ ap (λ n. stepped n (runAt now m o)) e₉)
     go (backward d f lt e) = refuses 9 e
     go (many d f le nd e) = refuses 10 e
-    go (moved d f le nd nb ok lt e) = takes (runAt (d .time) (reached a o d)) e
-    go (final d f le ib nd e) = takes (runAt now o) e
+    go (taken d f le nd nb ok lt e) = takes (readTo now m o (d .time) (reached a o d)) e
+    go (final d f le ib nd e) = takes (runAt now m o) e
 
-bits-same : (now t : ℕ) (ps : List ℕ) → tableOf (runAt now (breach t (members (bitsOf ps)))) ≡ tableOf
-    (runAt now (breach t ps))
+bits-same : (now m t : ℕ) (ps : List ℕ) → tableOf (runAt now m (breach t (members (bitsOf ps)))) ≡ tableOf
+    (runAt now m (breach t ps))
 unfolding tableOf members bitsOf
-bits-same now t ps = ap (λ b. padded tableLength (headCells 3 now t b 0)) (bits-back 16 0 ps)
+bits-same now m t ps = ap (λ b. padded tableLength (headCells 3 now t b 0 m)) (bits-back 16 0 ps)
 
-alike-fine : (a : Agreement) (now : ℕ) (q o : Outcome) (r : List ℕ) → Alike q o → NotStuck o
-    → Fine a now o (tableOf (runAt now o)) r (written (tableOf (runAt now o)) (step a (runAt now q) r))
+alike-fine : (a : Agreement) (now m : ℕ) (q o : Outcome) (r : List ℕ) → Alike q o → NotStuck o
+    → Fine a now m o (tableOf (runAt now m o)) r (written (tableOf (runAt now m o)) (step a (runAt now m q) r))
 unfolding written refusal step followed
-alike-fine a now q o r (same o′) ns = written-fine a now o r ns
-alike-fine a now q o r (breached t ps) ns = fit-cases a now r (λ n w f e. on (unfit n) e (refusing n w))
-    (λ d f lt e. on (unfit 10) e (refl, refl)) (λ w d rw′ td f le e. on (fit d) e (refl, bits-same now t ps))
+alike-fine a now m q o r (same o′) ns = written-fine a now m o r ns
+alike-fine a now m q o r (breached t ps) ns = fit-cases a now r (λ n w f e. on (unfit n) e (refusing n w))
+    (λ d f lt e. on (unfit 10) e (refl, refl)) (λ w d rw′ td f le e. on (fit d) e (refl, bits-same now m t ps))
   where
     Q : Outcome
     Q = breach t (members (bitsOf ps))
@@ -265,18 +291,18 @@ alike-fine a now q o r (breached t ps) ns = fit-cases a now r (λ n w f e. on (u
     O = breach t ps
 
     by : Outcome → Fit → Stepped
-    by x z = elim z [ unfit m ↦ stepped m (runAt now x) | fit d ↦ followed a (runAt now x) d ]
+    by x z = elim z [ unfit n ↦ stepped n (runAt now m x) | fit d ↦ followed a (runAt now m x) d ]
 
-    on : (z : Fit) → fitOf a now r ≡ z → ((written (tableOf (runAt now O)) (by Q z)) .number ≡ (by O z) .number)
-        × ((written (tableOf (runAt now O)) (by Q z)) .table ≡ tableOf ((by O z) .run))
-        → ((written (tableOf (runAt now O)) (by Q (fitOf a now r))) .number ≡ (by O (fitOf a now r)) .number)
-        × ((written (tableOf (runAt now O)) (by Q (fitOf a now r))) .table ≡ tableOf ((by O (fitOf a now r)) .run))
-    on z e h = subst (λ z. ((written (tableOf (runAt now O)) (by Q z)) .number ≡ (by O z) .number)
-        × ((written (tableOf (runAt now O)) (by Q z)) .table ≡ tableOf ((by O z) .run))) (sym e) h
+    on : (z : Fit) → fitOf a now r ≡ z → ((written (tableOf (runAt now m O)) (by Q z)) .number ≡ (by O z) .number)
+        × ((written (tableOf (runAt now m O)) (by Q z)) .table ≡ tableOf ((by O z) .run))
+        → ((written (tableOf (runAt now m O)) (by Q (fitOf a now r))) .number ≡ (by O (fitOf a now r)) .number)
+        × ((written (tableOf (runAt now m O)) (by Q (fitOf a now r))) .table ≡ tableOf ((by O (fitOf a now r)) .run))
+    on z e h = subst (λ z. ((written (tableOf (runAt now m O)) (by Q z)) .number ≡ (by O z) .number)
+        × ((written (tableOf (runAt now m O)) (by Q z)) .table ≡ tableOf ((by O z) .run))) (sym e) h
 
     refusing : (n : ℕ) → (n ≡ 8) ⊎ (n ≡ 9) →
-        ((written (tableOf (runAt now O)) (by Q (unfit n))) .number ≡ (by O (unfit n)) .number)
-        × ((written (tableOf (runAt now O)) (by Q (unfit n))) .table ≡ tableOf ((by O (unfit n)) .run))
+        ((written (tableOf (runAt now m O)) (by Q (unfit n))) .number ≡ (by O (unfit n)) .number)
+        × ((written (tableOf (runAt now m O)) (by Q (unfit n))) .table ≡ tableOf ((by O (unfit n)) .run))
     refusing zero (inl e) = absurd (omega arith)
     refusing zero (inr e) = absurd (omega arith)
     refusing (suc n) e = (refl, refl)
@@ -331,51 +357,62 @@ module _ (bytes : List ℕ) (a : Agreement) (mains : List ℕ) (ck : checked byt
   pub few-mains : (q : ℕ) → In q mains → q < 16
   few-mains q i = omega (arith, main-in a mains isFair q i, isFair .few)
 
+  abbrev pub InvOf : Run → Type 0
+  InvOf q = Inv a mains (q .lastTime) (q .lastMoved) (q .outcome)
+
   -- on a run's table the entry answers with the run's number and leaves the run's table
-  pub reading-fine : (now : ℕ) (o : Outcome) (r : List ℕ) → Inv a mains now o
-      → Fine a now o (tableOf (runAt now o)) r (readingOf bytes (tableOf (runAt now o)) r)
-  reading-fine now o r i =
-      let x = reads a mains few-mains now o i in
-      subst (λ z. Fine a now o (tableOf (runAt now o)) r z)
-      (sym (reading-is (tableOf (runAt now o)) (runAt now (x .0)) r (table-len a mains now o i) (x .1)))
-      (alike-fine a now (x .0) o r (x .2) (not-stuck a mains now o (i .good)))
+  pub reading-fine : (q : Run) (r : List ℕ) → InvOf q
+      → Fine a (q .lastTime) (q .lastMoved) (q .outcome) (tableOf q) r (readingOf bytes (tableOf q) r)
+  reading-fine q r i =
+      let now = q .lastTime in
+      let m = q .lastMoved in
+      let x = reads a mains few-mains now m (q .outcome) i in
+      subst (λ z. Fine a now m (q .outcome) (tableOf q) r z)
+      (sym (reading-is (tableOf q) (runAt now m (x .0)) r (table-len a mains now m (q .outcome) i) (x .1)))
+      (alike-fine a now m (x .0) (q .outcome) r (x .2) (not-stuck a mains now (q .outcome) (i .good)))
 
   -- ---- a reading keeps the invariant
-  pub reached-good : (now : ℕ) (o : Outcome) (d : Reading) → now ≤ d .time → ReadingOk a d → (IsBreach o → ⊥)
-      → Inv a mains now o → Good a (Since a (d .time)) mains (reached a o d)
+  pub reached-good : (now m : ℕ) (o : Outcome) (d : Reading) → now ≤ d .time → ReadingOk a d → (IsBreach o → ⊥)
+      → Inv a mains now m o → Good a (Since a (d .time)) mains (reached a o d)
   unfolding reached Good IsBreach
-  reached-good now done d le ok nb i = tt
-  reached-good now (breach t ps) d le ok nb i = absurd (nb tt)
-  reached-good now (running r) d le ok nb i = good-sub a (Since a (d .time)) (i .good .0) mains (follow a d r)
+  reached-good now m done d le ok nb i = tt
+  reached-good now m (breach t ps) d le ok nb i = absurd (nb tt)
+  reached-good now m (running r) d le ok nb i = good-sub a (Since a (d .time)) (i .good .0) mains (follow a d r)
       (i .good .2) (follow-good a mains isFair d ok now le r (i .good .0) (i .good .1))
-  reached-good now stuck d le ok nb i = i .good
-
-  abbrev pub InvOf : Run → Type 0
-  InvOf r = Inv a mains (r .lastTime) (r .outcome)
+  reached-good now m stuck d le ok nb i = i .good
 
   -- every reading keeps the invariant: typed residue, parties within the main clause's, times from the start to the
   -- last reading
-  pub step-inv : (now : ℕ) (o : Outcome) (r : List ℕ) → Bytes r → Inv a mains now o
-      → InvOf ((step a (runAt now o) r) .run)
-  step-inv now o r hr i = go (cases a now o r (not-stuck a mains now o (i .good)))
+  pub step-inv : (q : Run) (r : List ℕ) → Bytes r → InvOf q → InvOf ((step a q r) .run)
+  step-inv q r hr i = go (case-of a q r (not-stuck a mains (q .lastTime) (q .outcome) (i .good)))
     where
-      go : Case a now o r → InvOf ((step a (runAt now o) r) .run)
+      since : (d : Reading) {k : ℕ} → q .lastTime ≤ d .time → (k ≡ d .time) ⊎ (k ≡ q .lastMoved) → Since a (d .time) k
+      since d le (inl e) = (omega (arith, i .from, i .to), omega arith)
+      since d le (inr e) = (omega (arith, i .from), omega (arith, i .to))
+
+      go : CaseOf a q r → InvOf ((step a q r) .run)
       go (misfit n w f e) = subst (λ s. InvOf (s .run)) (sym e) i
       go (backward d f lt e) = subst (λ s. InvOf (s .run)) (sym e) i
       go (many d f le nd e) = subst (λ s. InvOf (s .run)) (sym e) i
-      go (moved d f le nd nb ok lt e) = subst (λ s. InvOf (s .run)) (sym e) (record {
-        from = omega (arith, i .from);
-        fits = lt hr;
-        good = reached-good now o d le ok nb i;
-        small = nd;
-      })
+      go (taken d f le nd nb ok lt e) =
+          let moved = since d le (moved-from (q .lastTime) (q .lastMoved) (q .outcome) (d .time)
+          (reached a (q .outcome) d)) in
+          subst (λ s. InvOf (s .run)) (sym e) (record {
+            from = moved .0;
+            to = moved .1;
+            fits = lt hr;
+            good = reached-good (q .lastTime) (q .lastMoved) (q .outcome) d le ok nb i;
+            small = nd;
+          })
       go (final d f le ib nd e) = subst (λ s. InvOf (s .run)) (sym e) i
 
   -- 7 does not apply to its table
   pub table-typed : (q : Run) → InvOf q → (length (tableOf q) ≡ 3080)
       × ((p : Run) × (runOf a mains (tableOf q) ≡ some p))
-  table-typed q i = let x = reads a mains few-mains (q .lastTime) (q .outcome) i in
-      (table-len a mains (q .lastTime) (q .outcome) i, (runAt (q .lastTime) (x .0), x .1))
+  table-typed q i = let x = reads a mains few-mains (q .lastTime) (q .lastMoved) (q .outcome) i in (
+    table-len a mains (q .lastTime) (q .lastMoved) (q .outcome) i,
+    (runAt (q .lastTime) (q .lastMoved) (x .0), x .1),
+  )
 
 pub written-zero : (cells : List ℤ) (s : Stepped) → s .number ≡ 0
     → written cells s ≡ record { number = 0; table = tableOf (s .run) }

@@ -17,8 +17,7 @@ use Rattle.csl.specs.Bytes.{le32}
 use Rattle.csl.specs.Parties.{bitsOf, members, subset}
 use Rattle.csl.specs.Decode.{agreementOf}
 use Rattle.csl.specs.Outcomes.{Residue, units, Outcome, done, breach, running}
-use Rattle.csl.specs.Run.{Run}
-use Rattle.csl.specs.Table.{isZero, HeadNumbers, readState, trees, single, residueParties}
+use Rattle.csl.specs.Table.{Run, isZero, HeadNumbers, readState, trees, single, residueParties}
 use Rattle.laws.proofs.Options.{from-bind, from-need, some-bind, passes, none-some}
 use Rattle.laws.proofs.Bools.{T-both, both-true, T→true, true→T, true-not-false}
 use Rattle.laws.proofs.PartyBits.{members-within}
@@ -34,7 +33,7 @@ use Rattle.state.specs.declared.State.the-variants.{Damaged, Running, Fu
 use Rattle.state.specs.declared.Walk.{Walk}
 use Rattle.state.specs.declared.Walk.the-variants.{Damaged as Torn, Tree}
 use Rattle.state.specs.Tree.{ReadsAs, TreeAs, WalkIs}
-use Rattle.state.specs.Shown.{RunShows, Shows, runIn, HeadAt}
+use Rattle.state.specs.Shown.{RunShows, Shows, TimeIs, runIn, HeadAt}
 use Rattle.state.proofs.Trees.{AllRead, trees-read, tree-first, reads-same}
 use Rattle.state.proofs.Heads.{RunFacts, run-facts, run-is, eight}
 
@@ -88,7 +87,7 @@ module _ (cells : List ℤ) (l : length cells ≡ 3080) where
       same-state f = pos-inj (sym (f .isState) ∙ h .isState)
 
       same-now : {q : Run} (f : RunFacts A cells q) → f .head .now ≡ time
-      same-now f = pos-inj (sym (f .isNow) ∙ h .isNow)
+      same-now f = pos-inj (sym (f .isNow) ∙ h .times .isNow)
 
       -- the outcome that is read, the rest of the head being so
       reads-at : {q : Run} (f : RunFacts A cells q)
@@ -103,24 +102,26 @@ module _ (cells : List ℤ) (l : length cells ≡ 3080) where
             time = t;
             parties = p;
             used = u;
+            moved = h .times .moved;
           }) (drop 8 cells) state ≡ some o → RunShows (runIn A cells) cells o
       shows {t} {p} {u} o a b c e = record {
         now = time;
-        is = run-is A cells (omega arith) (record { lastTime = time; outcome = o }) (record {
-          head = record { state = state; now = time; time = t; parties = p; used = u };
-          isState = h .isState;
-          isNow = h .isNow;
-          isTime = a;
-          isParties = b;
-          isUsed = c;
-          zeros = h .zeros;
-          from = h .from;
-          to = h .to;
-          outcome = o;
-          reads = e;
-          is = refl;
-        });
-        cell = h .isNow;
+        moved = h .times .moved;
+        is = run-is A cells (omega arith) (record { lastTime = time; lastMoved = h .times .moved; outcome = o })
+            (record {
+              head = record { state = state; now = time; time = t; parties = p; used = u; moved = h .times .moved };
+              isState = h .isState;
+              isNow = h .times .isNow;
+              isTime = a;
+              isParties = b;
+              isUsed = c;
+              times = h .times;
+              isMoved = refl;
+              outcome = o;
+              reads = e;
+              is = refl;
+            });
+        cell = h .times .isNow;
       }
 
 -- ---- fulfilled
@@ -447,16 +448,6 @@ state-in A d cells (suc (suc (suc zero))) o e = (omega arith, omega arith)
 state-in A d cells (suc (suc (suc (suc n)))) o e = none-some e
 
 module _ (cells : List ℤ) (l : length cells ≡ 3080) (A : List ℕ) (sights : List ℕ) where
-  pub head-timeless : {time : ℕ} → time ≡ numberBelow 4_294_967_296 (getD cells 1 (pos 0)) → time ≡ 4_294_967_296
-      → Shows (runIn A cells) cells sights Damaged
-  head-timeless e g = shown-none cells l A sights λ q f. omega
-      (arith, below-not 4_294_967_296 (f .head .now) (getD cells 1 (pos 0)) (omega arith) (f .isNow), f .to)
-
-  pub head-zeros : {b : Bool} → b ≡ all isZero (take 3 (drop 5 cells)) → not b ≡ true
-      → Shows (runIn A cells) cells sights Damaged
-  head-zeros {b} e g = shown-none cells l A sights λ q f. true-not-false
-      (T→true (all isZero (take 3 (drop 5 cells))) (f .zeros)) (sym e ∙ not-true b g)
-
   pub head-other : {r : ℕ} → r ≡ numberBelow 4 (getD cells 0 (pos 0)) → (r ≡ 1 → ⊥) → (r ≡ 2 → ⊥) → (r ≡ 3 → ⊥)
       → Shows (runIn A cells) cells sights Damaged
   unfolding numberBelow
@@ -465,25 +456,13 @@ module _ (cells : List ℤ) (l : length cells ≡ 3080) (A : List ℕ) (sights :
       let same : r ≡ f .head .state = e ∙ ap (numberBelow 4) (f .isState) ∙ omega arith in
       omega arith
 
-  module _ {time : ℕ} (e : time ≡ numberBelow 4_294_967_296 (getD cells 1 (pos 0))) (u : time ≤ 4_294_967_296)
-      (g : time ≡ 4_294_967_296 → ⊥) where
-    before-end : time < 4_294_967_296
-    before-end = omega arith
+  module _ {time : ℕ} (t : TimeIs A cells time) where
+    pub head-timeless : time ≡ 4_294_967_296 → Shows (runIn A cells) cells sights Damaged
+    head-timeless g = shown-none cells l A sights λ q f. omega (arith, t .only (f .head .now) (f .times), f .times .to)
 
-    is-now : getD cells 1 (pos 0) ≡ pos time
-    is-now = below-is 4_294_967_296 (getD cells 1 (pos 0)) (omega (arith, before-end)) ∙ ap pos (sym e)
-
-    pub head-before : {start : ℕ} → start ≡ le32 A 4 → time < start → Shows (runIn A cells) cells sights Damaged
-    head-before s k = shown-none cells l A sights λ q f. let same : f .head .now ≡ time = pos-inj
-        (sym (f .isNow) ∙ is-now) in omega (arith, f .from)
-
-    pub head-at : {start r n : ℕ} {b : Bool} → start ≡ le32 A 4 → start ≤ time
-        → b ≡ all isZero (take 3 (drop 5 cells)) → not b ≡ false → r ≡ numberBelow 4 (getD cells 0 (pos 0)) → r ≡ n
-        → n < 4 → HeadAt A cells n time
-    head-at {r = r} {n = n} {b = b} s k z t w i j = record {
+    pub head-at : {r n : ℕ} → (time ≡ 4_294_967_296 → ⊥) → r ≡ numberBelow 4 (getD cells 0 (pos 0)) → r ≡ n → n < 4
+        → HeadAt A cells n time
+    head-at g w i j = record {
       isState = below-is 4 (getD cells 0 (pos 0)) (omega arith) ∙ ap pos (sym w ∙ i);
-      isNow = is-now;
-      from = omega arith;
-      to = before-end;
-      zeros = true→T (sym z ∙ not-false b t);
+      times = t .there (omega (arith, t .most));
     }

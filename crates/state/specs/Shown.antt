@@ -11,8 +11,7 @@ use Rattle.csl.specs.Bytes.{le32}
 use Rattle.csl.specs.Parties.{members}
 use Rattle.csl.specs.Decode.{agreementOf}
 use Rattle.csl.specs.Outcomes.{Residue, units, Outcome, done, breach, running}
-use Rattle.csl.specs.Run.{Run}
-use Rattle.csl.specs.Table.{isZero, runOf}
+use Rattle.csl.specs.Table.{Run, isZero, runOf}
 use Rattle.csl.specs.Check.{mainsOf}
 use Rattle.units.specs.Units.{sightNumbers}
 use Rattle.state.specs.declared.State.{State}
@@ -21,7 +20,8 @@ use Rattle.state.specs.declared.State.the-variants.{Damaged, Running, Fu
 -- o is a run with this outcome, and its last reading time stands in cell 1
 pub record RunShows (o : Option Run) (cells : List ℤ) (out : Outcome) : Type 0 where
   pub now : ℕ
-  pub is : o ≡ some (record { lastTime = now; outcome = out })
+  pub moved : ℕ
+  pub is : o ≡ some (record { lastTime = now; lastMoved = moved; outcome = out })
   pub cell : getD cells 1 (pos 0) ≡ pos now
 
 -- running with n units; the sights hold two numbers for each unit: its party parameters and its values in sight, or
@@ -49,13 +49,26 @@ Shows o cells sights (Breached t bits) = BreachedAs o cells t bits
 abbrev pub runIn : List ℕ → List ℤ → Option Run
 runIn a cells = runOf (agreementOf a) (mainsOf a) cells
 
--- ---- the head's state and last reading time, with zeros in cells 5 to 7
+-- ---- the head's times, the last reading's and when the run last moved, with zeros behind them
+pub record TimesAt (a : List ℕ) (cells : List ℤ) (time : ℕ) : Type 0 where
+  pub isNow : getD cells 1 (pos 0) ≡ pos time
+  pub moved : ℕ
+  pub isMoved : getD cells 5 (pos 0) ≡ pos moved
+  pub from : le32 a 4 ≤ moved
+  pub until : moved ≤ time
+  pub to : time < 4_294_967_296
+  pub zeros : T (all isZero (take 2 (drop 6 cells)))
+
+-- r is the last reading time; it is too great for one where the head's times are none
+pub record TimeIs (a : List ℕ) (cells : List ℤ) (r : ℕ) : Type 0 where
+  pub only : (time : ℕ) → TimesAt a cells time → r ≡ time
+  pub there : r < 4_294_967_296 → TimesAt a cells r
+  pub most : r ≤ 4_294_967_296
+
+-- the head's state and times
 pub record HeadAt (a : List ℕ) (cells : List ℤ) (state time : ℕ) : Type 0 where
   pub isState : getD cells 0 (pos 0) ≡ pos state
-  pub isNow : getD cells 1 (pos 0) ≡ pos time
-  pub from : le32 a 4 ≤ time
-  pub to : time < 4_294_967_296
-  pub zeros : T (all isZero (take 3 (drop 5 cells)))
+  pub times : TimesAt a cells time
 
 -- what a table with a fulfilled state shows
 abbrev pub FulfilledIs : List ℤ → State → Type 0

@@ -10,8 +10,10 @@ ghost use Rattle.laws.specs.Joins.{joinOf};
 ghost use Rattle.csl.specs.Check.{mainsOf};
 ghost use Rattle.units.specs.Units.{Prepared};
 ghost use Rattle.state.specs.Tree.{UnitFirst, TreeRoom, FirstIs, JoinedIs, WalkIs};
-ghost use Rattle.state.specs.Shown.{Shows, runIn, HeadAt, FulfilledIs};
+ghost use Rattle.state.specs.Shown.{Shows, runIn, HeadAt, TimeIs, FulfilledIs};
 use cells::HEAD_CELLS;
+use cells::LAST_MOVED;
+use cells::LAST_TIME;
 use cells::TABLE_CELLS;
 use cells::UNIT_CELLS;
 use octets::unsigned32;
@@ -267,6 +269,26 @@ fn running(
     }
 }
 
+// The last reading time, or NO_TIME where the head's times are none: the run last moved from the start to the last
+// reading time.
+fn last_time(agreement: &[u8], table: &[i64]) -> usize
+    requires { ⌜ length (now table) ≡ 3080 ⌝ }
+    ensures { λ r. ⌜ TimeIs (now (agreement .entry)) (now (table .entry)) r ⌝ }
+{
+    let time = number_below(table[LAST_TIME], NO_TIME);
+    let moved = number_below(table[LAST_MOVED], NO_TIME);
+    if time < moved {
+        return NO_TIME;
+    }
+    if moved < unsigned32(agreement, START_AT) {
+        return NO_TIME;
+    }
+    if !zeros(&table[LAST_MOVED + 1..HEAD_CELLS]) {
+        return NO_TIME;
+    }
+    time
+}
+
 // The state that a table shows. The sights get two numbers for each unit: its party parameters and its values in sight,
 // or for a join the units of its left side and 0.
 pub fn state_of(
@@ -279,14 +301,8 @@ pub fn state_of(
     requires { ⌜ Prepared (now places) (now agreement) mains × (length (now table) ≡ 3080) × (256 ≤ length (now sights)) ⌝ }
     ensures { λ r. ⌜ Shows (runIn (now (agreement .entry)) (now (table .entry))) (now (table .entry)) (now (sights .exit)) r ⌝ }
 {
-    let time = number_below(table[1], NO_TIME);
+    let time = last_time(agreement, table);
     if time == NO_TIME {
-        return State::Damaged;
-    }
-    if time < unsigned32(agreement, START_AT) {
-        return State::Damaged;
-    }
-    if !zeros(&table[5..HEAD_CELLS]) {
         return State::Damaged;
     }
     match number_below(table[0], NO_STATE) {

@@ -38,6 +38,8 @@ pub fn agreement(random: &mut Random) -> Vec<u8> {
     match random.below(100) {
         0..=6 => return growing(random),
         7..=10 => return crowded(random),
+        11..=18 => return renewing(random),
+        19..=22 => return taking_turns(random),
         _ => {}
     }
     let shape = [&PLAIN, &TINY, &WIDE, &DEEP, &CHAINED, &JOINED, &MANY][random.weighted(&[6, 3, 1, 2, 3, 4, 2])];
@@ -90,6 +92,61 @@ fn crowd(random: &mut Random, count: usize) -> Vec<u8> {
     } else {
         build::or(&left, &right)
     }
+}
+
+/// Two templates alike, each a wait that names itself or the other in its `then`: a reading at the time of activation
+/// leaves the unit as it is, or alters its place, a value or a parameter; a later one alters its A.
+fn renewing(random: &mut Random) -> Vec<u8> {
+    let templates = [0, 1].map(|own| {
+        let body = renewed(random, own);
+        build::template(&[Type::Number, Type::Party], 2, 0b11, &body)
+    });
+    let given = [build::number(random.number()), build::party(random.below(2) as u8)];
+    let blames = random.pick(&[[0, 1], [1, 0], [1, 1]]);
+    let named = build::instance(0, &given, &blames);
+    let main = match random.below(4) {
+        0 => build::and(&named, &build::simple(300).obligation(0)),
+        1 => build::and(&named, &build::instance(1, &given, &blames)),
+        _ => named,
+    };
+    let readings = [build::reading_type(&[Type::Number]), build::reading_type(&[])];
+    build::agreement(start(random), 2, &readings, &templates, &main)
+}
+
+/// The body of such a template, for parties 0 and 1. It sees a number and a party; `then` also sees the reading's
+/// number, by which it picks the parameters, and the remaining time.
+fn renewed(random: &mut Random, own: u8) -> Vec<u8> {
+    const NUMBER: u8 = 0;
+    const PARTY: u8 = 1;
+    const READ: u8 = 2;
+    const REMAINING: u8 = 3;
+    const SAME: [u8; 2] = [FIRST_PARAMETER, FIRST_PARAMETER + 1];
+    let next = random.pick(&[own, own, own, 1 - own]);
+    let number = random.pick(&[NUMBER, NUMBER, NUMBER, READ, REMAINING]);
+    let [low, high] = random.pick(&[[SAME, SAME], [[SAME[0], 0], [SAME[0], 1]], [SAME, [SAME[1], SAME[0]]]]);
+    let named = |blames: &[u8]| build::instance(next, &[build::value(number), build::value(PARTY)], blames);
+    let below_0 = build::binary(Operator::Less, &build::value(READ), &build::number(0));
+    let then = build::if_clause(&below_0, &named(&low), &named(&high));
+    let within = random.pick(&[0, 20, 60, 400]);
+    let owed = build::Wait { then: then.clone(), ..build::simple(within) };
+    match random.below(5) {
+        0 => owed.choice(&build::simple(60).obligation(SAME[1])),
+        // Its window is past at once: the else takes every reading.
+        1 | 2 => build::Wait { then, ..build::simple(-1) }.choice(&owed.obligation(SAME[0])),
+        _ => owed.obligation(SAME[0]),
+    }
+}
+
+/// Template 0 is fulfilled by a reading that makes template 1 into both of them: at the time of activation the units
+/// are the same as before, or only their join is another.
+fn taking_turns(random: &mut Random) -> Vec<u8> {
+    let (ends, stays) = (build::instance(0, &[], &[]), build::instance(1, &[], &[]));
+    let (both, either) = (build::and(&ends, &stays), build::or(&ends, &stays));
+    let within = random.between(20, 400) as i32;
+    let owed = |then: Vec<u8>| build::Wait { then, ..build::simple(within) }.obligation(0);
+    let turned = if random.chance(50) { both.clone() } else { either };
+    let templates = [build::fulfilled(), turned].map(|then| build::template(&[], 0, 1, &owed(then)));
+    build::agreement(start(random), 1, &[build::reading_type(&[])], &templates, &owed(both))
 }
 
 fn start(random: &mut Random) -> u32 {

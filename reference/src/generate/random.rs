@@ -25,6 +25,12 @@ impl Random {
         least + (self.draw() % (most - least + 1) as u64) as i64
     }
 
+    /// A time from a first to a last, often one of these.
+    pub fn time(&mut self, first: i64, last: i64) -> i64 {
+        let any = self.between(first, last);
+        self.pick(&[first, last, any])
+    }
+
     /// True in so many of a hundred cases.
     pub fn chance(&mut self, percent: usize) -> bool {
         self.below(100) < percent

@@ -10,6 +10,7 @@ use crate::table::State;
 pub fn reading(random: &mut Random, agreement: &Agreement, state: &State) -> Vec<u8> {
     let target = target(random, state);
     let bytes = match target {
+        _ if random.chance(10) => idle(random, agreement, state),
         Some(waiting) if random.chance(80) => aimed(random, agreement, state, waiting),
         _ => any(random, agreement, state),
     };
@@ -22,15 +23,20 @@ pub fn reading(random: &mut Random, agreement: &Agreement, state: &State) -> Vec
 
 /// Some waiting unit of a running state, often the one that is late first.
 fn target<'s, 'a>(random: &mut Random, state: &'s State<'a>) -> Option<&'s Waiting<'a>> {
-    let mut units = Vec::new();
-    if let Outcome::Running(residue) = &state.outcome {
-        collect(residue, &mut units);
-    }
+    let units = waiting_units(state);
     if random.chance(60) {
         units.into_iter().min_by_key(|unit| unit.window().1)
     } else {
         random.any(&units)
     }
+}
+
+fn waiting_units<'s, 'a>(state: &'s State<'a>) -> Vec<&'s Waiting<'a>> {
+    let mut units = Vec::new();
+    if let Outcome::Running(residue) = &state.outcome {
+        collect(residue, &mut units);
+    }
+    units
 }
 
 /// All waiting units of a residue.
@@ -52,16 +58,30 @@ fn aimed(random: &mut Random, agreement: &Agreement, state: &State, waiting: &Wa
     }
     let wanted = waiting.wait.reading;
     let kind = if random.chance(92) { wanted } else { 1 + random.below(agreement.readings.len()) as u8 };
-    let mut values = self::values(random, agreement, kind, Some(waiting));
     if kind == wanted && random.chance(75) {
-        for _ in 0..8 {
-            if holds(waiting, &values) {
-                break;
-            }
-            values = self::values(random, agreement, kind, Some(waiting));
-        }
+        return build::reading(time, kind, &fitting(random, agreement, waiting));
     }
-    build::reading(time, kind, &values)
+    build::reading(time, kind, &values(random, agreement, kind, Some(waiting)))
+}
+
+/// A reading wanted by a unit that was activated at the last reading time, at that time once more.
+pub fn again(random: &mut Random, agreement: &Agreement, state: &State) -> Option<Vec<u8>> {
+    let mut young = waiting_units(state);
+    young.retain(|unit| unit.activated == state.last);
+    let waiting = random.any(&young)?;
+    Some(build::reading(state.last as u32, waiting.wait.reading, &fitting(random, agreement, waiting)))
+}
+
+/// Values of the type that a unit wants, such that its condition holds if they are found soon.
+fn fitting(random: &mut Random, agreement: &Agreement, waiting: &Waiting) -> Vec<i32> {
+    let mut values = self::values(random, agreement, waiting.wait.reading, Some(waiting));
+    for _ in 0..8 {
+        if holds(waiting, &values) {
+            break;
+        }
+        values = self::values(random, agreement, waiting.wait.reading, Some(waiting));
+    }
+    values
 }
 
 fn holds(waiting: &Waiting, values: &[i32]) -> bool {
@@ -83,6 +103,17 @@ fn near_window(random: &mut Random, last_reading: i64, (first, last): (i64, i64)
     };
     let time = if time < last_reading && random.chance(95) { last_reading } else { time };
     time.clamp(0, i64::from(u32::MAX)) as u32
+}
+
+/// A mark, or a reading of a type that no unit wants, before any unit is late if it may be: it alters nothing then.
+fn idle(random: &mut Random, agreement: &Agreement, state: &State) -> Vec<u8> {
+    let units = waiting_units(state);
+    let soon = (state.last + 50).min(i64::from(u32::MAX));
+    let late = units.iter().map(|unit| unit.window().1).min().unwrap_or(soon);
+    let time = random.time(state.last, late.clamp(state.last, soon)) as u32;
+    let unwanted = (0..=agreement.readings.len() as u8).filter(|kind| units.iter().all(|u| u.wait.reading != *kind));
+    let kind = random.pick(&unwanted.collect::<Vec<_>>());
+    build::reading(time, kind, &values(random, agreement, kind, None))
 }
 
 /// Any reading or mark a little later.

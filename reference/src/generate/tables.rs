@@ -13,6 +13,10 @@ pub enum Damage {
     StateSwapped,
     LastBeforeStart,
     LastBeyond32Bits,
+    MovedBeforeStart,
+    MovedAfterLast,
+    MovedNegative,
+    MovedFarOff,
     BreachTimeWithoutBreach,
     BlameWithoutBreach,
     UnitsWithoutRunning,
@@ -53,16 +57,21 @@ pub enum Damage {
     OtherValue,
     OtherParameter,
     OtherActivation,
+    OtherMoved,
     AnyCell,
 }
 
 impl Damage {
     /// Those that must be refused with 7.
-    pub const CAUSES: [Damage; 38] = [
+    pub const CAUSES: [Damage; 42] = [
         Damage::State,
         Damage::StateSwapped,
         Damage::LastBeforeStart,
         Damage::LastBeyond32Bits,
+        Damage::MovedBeforeStart,
+        Damage::MovedAfterLast,
+        Damage::MovedNegative,
+        Damage::MovedFarOff,
         Damage::BreachTimeWithoutBreach,
         Damage::BlameWithoutBreach,
         Damage::UnitsWithoutRunning,
@@ -100,13 +109,14 @@ impl Damage {
     ];
 
     /// Those that may leave a table well typed.
-    pub const CHANGES: [Damage; 7] = [
+    pub const CHANGES: [Damage; 8] = [
         Damage::UnitsExchanged,
         Damage::PlaceOfSameSort,
         Damage::JoinSwapped,
         Damage::OtherValue,
         Damage::OtherParameter,
         Damage::OtherActivation,
+        Damage::OtherMoved,
         Damage::AnyCell,
     ];
 
@@ -189,6 +199,9 @@ impl<'r, 'a> Patient<'r, 'a> {
             }
             Damage::LastBeforeStart => self.set(LAST, self.start() - small),
             Damage::LastBeyond32Bits => self.set(LAST, (1 << 32) + small - 1),
+            Damage::MovedBeforeStart | Damage::MovedAfterLast | Damage::MovedNegative | Damage::MovedFarOff => {
+                self.moved(damage)
+            }
             Damage::BreachTimeWithoutBreach => {
                 self.is_not(BREACHED)?;
                 let time = if self.random.chance(50) { self.start().max(1) } else { self.something() };
@@ -199,11 +212,29 @@ impl<'r, 'a> Patient<'r, 'a> {
                 self.set_something(BLAMED)
             }
             Damage::HeadZeros => {
-                let cell = 5 + self.random.below(3);
+                let cell = self.random.pick(&[MOVED + 1, MOVED + 2]);
                 self.set_something(cell)
             }
             _ => self.units(damage),
         }
+    }
+
+    /// Cell 5 outside of the start to the last reading time, often by one. Some of these hold a time inside in their
+    /// lower 32 bits.
+    fn moved(&mut self, damage: Damage) -> Option<()> {
+        let (start, last, inside) = (self.start(), self.last(), self.table[MOVED]);
+        let off = self.random.between(1, 50);
+        let off = self.random.pick(&[1, 1, off]);
+        let time = match damage {
+            Damage::MovedBeforeStart => {
+                let some = self.random.between(0, start);
+                Some(self.random.pick(&[start - off, start - 1, some])).filter(|time| (0..start).contains(time))?
+            }
+            Damage::MovedAfterLast => last + off,
+            Damage::MovedNegative => self.random.pick(&[-off, -1, !inside, inside - (1 << 32), -(1 << 32), i64::MIN]),
+            _ => self.random.pick(&[1 << 32, (1 << 32) + inside, (1 << 32) + last, 1 << 62, i64::MAX]),
+        };
+        self.set(MOVED, time)
     }
 
     fn units(&mut self, damage: Damage) -> Option<()> {
@@ -462,6 +493,12 @@ impl<'r, 'a> Patient<'r, 'a> {
                 let unit = self.join()?;
                 self.set(unit, AND + OR - self.table[unit])
             }
+            _ => self.other_content(damage),
+        }
+    }
+
+    fn other_content(&mut self, damage: Damage) -> Option<()> {
+        match damage {
             Damage::OtherValue => {
                 let cell = self.waiting()? + VALUES + self.random.below(UNIT - VALUES);
                 let number = i64::from(self.random.number());
@@ -476,6 +513,10 @@ impl<'r, 'a> Patient<'r, 'a> {
                 let unit = self.waiting()?;
                 let time = self.random.between(self.start(), self.last());
                 self.set(unit + ACTIVATED, time)
+            }
+            Damage::OtherMoved => {
+                let time = self.random.time(self.start(), self.last());
+                self.set(MOVED, time)
             }
             _ => {
                 let used = self.table[USED].clamp(0, UNITS as i64) as usize;
@@ -527,9 +568,8 @@ pub fn made(random: &mut Random, accepted: &Accepted) -> Option<Vec<i64>> {
             Outcome::Running(Tree { random, accepted, last }.residue(count, accepted.parties)?)
         }
     };
-    let mut table = vec![0; CELLS];
-    State { last, outcome }.write(&mut table);
-    Some(table)
+    let moved = random.time(start, last);
+    Some(State { last, moved, outcome }.table())
 }
 
 /// Makes residues by chance.
@@ -567,8 +607,7 @@ impl<'a> Tree<'_, 'a> {
             let site = self.accepted.sites.get(self.random.below(self.accepted.sites.len().max(1)))?;
             let scope = scope(self.random, self.accepted, site);
             if site.parties.resolve(&scope.parameters) & !parties == 0 {
-                let activated = self.random.between(start, self.last);
-                let activated = self.random.pick(&[start, self.last, activated]);
+                let activated = self.random.time(start, self.last);
                 return Some(Waiting { wait: site.wait, activated, scope });
             }
         }

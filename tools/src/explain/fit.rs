@@ -27,6 +27,9 @@ pub fn fit<'a>(state: &State, agreement: &'a Agreement) -> Result<Units<'a>, Str
     if state.last < start {
         return Err(format!("the last reading time {} lies before the start {start}", state.last));
     }
+    if state.moved < start {
+        return Err(format!("last moved at {}, before the start {start}", state.moved));
+    }
     let mut units = BTreeMap::new();
     match &state.outcome {
         Outcome::Fulfilled => {}

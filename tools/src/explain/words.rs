@@ -1,7 +1,7 @@
 //! The words for a state.
 
 use super::fit::{Unit, Units};
-use super::{bits, joined, margin, time, Context, Joined};
+use super::{bits, joined, margin, time, times, Context, Joined};
 use crate::model::{Clause, Expression, Late};
 use crate::print::{Printer, Sight, Spelling};
 use crate::table::{Outcome, Residue, State, Waiting};
@@ -10,21 +10,21 @@ use crate::table::{Outcome, Residue, State, Waiting};
 const SHORT: usize = 160;
 
 pub fn lines(state: &State, units: &Units, context: &Context) -> Result<Vec<String>, String> {
-    let last = time(state.last, context.dated);
+    let times = times(state, context.dated);
     let teller = Teller {
         units,
         dated: context.dated,
         printer: Printer { agreement: context.agreement, spelling: Spelling::Sugared },
     };
     match &state.outcome {
-        Outcome::Fulfilled => Ok(vec![format!("fulfilled, last reading at {last}")]),
+        Outcome::Fulfilled => Ok(vec![format!("fulfilled, {times}")]),
         Outcome::Breached(when, parties) => {
             let parties: Vec<_> = bits(*parties).map(|party| teller.printer.party(party)).collect();
             let when = time(*when, context.dated);
-            Ok(vec![format!("breached at {when} by {}, last reading at {last}", parties.join(" and "))])
+            Ok(vec![format!("breached at {when} by {}, {times}", parties.join(" and "))])
         }
         Outcome::Running(residue) => {
-            let mut lines = vec![format!("running, last reading at {last}")];
+            let mut lines = vec![format!("running, {times}")];
             teller.residue(residue, 0, &mut lines)?;
             Ok(lines)
         }

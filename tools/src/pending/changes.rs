@@ -20,17 +20,23 @@ pub enum Change<'a> {
     Begun(Pending<'a>),
 }
 
-/// What a reading did, from what waited before and what waits after it by the library's tables.
+/// What a reading did, from what waited before and what waits after it by the library's tables: nothing where all is as
+/// it was.
 pub fn changes<'a>(
     agreement: &'a Agreement,
     before: &Tree<'a>,
     after: &Tree<'a>,
     reading: &Reading,
 ) -> Vec<Change<'a>> {
-    let mut begun: Vec<&Pending> = after.all();
     let mut changes = Vec::new();
+    if before.is(after) {
+        return changes;
+    }
+    let mut begun: Vec<&Pending> = after.all();
     for pending in before.all() {
-        match begun.iter().position(|other| other.is(pending)) {
+        // One that the reading ended may begin anew in the same minute, in its place or in another.
+        let waits_on = fate(pending, reading).is_none();
+        match begun.iter().position(|other| waits_on && other.is(pending)) {
             Some(kept) => {
                 begun.remove(kept);
             }

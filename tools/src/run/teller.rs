@@ -54,7 +54,7 @@ impl<'s, W: Write> Teller<'s, W> {
         };
         self.write(&told)?;
         Ok(match ending {
-            Ending::Running(_) | Ending::Fulfilled(_) => Status::Well,
+            Ending::Running { .. } | Ending::Fulfilled(_) => Status::Well,
             Ending::Breached(..) => Status::Breached,
         })
     }

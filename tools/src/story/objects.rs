@@ -17,6 +17,8 @@ pub fn event(words: &Words, event: &Event) -> Json {
         ("verdict", Json::text(word(&event.step.verdict))),
         ("refusal", Json::optional(refusal_of(&event.step.verdict), refusal)),
         ("breach", Json::optional(breach, |breach| told(words, &breach, &event.broken))),
+        ("last_moved", Json::Number(event.last_moved.into())),
+        ("last_moved_date", date(words, event.last_moved.into())),
         ("changes", changes(words, &event.changes)),
     ]);
     Json::Object(members)
@@ -34,12 +36,17 @@ pub fn ending(words: &Words, ending: &Ending) -> Json {
     let (word, shown, breach, waits) = match ending {
         Ending::Fulfilled(event) => ("fulfilled", Some(event), Json::Null, Vec::new()),
         Ending::Breached(breach, event) => ("breached", Some(event), told(words, breach, &event.broken), Vec::new()),
-        Ending::Running(tree) => ("running", None, Json::Null, tree.as_ref().map_or_else(|_| Vec::new(), waiting)),
+        Ending::Running { waiting: tree, .. } => {
+            ("running", None, Json::Null, tree.as_ref().map_or_else(|_| Vec::new(), waiting))
+        }
     };
+    let last_moved = i64::from(ending.last_moved());
     Json::Object(vec![
         ("end", Json::text(word)),
         ("shown_by", Json::optional(shown, |event| Json::Object(reading(words, event)))),
         ("breach", breach),
+        ("last_moved", Json::Number(last_moved)),
+        ("last_moved_date", date(words, last_moved)),
         ("waiting", Json::List(waits)),
     ])
 }

@@ -86,14 +86,22 @@ pub fn ending(words: &Words, ending: &Ending, readings: &str) -> String {
     let lines = match ending {
         Ending::Fulfilled(event) => vec![format!("FULFILLED, {}", shown_by(words, event, readings))],
         Ending::Breached(breach, event) => breached(words, breach, event, readings),
-        Ending::Running(Ok(tree)) => {
-            let mut lines = vec!["RUNNING".to_string()];
+        Ending::Running { waiting, last_moved } => running(words, waiting, *last_moved),
+    };
+    lines.join("\n") + "\n"
+}
+
+/// When it last moved, and what waits.
+fn running(words: &Words, waiting: &Told<Tree>, last_moved: u32) -> Vec<String> {
+    let told = format!("RUNNING, last moved at {}", words.time(last_moved.into()));
+    match waiting {
+        Ok(tree) => {
+            let mut lines = vec![told];
             owed(words, tree, 1, &mut lines);
             lines
         }
-        Ending::Running(Err(why)) => vec![format!("RUNNING; what is owed cannot be told: {why}")],
-    };
-    lines.join("\n") + "\n"
+        Err(why) => vec![format!("{told}; what is owed cannot be told: {why}")],
+    }
 }
 
 /// Who broke which duty, where it is written, when it was due, and which reading showed it.

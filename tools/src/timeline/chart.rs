@@ -105,7 +105,7 @@ fn mark(words: &Words, events: &[Event], ending: &Ending) -> Option<Mark> {
             let what = format!("fulfilled {}", words.time(event.time.into()));
             Some(Mark { time: event.time.into(), sort: MarkSort::Fulfilled, what })
         }
-        Ending::Running(_) => last_forecast(events).map(|breach| {
+        Ending::Running { .. } => last_forecast(events).map(|breach| {
             let what = format!("ahead: breach {}", by(&breach));
             Mark { time: minutes(&breach), sort: MarkSort::Forecast, what }
         }),
@@ -134,7 +134,7 @@ fn verdict(words: &Words, events: &[Event], ending: &Ending) -> String {
             }
         }
         Ending::Fulfilled(event) => format!("fulfilled, shown at {}", words.time(event.time.into())),
-        Ending::Running(_) => match last_forecast(events) {
+        Ending::Running { .. } => match last_forecast(events) {
             Some(breach) => {
                 let (when, who) = (words.moment(breach.time), parties(&breach));
                 format!("running; if only time goes on, breached at {when} by {who}")

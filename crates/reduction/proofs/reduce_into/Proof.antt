@@ -24,6 +24,7 @@ settle-requires c κs =
     let at-start = at-reduce .before .before .before .before .before .before in
     let due = at-start .pre .0 in (
       due .isTable,
+      due .held,
       record { room = λ h. omega (arith, at-if1 .before .units-of .ensures, at-if1 .if1 .left) },
       (time-cell (due .soon)) .0,
       reduced-few due _ _ (at-reduce .reduce .ensures),

@@ -46,7 +46,7 @@ walk-tree-requires c κs =
     let k = c .before .before in let s = begun (k .before) in (
       s .pre .0 .0,
       record {
-        soon = s .pre .1 .to;
+        soon = s .pre .1 .times .to;
         few = few k;
         long = omega (
           arith,

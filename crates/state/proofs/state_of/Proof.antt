@@ -1,105 +1,67 @@
--- The head decides: a last reading time from the start on, zeros in cells 5 to 7, and a state of 1 to 3, each read by
--- a function of its own.
-use Rattle.state.proofs.Shows.{head-timeless, head-zeros, head-other, head-before, head-at}
-use Rattle.units.specs.Cells.{numberBelow}
-use Rattle.arith.proofs.Ints.{read! }
-use native.Mathlib.Omega.{arith}
-use mathlib.Core.Path.{ap, _∙_}
+-- The head decides: its times, and a state of 1 to 3, each read by a function of its own.
 use borrow.Author.Needs.{needs}
+use mathlib.Core.Path.{_≡_, ap, _∙_}
+use Prim.Native.Nat.{ℕ, _<_}
+use native.Mathlib.Omega.{arith}
+use Rattle.arith.proofs.Ints.{read! }
+use Rattle.units.specs.Cells.{numberBelow}
+use Rattle.state.specs.Shown.{HeadAt}
+use Rattle.state.proofs.Shows.{head-timeless, head-other, head-at}
 use Rattle.state.proofs.state_of.Statement.{statement}
 use Rattle.state.proofs.state_of.Tie as tie
 
+begun : tie.After-number-below → tie.Start
+begun c = c .before .before .before .before .before .before .before
+
+-- the head with the state that is read
+head : (c : tie.After-number-below) (n : ℕ) → c .number-below .result ≡ n → n < 4
+    → HeadAt ((begun c) .args .agreement .now) ((begun c) .args .table .now) n
+    (c .before .before .before .last-time .result)
+unfolding begun
+head c n e h =
+    let s = begun c in
+    head-at (s .args .table .now) (s .pre .1) (s .args .agreement .now) (s .args .sights .now)
+    (c .before .before .before .last-time .ensures) (c .before .before .if1 .left)
+    (c .number-below .ensures .0 ∙ ap (numberBelow 4) (read! (c .before .number-below-arg .given))) e h
+
 returns : tie.Need-returns
 returns c =
-    let s = c .before .before .before .before .before .before in head-timeless (s .args .table .now) (s .pre .1)
-    (s .args .agreement .now) (s .args .sights .now)
-    (c .before .number-below .ensures .0 ∙ ap (numberBelow 4_294_967_296)
-    (read! (c .before .before .number-below-arg .given))) (c .if1 .taken)
-
-returns-2 : tie.Need-returns-2
-returns-2 c =
-    let at-number-below = c .before .before .before in
-    let s = c .before .before .before .before .before .before .before .before in
-    head-before (s .args .table .now) (s .pre .1) (s .args .agreement .now) (s .args .sights .now)
-    (at-number-below .number-below .ensures .0 ∙ ap (numberBelow 4_294_967_296)
-    (read! (at-number-below .before .number-below-arg .given))) (at-number-below .number-below .ensures .1)
-    (c .before .before .if1 .left) (c .before .unsigned32 .ensures .0) (c .if2 .taken)
-
-returns-3 : tie.Need-returns-3
-returns-3 c =
-    let s = c .before .before .before .before .before .before .before .before .before .before .before in head-zeros
-    (s .args .table .now) (s .pre .1) (s .args .agreement .now) (s .args .sights .now)
-    (c .before .zeros .ensures) (c .if3 .taken)
+    let s = c .before .before .before .before .before in
+    head-timeless (s .args .table .now) (s .pre .1) (s .args .agreement .now) (s .args .sights .now)
+    (c .before .last-time .ensures) (c .if1 .taken)
 
 running-requires : tie.Need-running-requires
-running-requires c κs =
-    let at-number-below-arg2 = c .before .before .before in
-    let at-if2 = at-number-below-arg2 .before .before .before .before in
-    let at-number-below = at-if2 .before .before .before in
-    let s = c .before .before .before .before .before .before .before .before .before .before .before .before
-    .before .before .before in (
-      s .pre,
-      head-at (s .args .table .now) (s .pre .1)
-          (s .args .agreement .now) (s .args .sights .now)
-          (at-number-below .number-below .ensures .0 ∙ ap (numberBelow 4_294_967_296)
-          (read! (at-number-below .before .number-below-arg .given))) (at-number-below .number-below .ensures .1)
-          (at-if2 .before .before .if1 .left) (at-if2 .before .unsigned32 .ensures .0) (at-if2 .if2 .left)
-          (at-number-below-arg2 .before .before .zeros .ensures) (at-number-below-arg2 .before .if3 .left)
-          (c .before .before .number-below2 .ensures .0 ∙ ap (numberBelow 4)
-          (read! (at-number-below-arg2 .number-below-arg2 .given))) (c .before .match .keys1) (omega arith),
-    )
+unfolding begun
+running-requires c κs = let at-state = c .before .before in
+    ((begun at-state) .pre, head at-state 1 (c .before .match .keys1) (omega arith))
 
 breached-requires : tie.Need-breached-requires
-breached-requires c κs =
-    let at-if3 = c .before .before .before in
-    let at-if2 = at-if3 .before .before .before in
-    let at-number-below = at-if2 .before .before .before in
-    let s = c .before .before .before .before .before .before .before .before .before .before .before .before
-    .before .before in (
-      s .pre .1,
-      s .pre .0 .areMains,
-      head-at (s .args .table .now) (s .pre .1) (s .args .agreement .now)
-          (s .args .sights .now) (at-number-below .number-below .ensures .0 ∙ ap (numberBelow 4_294_967_296)
-          (read! (at-number-below .before .number-below-arg .given))) (at-number-below .number-below .ensures .1)
-          (at-if2 .before .before .if1 .left) (at-if2 .before .unsigned32 .ensures .0) (at-if2 .if2 .left)
-          (at-if3 .before .zeros .ensures) (at-if3 .if3 .left)
-          (c .before .number-below2 .ensures .0 ∙ ap (numberBelow 4)
-          (read! (c .before .before .number-below-arg2 .given))) (c .match .keys3) (omega arith),
-    )
+unfolding begun
+breached-requires c κs = let s = begun (c .before) in
+    (s .pre .1, s .pre .0 .areMains, head (c .before) 3 (c .match .keys3) (omega arith))
+
+returns-3 : tie.Need-returns-3
+unfolding begun
+returns-3 c =
+    let at-state = c .before .before in
+    let s = begun at-state in
+    c .fulfilled .ensures (s .args .agreement .now) (at-state .before .before .before .last-time .result)
+    (s .args .sights .now) (head at-state 2 (c .before .match .keys2) (omega arith))
+
+returns-4 : tie.Need-returns-4
+unfolding begun
+returns-4 c = c .breached .ensures ((begun (c .before .before)) .args .sights .now)
 
 returns-5 : tie.Need-returns-5
+unfolding begun
 returns-5 c =
-    let at-number-below-arg2 = c .before .before .before in
-    let at-if2 = at-number-below-arg2 .before .before .before .before in
-    let at-number-below = at-if2 .before .before .before in
-    let s = c .before .before .before .before .before .before .before .before .before .before .before .before
-    .before .before .before in
-    c .fulfilled .ensures (s .args .agreement .now) (at-number-below .number-below .result) (s .args .sights .now)
-    (head-at (s .args .table .now) (s .pre .1) (s .args .agreement .now) (s .args .sights .now)
-    (at-number-below .number-below .ensures .0 ∙ ap (numberBelow 4_294_967_296)
-    (read! (at-number-below .before .number-below-arg .given))) (at-number-below .number-below .ensures .1)
-    (at-if2 .before .before .if1 .left) (at-if2 .before .unsigned32 .ensures .0) (at-if2 .if2 .left)
-    (at-number-below-arg2 .before .before .zeros .ensures) (at-number-below-arg2 .before .if3 .left)
-    (c .before .before .number-below2 .ensures .0 ∙ ap (numberBelow 4)
-    (read! (at-number-below-arg2 .number-below-arg2 .given))) (c .before .match .keys2) (omega arith))
-
-returns-6 : tie.Need-returns-6
-returns-6 c =
-    let at-start = c .before .before .before .before .before .before .before .before .before .before .before .before
-    .before .before .before in
-    c .breached .ensures (at-start .args .sights .now)
-
-returns-7 : tie.Need-returns-7
-returns-7 c =
-    let s = c .before .before .before .before .before .before .before .before .before .before .before .before
-    .before .before in head-other (s .args .table .now) (s .pre .1) (s .args .agreement .now)
-    (s .args .sights .now) (c .before .number-below2 .ensures .0 ∙ ap (numberBelow 4)
-    (read! (c .before .before .number-below-arg2 .given))) (λ e. omega (arith, c .match .rest))
-    (λ e. omega (arith, c .match .rest)) (λ e. omega (arith, c .match .rest))
+    let at-state = c .before in
+    let s = begun at-state in
+    head-other (s .args .table .now) (s .pre .1) (s .args .agreement .now) (s .args .sights .now)
+    (at-state .number-below .ensures .0 ∙ ap (numberBelow 4) (read! (at-state .before .number-below-arg .given)))
+    (λ e. omega (arith, c .match .rest)) (λ e. omega (arith, c .match .rest)) (λ e. omega (arith, c .match .rest))
 
 pub state-of-spec : {M : Type 1} → statement M
 state-of-spec = tie.close (tie.spec
-    (λ c. search needs) (λ c κs. search needs) returns (λ c κs. search needs) returns-2 (λ c. search needs)
-    (λ c. search needs) (λ c. search needs) (λ c κs. search needs) returns-3 (λ c. search needs)
-    (λ c κs. search needs) running-requires (λ c κs. search needs) breached-requires (λ c. search needs)
-    (λ c. search needs) returns-5 returns-6 returns-7)
+    (λ c κs. search needs) returns (λ c. search needs) (λ c κs. search needs) running-requires (λ c κs. search needs)
+    breached-requires (λ c. search needs) (λ c. search needs) returns-3 returns-4 returns-5)
