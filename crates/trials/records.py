@@ -68,7 +68,6 @@ def waiting(sort, place, a, params, values): return [sort, place, a] + padded(5,
 def joining(sort): return [sort]
 
 
-
 # the last reading time, and when it last moved: at the start, 100, where nothing else is said
 def running(time, units, moved=100): return table_with([1, time, 0, 0, len(units), moved], units)
 def fulfilled(time, moved=100): return table_with([2, time, 0, 0, 0, moved], [])

@@ -3,7 +3,6 @@ use mathlib.Core.Path.{_≡_, sym, ap, _∙_}
 use mathlib.Core.Bool.{Bool, true, false, not}
 use mathlib.Core.List.{List}
 use Prim.Native.Nat.{ℕ, _≤_, _<_}
-use native.Mathlib.Omega.{arith}
 use borrow.Author.Tests.{not-true, not-false}
 use lib.Dec.{leb, leb→le}
 use lib.IntN.{ℤ}
@@ -32,13 +31,14 @@ short {s = s} g = both-true (between 4 16_384 (length s)) _
 -- ---- start, for an accepted agreement and a table's cells
 module _ {s places : List ℕ} {p : ℕ} (g : Goes s places p) {us : List ℤ} (l : length us ≡ tableLength) {t : ℕ}
     (sights : List ℕ) (rs : List ℤ) where
-  pub begin-due : t < 4_294_967_296 → length rs ≤ 4 → Due s places sights us 0 (startEvent t) rs
-  begin-due h few = record {
+  -- whatever units are said to be in use
+  pub begin-due : {n : ℕ} → n ≤ 128 → t < 4_294_967_296 → length rs ≤ 4 → Due s places sights us n (startEvent t) rs
+  begin-due held h few = record {
     indexed = g .indexed;
     short = short g;
     isTable = l;
     few = few;
-    held = omega arith;
+    held = held;
     soon = h;
     units = tt;
   }

@@ -9,7 +9,7 @@ advance-requires : tie.Need-advance-requires
 advance-requires c κs =
     let at-time = c .before .before .before in
     let at-start = at-time .before .before .before in
-    begin-due (at-start .pre .0 .1) (at-start .pre .1) _ _ (at-time .unsigned32 .ensures .1) (omega arith)
+    begin-due (at-start .pre .0 .1) (at-start .pre .1) _ _ (omega arith) (at-time .unsigned32 .ensures .1) (omega arith)
 
 returns : tie.Need-returns
 returns c =
