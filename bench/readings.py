@@ -56,6 +56,12 @@ def main():
     for name, value in ("first", 0), ("last", 63):
         costs(f"127 units, a reading that alters the {name} of them", renewed(), [reading(110 + i, value) for i in range(20)])
     costs("127 units, a reading that alters none of them", renewed(), [reading(110 + i, 64) for i in range(20)])
+    early = agreement(owes(after=1000000))
+    wide_early = agreement(tree(64, owes(after=1000000)))
+    last_early = agreement(joined([owes(within=1000000, where=rec(33, bytes([0])))] * 63 + [owes(after=1000000)]))
+    cost("one unit, a reading that comes too early", early, reading(110))
+    cost("127 units of as many clauses, a reading that comes too early for the first", wide_early, reading(110))
+    cost("127 units of as many clauses, a reading that comes too early for the last alone", last_early, reading(110))
     data = SAMPLE + reading(110, 240) * 10000
     start = time.time()
     subprocess.run([WATCH], input=data, capture_output=True)

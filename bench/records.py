@@ -15,8 +15,8 @@ def lit(z): return rec(32, struct.pack("<i", z))
 YES, NIL = rec(33, b"\x01"), rec(16)
 
 
-def owes(then=NIL, within=60, where=YES, party=0):
-    return rec(17, bytes([party, 1]) + where + lit(0) + lit(within) + then)
+def owes(then=NIL, within=60, where=YES, party=0, after=0):
+    return rec(17, bytes([party, 1]) + where + lit(after) + lit(within) + then)
 
 
 def both(a, b): return rec(20, a + b)

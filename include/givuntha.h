@@ -13,8 +13,8 @@
  * - No pointer is null, not even one of length 0: lend any aligned address.
  * - Each run of memory is as long as its length says; lengths are in bytes for bytes, in cells for cells.
  * - The table and the single results are aligned to 8 bytes.
- * - What is written (table, time, parties) overlaps nothing else that is lent, and during the call nobody else reads
- *   or writes it. What is only read may be shared, but nobody writes it during the call.
+ * - What is written (table, time, parties, early) overlaps nothing else that is lent, and during the call nobody else
+ *   reads or writes it. What is only read may be shared, but nobody writes it during the call.
  * - The thread has GIVUNTHA_STACK_BYTES of stack left. Less is enough for most agreements; an overflow meets the
  *   guard page, since each page of stack is touched as it is taken.
  *
@@ -153,9 +153,14 @@ uint32_t givuntha_start(const uint8_t *agreement, size_t agreement_bytes, int64_
 /*
  * Gives a run a reading: the table becomes that of the run after it. Once breached, an accepted reading alters no
  * cell; a fulfilled run only takes on its time as that of the last reading.
+ *
+ * *early becomes 1 where the reading came too early, otherwise 0: it is 1 if and only if the reading is accepted, the
+ * table was running, no unit or state altered (as at GIVUNTHA_HEAD_LAST_MOVED), and at least one waiting unit wants
+ * this type, finds `where` true, and has a window that opens later than the reading. Nothing but the last reading time
+ * has changed then, and the reading does not count for that window. A refusal's early is 0.
  */
 uint32_t givuntha_reading(const uint8_t *agreement, size_t agreement_bytes, int64_t *table, size_t table_cells,
-                          const uint8_t *reading, size_t reading_bytes);
+                          const uint8_t *reading, size_t reading_bytes, uint64_t *early);
 
 /*
  * Tells what a run comes to without further readings: *time becomes the breach's time, which may exceed 32 bits, and

@@ -21,7 +21,8 @@ impl Case {
         let mut table = vec![0; CELLS];
         assert_eq!(entries::start(&agreement, &mut table), 0, "{name}: start");
         for earlier in before {
-            assert_eq!(entries::reading(&agreement, &mut table, earlier), 0, "{name}: an earlier reading");
+            let taken = entries::reading(&agreement, &mut table, earlier);
+            assert_eq!(taken.number, 0, "{name}: an earlier reading");
         }
         Case { name: name.to_string(), agreement, table, reading }
     }

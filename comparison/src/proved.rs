@@ -13,6 +13,7 @@ extern "C" {
         cells: usize,
         reading: *const u8,
         reading_bytes: usize,
+        early: *mut u64,
     ) -> u32;
     fn givuntha_forecast(
         agreement: *const u8,
@@ -40,10 +41,14 @@ pub fn start(agreement: &[u8], table: &mut [i64]) -> u32 {
     unsafe { givuntha_start(agreement.as_ptr(), agreement.len(), table.as_mut_ptr(), table.len()) }
 }
 
-pub fn reading(agreement: &[u8], table: &mut [i64], reading: &[u8]) -> u32 {
-    let (bytes, cells) = (agreement.len(), table.len());
+/// The number and the mark.
+pub fn reading(agreement: &[u8], table: &mut [i64], reading: &[u8]) -> (u32, u64) {
+    let mut early = UNWRITTEN;
+    let (bytes, cells, reading_bytes) = (agreement.len(), table.len(), reading.len());
+    let (agreement, table, reading) = (agreement.as_ptr(), table.as_mut_ptr(), reading.as_ptr());
     // SAFETY: as in `check`.
-    unsafe { givuntha_reading(agreement.as_ptr(), bytes, table.as_mut_ptr(), cells, reading.as_ptr(), reading.len()) }
+    let number = unsafe { givuntha_reading(agreement, bytes, table, cells, reading, reading_bytes, &mut early) };
+    (number, early)
 }
 
 /// The number, the time and the parties.
@@ -70,8 +75,8 @@ pub fn answer(call: &Call) -> Answer {
             Answer::Start { number, table }
         }
         Entry::Reading { table, reading: bytes } => {
-            let (number, table) = lend(table, |cells| reading(agreement, cells, bytes));
-            Answer::Reading { number, table }
+            let ((number, early), table) = lend(table, |cells| reading(agreement, cells, bytes));
+            Answer::Reading { number, early: u32::try_from(early).unwrap_or(u32::MAX), table }
         }
         Entry::Forecast { table } => {
             let (number, time, parties) = forecast(agreement, table);
@@ -86,12 +91,12 @@ const FENCE: usize = 32;
 
 /// Lends a table from the middle of a longer run of cells. A cell altered outside it is an abort: nothing
 /// that follows could be trusted.
-fn lend(table: &[i64], call: impl FnOnce(&mut [i64]) -> u32) -> (u32, Vec<i64>) {
+fn lend<T>(table: &[i64], call: impl FnOnce(&mut [i64]) -> T) -> (T, Vec<i64>) {
     let mut cells = vec![i64::MIN; table.len() + 2 * FENCE];
     let end = FENCE + table.len();
     cells[FENCE..end].copy_from_slice(table);
-    let number = call(&mut cells[FENCE..end]);
+    let answer = call(&mut cells[FENCE..end]);
     let outside = cells[..FENCE].iter().chain(&cells[end..]);
     assert!(outside.into_iter().all(|cell| *cell == i64::MIN), "a cell outside the lent table was altered");
-    (number, cells[FENCE..end].to_vec())
+    (answer, cells[FENCE..end].to_vec())
 }

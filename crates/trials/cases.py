@@ -1,7 +1,8 @@
 """The calls of the program `trials`, cause by cause, each with what must come back: written by hand from the papers."""
 from records import *
 
-CALLS = []  # (cause or None) or (entry, agreement, table, reading, number, parties or table after)
+# a cause, or (entry, agreement, table, reading, number, parties or table after); behind it a reading's mark, if not 0
+CALLS = []
 
 
 def cause(name): CALLS.append(name)
@@ -1018,3 +1019,403 @@ declines(8, MIXED, moved(105, GOOD), [])
 declines(9, MIXED, moved(105, GOOD), event(120, 2, []))
 declines(10, MIXED, moved(105, GOOD), event(109))
 declines(11, owing(then_is(many(65))), moved(105, altered(1, 110, AWAITING)), event(110, 1, [0]))
+
+# paper 02, No. 8
+def level(time, z=0): return event(time, 1, [z])
+def bell(time): return event(time, 2)
+def pond(main, *bodies): return agreement(main, [template(t, declared=1) for t in bodies], [reading(1), reading()])
+def from_to(first, last, **rest): return dict(after=lit(first - 100), within=lit(last - first), **rest)
+def below(z): return op(42, var(0), lit(z))
+
+
+# party 0 owes a level from 120 to 160, a bell by 400, a level that is never the right one
+OPENING = owes(**from_to(120, 160))
+BELL = owes(wanted=2, within=lit(300))
+UNMET = owes(where=truth(0))
+JOINS = ((both, 20), (either, 21))
+
+
+def unit(data, clause, a=100, params=(), sees=()):
+    """A clause that waits, at its first place in the agreement."""
+    return waiting(clause[2], data.index(clause), a, list(params), list(sees))
+
+
+def units(data, sort, *clauses): return [joining(sort), *(unit(data, c) for c in clauses)]
+def shown(time, at, bits): return table_with([3, time, at, bits, 0, time], [])
+
+
+def idle(mark, data, table, readings):
+    """Each by itself alters no unit and no state: the last reading time moves alone."""
+    for r in readings:
+        call("reading", data, table, r, 0, altered(1, int.from_bytes(r[4:8], "little"), table), mark)
+
+
+def early(data, table, *readings): idle(1, data, table, readings)
+def not_early(data, table, *readings): idle(0, data, table, readings)
+def alone(clause, *bodies): return pond(clause, *bodies), running(100, [unit(pond(clause, *bodies), clause)])
+
+
+OWED, OPENS = alone(OPENING)
+CHOICE = may(**from_to(120, 160, other=BELL))
+CHOSEN, OFFERED = alone(CHOICE)
+
+cause("early: an obligation, before its window, at its ends, after it")
+begins(OWED, ZEROS, OPENS)
+early(OWED, OPENS, level(100), level(101), level(119))
+leads(OWED, OPENS, level(120), fulfilled(120, 120))
+leads(OWED, OPENS, level(160), fulfilled(160, 160))
+leads(OWED, OPENS, level(161), shown(161, 160, 1))
+cause("early: a choice, before its window, at its ends, after it")
+begins(CHOSEN, ZEROS, OFFERED)
+early(CHOSEN, OFFERED, level(100), level(119))
+leads(CHOSEN, OFFERED, level(120), fulfilled(120, 120))
+leads(CHOSEN, OFFERED, level(160), fulfilled(160, 160))
+leads(CHOSEN, OFFERED, level(161), running(161, [unit(CHOSEN, BELL, 160)], 161))
+cause("early: once more, at the last reading time and after it")
+early(OWED, altered(1, 110, OPENS), level(110), level(111), level(119))
+
+# "the reading is accepted"
+cause("early: not when refused with 1 to 7")
+for number, data in enumerate((cat(OWED, [0]), pond(OPENING + NIL), pond(both(OPENING, asking(ONE))),
+                               pond(OPENING, inst(0)), pond(both(OPENING, nothings(129)))), 1):
+    declines(number, data, running(100, [unit(data, OPENING)]), level(110))
+declines(6, OWED, cat(OPENS, [0]), level(110))
+declines(6, OWED, OPENS[:3079], level(110))
+declines(7, OWED, altered(5, 99, OPENS), level(110))
+declines(7, OWED, altered(cell(0, 2), 101, OPENS), level(110))
+cause("early: not when refused with 8, with 9, with 10")
+for number, r in ((8, level(115)[:12]), (8, rec(65, level(115)[4:])), (8, cat(level(115), level(115))),
+                  (9, event(115, 1)), (9, event(115, 1, [0, 0])), (9, level(115, 1_000_000_001)),
+                  (9, event(115, 3, [0])), (10, level(109)), (10, level(99))):
+    declines(number, OWED, altered(1, 110, OPENS), r)
+cause("early: not when refused with 11; with another value the same unit waits")
+GROWS = owes(where=below(5), then=many(65))
+for pair in ((GROWS, OPENING), (OPENING, GROWS)):
+    data = pond(both(*pair), simply(0, 60))
+    declines(11, data, running(100, units(data, 20, *pair)), level(110, 4))
+    early(data, running(100, units(data, 20, *pair)), level(110, 5))
+
+# "the table was running"
+cause("early: not on a fulfilled table, nor on a breached one")
+not_early(OWED, fulfilled(110), level(110), level(115))
+for table in (table_with([3, 110, 105, 1, 0, 110], []), table_with([3, 110, 110, 1, 0, 100], [])):
+    leads(OWED, table, level(110), table)
+    leads(OWED, table, level(115), table)
+cause("early: not where the unit was dropped with the `or` that was fulfilled")
+DROPS = pond(either(OPENING, BELL))
+early(DROPS, running(100, units(DROPS, 21, OPENING, BELL)), level(106))
+leads(DROPS, running(100, units(DROPS, 21, OPENING, BELL)), bell(106), fulfilled(106, 106))
+not_early(DROPS, fulfilled(106, 106), level(106), level(110))
+
+# "and no unit or state altered"
+cause("early: not where another unit takes the reading and its `then` waits: on either side of `and`, of `or`")
+TAKES = owes(then=BELL)
+for join, sort in JOINS:
+    left, right = pond(join(TAKES, OPENING)), pond(join(OPENING, TAKES))
+    leads(left, running(100, units(left, sort, TAKES, OPENING)), level(110, 7),
+          running(110, [joining(sort), unit(left, BELL, 110, sees=[7, 50]), unit(left, OPENING)], 110))
+    leads(right, running(100, units(right, sort, OPENING, TAKES)), level(110, 7),
+          running(110, [joining(sort), unit(right, OPENING), unit(right, BELL, 110, sees=[7, 50])], 110))
+    early(right, running(110, [joining(sort), unit(right, OPENING), unit(right, BELL, 110, sees=[7, 50])], 110),
+          level(110, 7))
+cause("early: nor where that unit is fulfilled; the next reading of that minute finds the other alone")
+for pair in ((owes(), OPENING), (OPENING, owes())):
+    data = pond(both(*pair))
+    leads(data, running(100, units(data, 20, *pair)), level(110), running(110, [unit(data, OPENING)], 110))
+    early(data, running(110, [unit(data, OPENING)], 110), level(110), level(119))
+cause("early: nor where that fulfils an `or`")
+for pair in ((owes(), OPENING), (OPENING, owes())):
+    data = pond(either(*pair))
+    leads(data, running(100, units(data, 21, *pair)), level(110), fulfilled(110, 110))
+cause("early: nor where another unit is late: a breach, in its last minute not yet")
+DUE = owes(1, 2, within=lit(5))
+for pair in ((DUE, OPENING), (OPENING, DUE)):
+    data = pond(both(*pair))
+    early(data, running(100, units(data, 20, *pair)), level(105))
+    leads(data, running(100, units(data, 20, *pair)), level(106), shown(106, 105, 2))
+cause("early: nor where an `or` loses its late side")
+SOON = owes(0, 2, within=lit(5))
+for pair in ((SOON, OPENING), (OPENING, SOON)):
+    data = pond(either(*pair))
+    early(data, running(100, units(data, 21, *pair)), level(105))
+    leads(data, running(100, units(data, 21, *pair)), level(106), running(106, [unit(data, OPENING)], 106))
+    early(data, running(106, [unit(data, OPENING)], 106), level(106))
+cause("early: nor where a choice is late, and its else waits")
+TURNS = may(2, within=lit(5), other=BELL)
+BESIDE = pond(both(OPENING, TURNS))
+early(BESIDE, running(100, units(BESIDE, 20, OPENING, TURNS)), level(105))
+leads(BESIDE, running(100, units(BESIDE, 20, OPENING, TURNS)), level(106),
+      running(106, [joining(20), unit(BESIDE, OPENING), unit(BESIDE, BELL, 105)], 106))
+cause("early: the reading that brings an else is not, the next is")
+LATER, BEFORE = alone(may(2, within=lit(5), other=OPENING))
+AFTER = running(106, [unit(LATER, OPENING, 105)], 106)
+not_early(LATER, BEFORE, level(105))
+leads(LATER, BEFORE, level(106), AFTER)
+early(LATER, AFTER, level(106), level(124))
+leads(LATER, AFTER, level(125), fulfilled(125, 125))
+cause("early: not where a unit alters at the time that cell 5 held already")
+PASSING = pond(both(OPENING, TAKES))
+leads(PASSING, running(110, units(PASSING, 20, OPENING, TAKES), 110), level(110, 7),
+      running(110, [joining(20), unit(PASSING, OPENING), unit(PASSING, BELL, 110, sees=[7, 50])], 110))
+
+# "wants this type"
+cause("early: not by another type, with a value and without")
+RINGING = owes(wanted=2, **from_to(120, 160))
+not_early(OWED, OPENS, bell(110), bell(119))
+not_early(*alone(RINGING), level(110), level(119))
+early(*alone(RINGING), bell(110), bell(119))
+cause("early: not by a type with the same values")
+SEVEN = owes(where=op(43, var(0), lit(7)), **from_to(120, 160))
+TWO_TYPES = agreement(SEVEN, (), [reading(1), reading(1)])
+not_early(TWO_TYPES, running(100, [unit(TWO_TYPES, SEVEN)]), event(110, 2, [7]))
+early(TWO_TYPES, running(100, [unit(TWO_TYPES, SEVEN)]), event(110, 1, [7]))
+cause("early: not by a time mark")
+MARKED = pond(both(OPENING, RINGING))
+not_early(MARKED, running(100, units(MARKED, 20, OPENING, RINGING)), event(100), event(110), event(119))
+early(MARKED, running(100, units(MARKED, 20, OPENING, RINGING)), level(110), bell(110))
+
+# "finds `where` true"
+cause("early: not with `where` false, before the window and in it; of an obligation and of a choice")
+for clause in (owes(where=neg(below(250)), **from_to(120, 160)), may(where=neg(below(250)), **from_to(120, 160))):
+    not_early(*alone(clause), level(100, 249), level(119, 249), level(120, 249), level(160, 249))
+    early(*alone(clause), level(100, 250), level(119, 250))
+    leads(*alone(clause), level(120, 250), fulfilled(120, 120))
+not_early(*alone(UNMET), level(100), level(110))
+cause("early: `where` divides as No. 5 says")
+HALVES = owes(where=op(43, op(40, var(0), lit(2)), lit(-4)), **from_to(120, 160))
+early(*alone(HALVES), level(110, -7), level(110, -8))
+not_early(*alone(HALVES), level(110, -6), level(110, -9))
+
+# "has a first later than the reading"
+def again(after): return owes(after=lit(after), then=inst(0))
+def renewed(after): return pond(inst(0), again(after))
+
+
+def renewing(after, a, time=None, last_moved=105):
+    return running(time or a, [unit(renewed(after), again(after), a)], last_moved)
+
+
+cause("early: not where first is the reading's time or before it, though nothing alters: `then` is the same once more")
+not_early(renewed(0), renewing(0, 120), level(120))
+not_early(renewed(-1), renewing(-1, 120), level(120))
+not_early(renewed(-60), renewing(-60, 120), level(120))
+early(renewed(1), renewing(1, 120), level(120))
+leads(renewed(1), renewing(1, 120), level(121), renewing(1, 121, 121, 121))
+cause("early: one unit has to have all three: each of three has two of them; with one that has them all")
+FALSE = owes(where=truth(0), **from_to(120, 160))
+for third, form in ((FALSE, not_early), (OPENING, early)):
+    data = pond(both(both(RINGING, third), inst(0)), again(0))
+    form(data, running(100, [joining(20), *units(data, 20, RINGING, third), unit(data, again(0))]), level(100))
+
+# "at least one waiting unit"
+cause("early: the first of three units, the second, the third, none: under `and` and `or`, left and right")
+LONGER = owes(wanted=2, within=lit(301))
+for k in range(4):
+    a, b, c = [OPENING if i == k else z for i, z in enumerate((BELL, UNMET, LONGER))]
+    for outer, o in JOINS:
+        for inner, i in JOINS:
+            left, right = pond(outer(inner(a, b), c)), pond(outer(a, inner(b, c)))
+            idle(int(k < 3), left, running(100, [joining(o), *units(left, i, a, b), unit(left, c)]), [level(110)])
+            idle(int(k < 3), right, running(100, [joining(o), unit(right, a), *units(right, i, b, c)]), [level(110)])
+cause("early: two of them, together and by another value each")
+HIGH, LOW = owes(where=neg(below(5)), **from_to(130, 160)), owes(1, where=below(5), **from_to(120, 150))
+TWO = pond(both(HIGH, LOW))
+early(TWO, running(100, units(TWO, 20, HIGH, LOW)), level(119, 4), level(119, 5), level(129, 5))
+leads(TWO, running(100, units(TWO, 20, HIGH, LOW)), level(129, 4), running(129, [unit(TWO, HIGH)], 129))
+not_early(TWO, running(129, [unit(TWO, HIGH)], 129), level(129, 4))
+early(TWO, running(129, [unit(TWO, HIGH)], 129), level(129, 5))
+cause("early: clauses that do not wait are no units: in a `then`, in an else, beside an if, in a template")
+for clause in (owes(wanted=2, then=OPENING), owes(where=truth(0), then=OPENING), may(2, then=OPENING),
+               may(2, other=OPENING), may(where=truth(0), other=OPENING)):
+    not_early(*alone(clause), level(100), level(110))
+for data in (pond(cond(YES, BELL, OPENING)), pond(cond(truth(0), OPENING, BELL)), pond(BELL, OPENING)):
+    begins(data, ZEROS, running(100, [unit(data, BELL)]))
+    not_early(data, running(100, [unit(data, BELL)]), level(110))
+for data in (pond(cond(YES, OPENING, BELL)), pond(cond(truth(0), BELL, OPENING)), pond(inst(0), OPENING)):
+    begins(data, ZEROS, running(100, [unit(data, OPENING)]))
+    early(data, running(100, [unit(data, OPENING)]), level(110))
+
+# what is in sight: the values of a template, a number and a party; the reading's, a number and a party
+ASKS = owes(129, where=op(43, var(1), var(3)), after=var(0))
+SEES = agreement(both(inst(0, [lit(30), party(1)], [0, 1]), inst(0, [lit(40), party(0)], [1, 0])),
+                 [template(ASKS, [1, 3], 2)], [reading(1, 3)], 3)
+FIRST, SECOND = unit(SEES, ASKS, 100, [0, 1], [30, 1]), unit(SEES, ASKS, 100, [1, 0], [40, 0])
+
+
+def by(time, p): return event(time, 1, [5, p])
+
+
+cause("early: `where` and `after` see a unit's own values; its parameters do not matter")
+begins(SEES, ZEROS, running(100, [joining(20), FIRST, SECOND]))
+early(SEES, running(100, [joining(20), FIRST, SECOND]), by(129, 1), by(129, 0), by(130, 0), by(139, 0))
+not_early(SEES, running(100, [joining(20), FIRST, SECOND]), by(129, 2), by(139, 2))
+leads(SEES, running(100, [joining(20), FIRST, SECOND]), by(130, 1), running(130, [SECOND], 130))
+leads(SEES, running(100, [joining(20), FIRST, SECOND]), by(140, 0), running(140, [FIRST], 140))
+early(SEES, running(130, [SECOND], 130), by(130, 0), by(139, 0))
+not_early(SEES, running(130, [SECOND], 130), by(139, 1))
+cause("early: in a `then`, the earlier reading's value and the remaining time")
+GREATER = owes(where=op(42, var(0), var(2)), after=var(0))
+REMAINING = owes(wanted=2, after=var(1))
+for clause, r, first in ((GREATER, lambda t: level(t, 31), 140), (REMAINING, bell, 160)):
+    data, table = alone(then_is(clause))
+    waits = running(110, [unit(data, clause, 110, sees=[30, 50])], 110)
+    leads(data, table, level(110, 30), waits)
+    early(data, waits, r(110), r(first - 1))
+    not_early(data, waits, level(110, 30), level(first - 1, 30), level(first, 30), event(first - 1))
+    leads(data, waits, r(first), fulfilled(first, first))
+cause("early: `after` is worked out by the rules: a quotient rounds down, a sum is held at its end")
+SHARE = after_is(op(39, op(40, lit(-7), lit(2)), lit(-5)))
+HELD = after_is(op(37, lit(1_000_000_000), lit(1_000_000_000)))
+early(*alone(SHARE), level(100), level(115), level(119))
+leads(*alone(SHARE), level(120), fulfilled(120, 120))
+early(*alone(HELD), level(100), level(1_000_000_099))
+leads(*alone(HELD), level(1_000_000_100), fulfilled(1_000_000_100, 1_000_000_100))
+
+cause("early: not with a negative `after`: `where` false, taken, replaced by its equal")
+for after in (-1, -20, -1_000_000_000):
+    spans = dict(after=lit(after), within=lit(1_000_000_000))
+    not_early(*alone(owes(where=truth(0), **spans)), level(100))
+    leads(*alone(owes(**spans)), level(100), fulfilled(100, 100))
+    data = pond(inst(0), owes(then=inst(0), **spans))
+    not_early(data, running(100, [unit(data, owes(then=inst(0), **spans))]), level(100))
+
+cause("early: a window that ends before it begins: until its last minute, not after it")
+CROSSED = owes(**from_to(150, 130))
+early(*alone(CROSSED), level(100), level(130))
+leads(*alone(CROSSED), level(131), shown(131, 130, 1))
+leads(*alone(CROSSED), level(149), shown(149, 130, 1))
+leads(*alone(CROSSED), level(150), shown(150, 130, 1))
+early(*alone(owes(**from_to(120, 119))), level(119))
+leads(*alone(owes(**from_to(120, 119))), level(120), shown(120, 119, 1))
+cause("early: a choice with such a window")
+CROSSES, OFFERS = alone(may(**from_to(150, 130, other=BELL)))
+early(CROSSES, OFFERS, level(100), level(130))
+leads(CROSSES, OFFERS, level(131), running(131, [unit(CROSSES, BELL, 130)], 131))
+leads(CROSSES, OFFERS, level(150), running(150, [unit(CROSSES, BELL, 130)], 150))
+cause("early: not where the window ended before it was activated: the state alters, a side is lost, an else waits")
+PAST = from_to(150, 90)
+leads(*alone(owes(**PAST)), level(100), shown(100, 100, 1))
+LOSES = pond(either(owes(**PAST), BELL))
+leads(LOSES, running(100, units(LOSES, 21, owes(**PAST), BELL)), level(100), running(100, [unit(LOSES, BELL)]))
+SPENT, OFFERING = alone(may(**PAST, other=BELL))
+leads(SPENT, OFFERING, level(100), running(100, [unit(SPENT, BELL)]))
+
+# "Altered means that a unit cell or the state cell holds another number afterwards."
+# by its else, which takes the reading that finds it late, the choice is the same once more
+def elsewise(**window): return may(**window, other=then_is(inst(0)))
+
+
+LAPSED = elsewise(within=lit(-1))
+cause("early: beside a unit replaced by its equal, through a `then` and through an else; a minute later A alters")
+for body in (again(0), LAPSED):
+    for join, sort in JOINS:
+        left, right = pond(join(inst(0), OPENING), body), pond(join(OPENING, inst(0)), body)
+        early(left, running(100, units(left, sort, body, OPENING)), level(100))
+        early(right, running(100, units(right, sort, OPENING, body)), level(100))
+        leads(right, running(100, units(right, sort, OPENING, body)), level(101),
+              running(101, [joining(sort), unit(right, OPENING), unit(right, body, 101)], 101))
+cause("early: by itself such a unit is not, its first being the reading's time")
+not_early(pond(inst(0), LAPSED), running(100, [unit(pond(inst(0), LAPSED), LAPSED)]), level(100))
+cause("early: beside a unit that is fulfilled where another becomes both of them")
+BOTH = both(inst(0), inst(1))
+for third, form in ((OPENING, early), (BELL, not_early)):
+    data = pond(both(BOTH, third), owes(), then_is(BOTH))
+    form(data, running(100, [joining(20), *units(data, 20, owes(), then_is(BOTH)), unit(data, third)]), level(100))
+cause("early: a unit that a fulfilled `or` drops, and that another brings back: it was there and is there")
+BRINGS = both(either(inst(0), inst(1)), inst(2))
+BACK = pond(BRINGS, OPENING, owes(), then_is(BRINGS))
+
+
+def brought(a, time, last_moved):
+    waits = [unit(BACK, c, a) for c in (OPENING, owes(), then_is(BRINGS))]
+    return running(time, [joining(20), joining(21), *waits], last_moved)
+
+
+begins(BACK, ZEROS, brought(100, 100, 100))
+early(BACK, brought(100, 100, 100), level(100))
+leads(BACK, brought(100, 100, 100), level(101), brought(101, 101, 101))
+early(BACK, brought(101, 101, 101), level(101))
+cause("early: not by a clause of an else, or of a `then`, that is dropped at once: it is no unit of the table")
+DROPPED = may(within=lit(-1), other=both(either(OPENING, owes()), then_is(inst(0))))
+VANISHES = then_is(both(either(OPENING, NIL), inst(0)))
+for body in (DROPPED, VANISHES):
+    data, beside_it = pond(inst(0), body), pond(both(inst(0), FALSE), body)
+    not_early(data, running(100, [unit(data, body)]), level(100))
+    not_early(beside_it, running(100, units(beside_it, 20, body, FALSE)), level(100))
+    joined = pond(both(inst(0), CHOICE), body)
+    early(joined, running(100, units(joined, 20, body, CHOICE)), level(100))
+
+cause("early: a unit that is late, whose first is later, and that stands there again: by the words of No. 8 it is")
+for first, last, form in ((105, 99, early), (101, 99, early), (1_000_000_099, 99, early), (105, 100, early),
+                          (100, 99, not_early), (95, 95, not_early), (99, -900, not_early)):
+    body = elsewise(**from_to(first, last))
+    form(pond(inst(0), body), running(100, [unit(pond(inst(0), body), body)]), level(100))
+cause("early: so it is not with `where` false, nor by another type")
+for body in (elsewise(where=truth(0), **from_to(105, 99)), elsewise(wanted=2, **from_to(105, 99))):
+    not_early(pond(inst(0), body), running(100, [unit(pond(inst(0), body), body)]), level(100))
+cause("early: an obligation too: its `or` loses it, and the other side becomes that `or`")
+EITHER_OF = either(inst(0), inst(1))
+for first, form in ((105, early), (101, early), (100, not_early)):
+    body = owes(**from_to(first, 99))
+    data = pond(EITHER_OF, body, then_is(EITHER_OF))
+    form(data, running(100, units(data, 21, body, then_is(EITHER_OF))), level(100))
+
+# near the last minute that a reading can say
+END = 4_294_967_295
+cause("early: a first at that minute and beyond 32 bits")
+for after in (5, 6, 100, 1_000_000_000):
+    early(renewed(after), renewing(after, END - 5), level(END - 5), level(END - 1))
+    if after > 5:
+        early(renewed(after), renewing(after, END - 5), level(END))
+leads(renewed(5), renewing(5, END - 5), level(END), renewing(5, END, END, END))
+not_early(renewed(0), renewing(0, END), level(END))
+early(renewed(1), renewing(1, END), level(END))
+cause("early: a first beyond 32 bits of a window that is past in the next minute, and of one that is past already")
+for last in (100, 99):
+    body = elsewise(**from_to(last + 1_000_000_000, last))
+    data = pond(inst(0), body)
+    early(data, running(END - 5, [unit(data, body, END - 5)]), level(END - 5))
+    leads(data, running(END - 5, [unit(data, body, END - 5)]), level(END), running(END, [unit(data, body, END)], END))
+    early(data, running(END, [unit(data, body, END)]), level(END))
+
+# tables that no run reaches
+cause("early: another A than the run's, wherever cell 5 stands")
+for a, last_moved in ((100, 100), (100, 107), (100, 118), (110, 100), (118, 100), (118, 118)):
+    table = running(118, [unit(OWED, OPENING, a)], last_moved)
+    early(OWED, table, level(118), level(a + 19))
+    leads(OWED, table, level(a + 20), fulfilled(a + 20, a + 20))
+cause("early: values and parameters that are handed to nobody, a place that is not reached yet, a template not named")
+STRANGE = unit(SEES, ASKS, 105, [2, 1], [1_000_000_000, 2])
+early(SEES, running(110, [STRANGE]), by(110, 2), by(1_000_000_104, 2))
+not_early(SEES, running(110, [STRANGE]), by(110, 0))
+UNREAD = pond(then_is(GREATER))
+early(UNREAD, running(100, [unit(UNREAD, GREATER, sees=[1, 1_000_000_000])]), level(100, 2))
+not_early(UNREAD, running(100, [unit(UNREAD, GREATER, sees=[-1, -1_000_000_000])]), level(100, -1))
+UNNAMED = pond(BELL, OPENING)
+early(UNNAMED, running(110, [unit(UNNAMED, OPENING, 105)]), level(124))
+cause("early: joined as the agreement does not join it")
+early(OWED, running(110, [joining(21), *units(OWED, 20, OPENING, OPENING), unit(OWED, OPENING, 110)]), level(110))
+early(OWED, running(110, [joining(20), unit(OWED, OPENING, 110), unit(OWED, OPENING, 108)]), level(127))
+leads(OWED, running(110, [joining(20), unit(OWED, OPENING, 110), unit(OWED, OPENING, 108)]), level(128),
+      running(128, [unit(OWED, OPENING, 110)], 128))
+
+
+# as many units as there can be
+def spread(join, parts):
+    half = len(parts) // 2
+    return join(spread(join, parts[:half]), spread(join, parts[half:])) if half else parts[0]
+
+
+def among(places):
+    """64 instances joined in balance: at these places of template 1, else of template 0; and their 127 units."""
+    data = pond(spread(both, [inst(int(i in places)) for i in range(64)]), BELL, OPENING)
+    waits = [[unit(data, OPENING if i in places else BELL)] for i in range(64)]
+    return data, running(100, spread(lambda a, b: [joining(20), *a, *b], waits))
+
+
+cause("early: one of 127 units, none of them, each that waits")
+begins(among([31])[0], ZEROS, among([31])[1])
+for i in (0, 1, 31, 32, 62, 63):
+    early(*among([i]), level(110))
+not_early(*among([]), level(110))
+early(*among(range(64)), level(110))

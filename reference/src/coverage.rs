@@ -1,6 +1,7 @@
 //! Counts what generated calls reach, and finds faults: answers that cannot be right whatever the
 //! rules say in detail.
 
+pub mod early;
 pub mod members;
 pub mod moved;
 pub mod quotients;
@@ -10,11 +11,12 @@ use crate::check::{accept, Accepted};
 use crate::generate::records::spans;
 use crate::generate::{damage, readings::collect, tables, Aim, Answer, Call, Entry};
 use crate::reading::{self, Reading};
-use crate::rules::{self, evaluate, Outcome, Residue, Scope, Waiting};
+use crate::rules::{self, evaluate, Outcome, Residue, Scope, Waiting, Window};
 use crate::table::{self, State, BREACHED, FULFILLED, MOVED, STATE, USED};
 use crate::{build, entries, Refusal};
+use early::Marked;
 use members::Judged;
-use moved::Taken;
+use moved::Effect;
 use quotients::Quotient;
 use std::collections::BTreeMap;
 use std::fmt;
@@ -32,6 +34,9 @@ const LAST_MOVED: &str = "cell 5 at a start or a reading";
 const ALTERATIONS: &str = "altered by a reading, running still";
 const REPLACED: &str = "replaced by equal units";
 const CELL_5: &str = "where cell 5 lies, nothing else wrong";
+const EARLY: &str = "what decides the mark 'early'";
+const NEAR_EARLY: &str = "one condition of 'early' fails alone";
+const EARLY_CORNERS: &str = "where 'early' is 1";
 const CAUSES_READING: &str = "cause of 7 at a reading";
 const CAUSES_FORECAST: &str = "cause of 7 at a forecast";
 const CHANGES: &str = "changed table, whatever the number";
@@ -66,6 +71,9 @@ impl Coverage {
             (ALTERATIONS, moved::alterations()),
             (REPLACED, REPLACEMENTS.map(str::to_string).to_vec()),
             (CELL_5, moved::places(&["reading", "forecast"])),
+            (EARLY, early::cases()),
+            (NEAR_EARLY, early::near_misses()),
+            (EARLY_CORNERS, early::corners()),
             (CAUSES_READING, tables::Damage::CAUSES.iter().map(|cause| format!("{cause:?}")).collect()),
             (CAUSES_FORECAST, tables::Damage::CAUSES.iter().map(|cause| format!("{cause:?}")).collect()),
             (CHANGES, tables::Damage::CHANGES.iter().map(|change| format!("{change:?}")).collect()),
@@ -102,6 +110,7 @@ impl Coverage {
         self.count(NUMBERS, format!("{} {number:2}", entry_name(&call.entry)));
         self.observe_aim(call, number);
         self.untouched(call, answer);
+        self.observe_refused_mark(call, answer);
         self.observe_members(call, number);
         self.observe_cell_5(call, number);
         if number > 0 && number < 8 {
@@ -115,11 +124,13 @@ impl Coverage {
                 self.observe_start(&agreement, number);
                 self.observe_start_time(call, &agreement, number, after);
             }
-            (Entry::Reading { table, reading }, Answer::Reading { table: after, .. }) => {
+            (Entry::Reading { table, reading }, Answer::Reading { early, table: after, .. }) => {
                 if let Ok(reading) = reading::parse(reading) {
                     self.observe_reading(&accepted, table, &reading, number);
-                    let taken = Taken { before: table, after, reading: &reading };
-                    self.observe_moved(call, &accepted, &taken, number);
+                    let effect = &Effect { before: table, after, reading: &reading };
+                    self.observe_moved(call, &accepted, effect, number);
+                    let bytes = &call.agreement;
+                    self.observe_early(call, &Marked { bytes, accepted: &accepted, effect, number, early: *early });
                 }
                 self.observe_table(call, &accepted, after);
             }
@@ -150,7 +161,7 @@ impl Coverage {
     fn untouched(&mut self, call: &Call, answer: &Answer) {
         match (&call.entry, answer) {
             (Entry::Start { table }, Answer::Start { number, table: after })
-            | (Entry::Reading { table, .. }, Answer::Reading { number, table: after }) => {
+            | (Entry::Reading { table, .. }, Answer::Reading { number, table: after, .. }) => {
                 self.fault(*number != 0 && table != after, "a refusal touched the table", call);
             }
             _ => {}
@@ -194,23 +205,48 @@ impl Coverage {
         }
     }
 
+    /// A refused reading is not early.
+    fn observe_refused_mark(&mut self, call: &Call, answer: &Answer) {
+        let Answer::Reading { number, early, .. } = answer else { return };
+        if *number != 0 {
+            self.fault(*early != 0, "a refusal marked early", call);
+            self.count(EARLY, early::refused(*number).to_string());
+        }
+    }
+
+    /// What decides the mark of a reading that is a record.
+    fn observe_early(&mut self, call: &Call, marked: &Marked) {
+        if marked.number == 0 {
+            self.count(EARLY, marked.case().to_string());
+            if let Some(fault) = marked.fault() {
+                self.fault(true, fault, call);
+            }
+        }
+        for near_miss in marked.near_misses() {
+            self.count(NEAR_EARLY, near_miss.to_string());
+        }
+        for corner in marked.corners() {
+            self.count(EARLY_CORNERS, corner.to_string());
+        }
+    }
+
     /// What a reading alters, and what becomes of cell 5.
-    fn observe_moved(&mut self, call: &Call, accepted: &Accepted, taken: &Taken, number: u32) {
+    fn observe_moved(&mut self, call: &Call, accepted: &Accepted, effect: &Effect, number: u32) {
         if number == Refusal::Units.number() {
             self.count(LAST_MOVED, moved::TOO_MANY_UNITS.to_string());
         }
         if number != 0 {
             return;
         }
-        if let Some(fault) = taken.fault() {
+        if let Some(fault) = effect.fault() {
             self.fault(true, fault, call);
         }
-        self.count(LAST_MOVED, taken.case());
+        self.count(LAST_MOVED, effect.case());
         // Where cell 5 holds the reading's time already, it does not show whether something was altered.
-        if taken.stays_running() && taken.before[MOVED] != taken.reading.time {
-            self.count(ALTERATIONS, taken.alteration().to_string());
-            if taken.is_unaltered() {
-                self.observe_replaced(accepted, taken.before, taken.reading);
+        if effect.stays_running() && effect.before[MOVED] != effect.reading.time {
+            self.count(ALTERATIONS, effect.alteration().to_string());
+            if effect.is_unaltered() {
+                self.observe_replaced(accepted, effect.before, effect.reading);
             }
         }
     }
@@ -358,7 +394,8 @@ impl Coverage {
     fn observe_marks(&mut self, call: &Call, table: &[i64], breach: Option<(i64, u32)>) {
         let after = |time: u32| {
             let mut lent = table.to_vec();
-            (entries::reading(&call.agreement, &mut lent, &build::reading(time, 0, &[])) == 0).then_some(lent)
+            let mark = build::reading(time, 0, &[]);
+            (entries::reading(&call.agreement, &mut lent, &mark).number == 0).then_some(lent)
         };
         let Some((time, parties)) = breach else {
             let breached = after(u32::MAX).is_some_and(|left| left[STATE] == BREACHED);
@@ -463,7 +500,7 @@ fn sight_of_then(agreement: &Agreement, site: &crate::check::Site) -> usize {
 
 /// What a waiting unit does with a reading.
 fn deed(unit: &Waiting, reading: &Reading) -> &'static str {
-    let (first, last) = unit.window();
+    let Window { first, last } = unit.window();
     if reading.time > last {
         return if matches!(unit.wait.late, Late::Breach(_)) { "breach" } else { "else" };
     }

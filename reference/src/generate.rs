@@ -11,7 +11,7 @@ pub mod tables;
 use crate::agreement;
 use crate::check::{accept, Accepted};
 use crate::table::{self, CELLS, RUNNING, STATE};
-use crate::{entries, Checked, Forecast};
+use crate::{entries, Checked, Forecast, Taken};
 use random::Random;
 use std::collections::VecDeque;
 use std::rc::Rc;
@@ -50,7 +50,7 @@ pub enum Aim {
 pub enum Answer {
     Check(Checked),
     Start { number: u32, table: Vec<i64> },
-    Reading { number: u32, table: Vec<i64> },
+    Reading { number: u32, early: u32, table: Vec<i64> },
     Forecast(Forecast),
 }
 
@@ -76,8 +76,8 @@ impl Call {
             }
             Entry::Reading { table, reading } => {
                 let mut table = table.clone();
-                let number = entries::reading(&self.agreement, &mut table, reading);
-                Answer::Reading { number, table }
+                let Taken { number, early } = entries::reading(&self.agreement, &mut table, reading);
+                Answer::Reading { number, early, table }
             }
             Entry::Forecast { table } => Answer::Forecast(entries::forecast(&self.agreement, table)),
         }

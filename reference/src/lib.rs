@@ -15,7 +15,7 @@ pub mod reading;
 pub mod rules;
 pub mod table;
 
-pub use entries::{check, forecast, reading, start, Checked, Forecast};
+pub use entries::{check, forecast, reading, start, Checked, Forecast, Taken};
 pub use table::CELLS;
 
 /// The conditions of the paper's refusal table, under their numbers.
@@ -42,7 +42,7 @@ pub enum Refusal {
     /// range"
     Unfit = 9,
     /// "time below the last reading time"
-    Early = 10,
+    Time = 10,
     /// "the residue by the rules needs over 128 units"
     Units = 11,
 }

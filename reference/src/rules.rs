@@ -62,6 +62,17 @@ impl Scope {
     }
 }
 
+impl Outcome<'_> {
+    /// Paper 02, No. 8: "the table was running ..., and at least one waiting unit" finds the reading
+    /// early. What is decided has no units.
+    pub fn finds_early(&self, reading: &Reading) -> bool {
+        match self {
+            Outcome::Fulfilled | Outcome::Breached(_) => false,
+            Outcome::Running(residue) => residue.finds_early(reading),
+        }
+    }
+}
+
 impl Residue<'_> {
     /// "joined by `and` and `or`, a unit each"
     pub fn units(&self) -> usize {
@@ -70,19 +81,82 @@ impl Residue<'_> {
             Residue::And(left, right) | Residue::Or(left, right) => 1 + left.units() + right.units(),
         }
     }
+
+    /// "at least one waiting unit": on whichever side of a join, and whatever the join makes of that
+    /// side. A unit is a unit of the table: what an else would activate is none yet.
+    pub fn finds_early(&self, reading: &Reading) -> bool {
+        match self {
+            Residue::Waiting(waiting) => waiting.finds_early(reading),
+            Residue::And(left, right) | Residue::Or(left, right) => {
+                left.finds_early(reading) || right.finds_early(reading)
+            }
+        }
+    }
+}
+
+/// The minutes from first to last. Last may be before first.
+#[derive(Clone, Copy, Debug, PartialEq, Eq)]
+pub struct Window {
+    pub first: i64,
+    pub last: i64,
+}
+
+/// How a reading's time lies to a window. Paper 02, No. 8: "the window test must tell early from
+/// late".
+#[derive(Clone, Copy, Debug, PartialEq, Eq)]
+pub enum Timing {
+    /// Before first, and not after last.
+    Early,
+    /// In the window.
+    Open,
+    /// After last, and not before first.
+    Late,
+    /// After last and before first: of a window whose last is before its first.
+    EarlyAndLate,
+}
+
+impl Window {
+    /// The window test; "both ends included".
+    pub fn timing(self, time: i64) -> Timing {
+        match (time < self.first, time > self.last) {
+            (true, false) => Timing::Early,
+            (false, false) => Timing::Open,
+            (false, true) => Timing::Late,
+            (true, true) => Timing::EarlyAndLate,
+        }
+    }
 }
 
 impl Waiting<'_> {
     /// "its window being first = A + after, last = first + within, both ends included, never held
     /// at a limit"
-    pub fn window(&self) -> (i64, i64) {
+    pub fn window(&self) -> Window {
         let first = self.activated + evaluate(&self.wait.after, &self.scope);
-        (first, first + evaluate(&self.wait.within, &self.scope))
+        Window { first, last: first + evaluate(&self.wait.within, &self.scope) }
     }
 
     /// The time of a breach or of an else: "the later of A and last".
     pub fn late_time(&self, last: i64) -> i64 {
         self.activated.max(last)
+    }
+
+    /// "`where` sees the reading's values too".
+    fn seen(&self, reading: &Reading) -> Scope {
+        self.scope.with(&reading.values)
+    }
+
+    /// "The reading type is the wanted one ... and where is true", whatever the time.
+    fn wants(&self, reading: &Reading) -> bool {
+        reading.kind == self.wait.reading && is_true(&self.wait.condition, &self.seen(reading))
+    }
+
+    /// Paper 02, No. 8: a waiting unit that "wants this type, finds `where` true, and has a first
+    /// later than the reading". Nothing is asked of last: late or not, its first is later.
+    pub fn finds_early(&self, reading: &Reading) -> bool {
+        match self.window().timing(reading.time) {
+            Timing::Early | Timing::EarlyAndLate => self.wants(reading),
+            Timing::Open | Timing::Late => false,
+        }
     }
 }
 
@@ -183,21 +257,18 @@ pub fn follow<'a>(agreement: &'a Agreement, residue: Residue<'a>, reading: &Read
 
 /// "For each unit, in this order: ..."
 fn follow_waiting<'a>(agreement: &'a Agreement, waiting: Waiting<'a>, reading: &Reading) -> Outcome<'a> {
-    let (first, last) = waiting.window();
-    if reading.time > last {
-        return late(agreement, &waiting, last, reading);
-    }
-    if reading.kind == waiting.wait.reading && reading.time >= first {
-        let seen = waiting.scope.with(&reading.values);
-        if is_true(&waiting.wait.condition, &seen) {
-            // "`then` is activated at T, remaining time last − T. It does not see this reading
-            // again."
-            let scope = seen.with(&[last - reading.time]);
-            return activate(agreement, &waiting.wait.then, reading.time, &scope);
+    let window = waiting.window();
+    match window.timing(reading.time) {
+        // "T > last" is the first to be asked, be the time before first or not.
+        Timing::Late | Timing::EarlyAndLate => late(agreement, &waiting, window.last, reading),
+        // "`then` is activated at T, remaining time last − T. It does not see this reading again."
+        Timing::Open if waiting.wants(reading) => {
+            let scope = waiting.seen(reading).with(&[window.last - reading.time]);
+            activate(agreement, &waiting.wait.then, reading.time, &scope)
         }
+        // "Otherwise it waits on."
+        Timing::Early | Timing::Open => Outcome::Running(Residue::Waiting(waiting)),
     }
-    // "Otherwise it waits on."
-    Outcome::Running(Residue::Waiting(waiting))
 }
 
 /// "T > last: an obligation is breached at the later of A and last, by its blame. A choice
@@ -289,8 +360,7 @@ pub fn forecast_residue<'a>(agreement: &'a Agreement, residue: &Residue<'a>) -> 
 /// "an obligation gives its breach at the later of A and last; a choice gives what its else,
 /// activated at that time, gives"
 fn forecast_waiting<'a>(agreement: &'a Agreement, waiting: &Waiting<'a>) -> Option<Breach> {
-    let (_, last) = waiting.window();
-    let time = waiting.late_time(last);
+    let time = waiting.late_time(waiting.window().last);
     match &waiting.wait.late {
         Late::Breach(blame) => Some(breach(time, *blame, &waiting.scope)),
         Late::Else(otherwise) => forecast(agreement, &activate(agreement, otherwise, time, &waiting.scope)),

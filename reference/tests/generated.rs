@@ -9,8 +9,9 @@ use reference::build::{
     self, and, binary, fulfilled, if_clause, instance, number, or, reading_type, simple, value, Wait,
 };
 use reference::check::accept;
+use reference::coverage::early::Marked;
 use reference::coverage::members::{self, Judged, Resolved};
-use reference::coverage::moved::{self, Lies, Taken};
+use reference::coverage::moved::{self, Effect, Lies};
 use reference::coverage::{quotients, Coverage};
 use reference::entries::started;
 use reference::generate::damage::Damage;
@@ -18,8 +19,8 @@ use reference::generate::{agreements, calls, input, random::Random, Aim, Answer,
 use reference::reading::Reading;
 use reference::rules::Outcome;
 use reference::table::{
-    self, State, ACTIVATED, CELLS, FULFILLED, HEAD, LAST, MOVED, OR, PARAMETERS, PLACE, RUNNING, SORT, STATE, UNIT,
-    USED, VALUES,
+    self, State, ACTIVATED, BREACHED, CELLS, FULFILLED, HEAD, LAST, MOVED, OR, PARAMETERS, PLACE, RUNNING, SORT, STATE,
+    UNIT, USED, VALUES,
 };
 use reference::{check, reading, start, Checked, Forecast};
 
@@ -137,7 +138,7 @@ fn owed_twice() -> (Vec<u8>, Vec<i64>) {
     let bytes = build::agreement(100, 1, &[reading_type(&[])], &[], &main);
     let mut table = vec![0; CELLS];
     assert_eq!(start(&bytes, &mut table), 0);
-    assert_eq!(reading(&bytes, &mut table, &build::reading(110, 0, &[])), 0);
+    assert_eq!(reading(&bytes, &mut table, &build::reading(110, 0, &[])).number, 0);
     (bytes, table)
 }
 
@@ -170,7 +171,7 @@ fn alterations_are_found() {
     let mark = Reading { time: 120, kind: 0, values: Vec::new() };
     let altered = |cells: &[(usize, i64)]| {
         let after = with(&table, cells);
-        Taken { before: &table, after: &after, reading: &mark }.alteration()
+        Effect { before: &table, after: &after, reading: &mark }.alteration()
     };
     // Neither the other cells of the head nor cell 5 itself are looked at.
     assert_eq!(altered(&[(LAST, 120), (2, 1), (3, 1), (MOVED, 120), (6, 1)]), "nothing");
@@ -191,7 +192,7 @@ fn a_wrong_cell_5_is_a_fault() {
     let (bytes, table) = owed_twice();
     let faults = |before: &[i64], reading: Vec<u8>, after: &[i64]| {
         let entry = Entry::Reading { table: before.to_vec(), reading };
-        faults(&bytes, entry, Answer::Reading { number: 0, table: after.to_vec() })
+        faults(&bytes, entry, Answer::Reading { number: 0, early: 0, table: after.to_vec() })
     };
     let mark = || build::reading(120, 0, &[]);
     let idle = with(&table, &[(LAST, 120)]);
@@ -201,7 +202,7 @@ fn a_wrong_cell_5_is_a_fault() {
 
     let fitting = || build::reading(120, 1, &[]);
     let mut followed = table.clone();
-    assert_eq!(reading(&bytes, &mut followed, &fitting()), 0);
+    assert_eq!(reading(&bytes, &mut followed, &fitting()).number, 0);
     assert_eq!(faults(&table, fitting(), &followed), 0);
     assert_eq!(faults(&table, fitting(), &with(&followed, &[(MOVED, 100)])), 1);
     assert_eq!(faults(&table, fitting(), &with(&followed, &[(MOVED, 110)])), 1);
@@ -213,7 +214,7 @@ fn a_wrong_cell_5_is_a_fault() {
     assert_eq!(faults(&fulfilled, mark(), &with(&fulfilled, &[(LAST, 120), (USED, 1)])), 2);
 
     let mut breached = table.clone();
-    assert_eq!(reading(&bytes, &mut breached, &build::reading(161, 0, &[])), 0);
+    assert_eq!(reading(&bytes, &mut breached, &build::reading(161, 0, &[])).number, 0);
     let late = || build::reading(170, 0, &[]);
     assert_eq!(faults(&breached, late(), &breached), 0);
     assert_eq!(faults(&breached, late(), &with(&breached, &[(LAST, 170)])), 1);
@@ -237,6 +238,132 @@ fn a_wrong_number_for_cell_5_or_a_wrong_start_is_a_fault() {
         faults(&bytes, Entry::Start { table: vec![0; CELLS] }, answer)
     };
     assert_eq!([faults_with(100), faults_with(0), faults_with(101)], [0, 1, 1]);
+}
+
+/// An agreement from 100, and its table at the start.
+fn begun(templates: &[Vec<u8>], main: &[u8]) -> (Vec<u8>, Vec<i64>) {
+    let readings = [reading_type(&[Type::Number]), reading_type(&[])];
+    let bytes = build::agreement(100, 1, &readings, templates, main);
+    let mut table = vec![0; CELLS];
+    assert_eq!(start(&bytes, &mut table), 0);
+    (bytes, table)
+}
+
+/// Party 0 owes a reading of type 1 from `after` minutes on for so long.
+fn opening(after: i32, within: i32) -> Wait {
+    Wait { after: number(after), ..simple(within) }
+}
+
+/// A monitor that marks the wrong readings gives such answers.
+#[test]
+fn a_wrong_mark_is_a_fault() {
+    let (bytes, table) = begun(&[], &opening(20, 40).obligation(0));
+    let faults = |before: &[i64], taken: Vec<u8>, wrong: &dyn Fn(Answer) -> Answer| {
+        let entry = Entry::Reading { table: before.to_vec(), reading: taken };
+        let call = Call { agreement: bytes.as_slice().into(), entry, aim: Aim::Made };
+        let mut coverage = Coverage::new();
+        coverage.observe(&call, &wrong(call.answer()));
+        coverage.faults.len()
+    };
+    let marked = |mark: u32| {
+        move |answer: Answer| match answer {
+            Answer::Reading { number, table, .. } => Answer::Reading { number, early: mark, table },
+            other => other,
+        }
+    };
+    let level = |time, value| build::reading(time, 1, &[value]);
+    assert_eq!([0, 1, 2].map(|mark| faults(&table, level(110, 0), &marked(mark))), [1, 0, 1]);
+    let at_110 = with(&table, &[(LAST, 110)]);
+    let others = [
+        level(120, 0),
+        level(161, 0),
+        build::reading(110, 2, &[]),
+        build::reading(110, 0, &[]),
+        level(109, 0),
+        build::reading(115, 1, &[]),
+        Vec::new(),
+    ];
+    for other in others {
+        let found = [0, 1, 2].map(|mark| faults(&at_110, other.clone(), &marked(mark)));
+        assert_eq!(found, [0, 1, 1], "{other:?}");
+    }
+    for head in [[FULFILLED, 110, 0, 0, 0, 110, 0, 0], [BREACHED, 110, 105, 1, 0, 110, 0, 0]] {
+        let mut decided = vec![0; CELLS];
+        decided[..HEAD].copy_from_slice(&head);
+        assert_eq!([0, 1].map(|mark| faults(&decided, level(115, 0), &marked(mark))), [0, 1]);
+    }
+}
+
+/// What decides the mark of one reading, what fails alone, and in which corners it is 1.
+fn judged(
+    (bytes, table): &(Vec<u8>, Vec<i64>),
+    taken: Vec<u8>,
+) -> (&'static str, Vec<&'static str>, Vec<&'static str>) {
+    let agreement = parse(bytes).expect("an agreement");
+    let accepted = accept(&agreement).expect("an accepted agreement");
+    let mut after = table.clone();
+    let answer = reading(bytes, &mut after, &taken);
+    let parsed = reference::reading::parse(&taken).expect("a record");
+    let effect = Effect { before: table, after: &after, reading: &parsed };
+    let marked = Marked { bytes, accepted: &accepted, effect: &effect, number: answer.number, early: answer.early };
+    assert_eq!(marked.fault(), None);
+    (marked.case(), marked.near_misses(), marked.corners())
+}
+
+#[test]
+fn what_decides_the_mark_is_found() {
+    let level = |time| build::reading(time, 1, &[0]);
+    let alone = begun(&[], &opening(20, 40).obligation(0));
+    let corners = ["a minute before first", "an obligation", "later than the last reading time", "the only unit"];
+    assert_eq!(judged(&alone, level(119)), ("1", vec![], corners.to_vec()));
+    assert_eq!(judged(&alone, level(120)), ("0: the state altered", vec![], vec![]));
+    let bell = build::reading(110, 2, &[]);
+    assert_eq!(judged(&alone, bell), ("0: no unit wants the type", vec!["another type"], vec![]));
+    let mark = build::reading(110, 0, &[]);
+    assert_eq!(judged(&alone, mark), ("0: a time mark", vec!["a time mark"], vec![]));
+    assert_eq!(judged(&alone, level(99)).1, ["refused with 10"]);
+    assert_eq!(judged(&alone, build::reading(110, 1, &[])).1, ["refused with 9"]);
+    let false_where = begun(&[], &Wait { condition: build::truth(0), ..opening(20, 40) }.obligation(0));
+    let expected = ("0: `where` is false", vec!["`where` is false"], vec![]);
+    assert_eq!(judged(&false_where, level(110)), expected);
+    let both = begun(&[], &and(&opening(20, 40).obligation(0), &simple(60).obligation(0)));
+    assert_eq!(judged(&both, level(110)), ("0: a unit altered", vec!["altered: units"], vec![]));
+    let same_minute = vec!["altered: units, at the time that cell 5 held"];
+    assert_eq!(judged(&both, level(100)), ("0: a unit altered", same_minute, vec![]));
+    let either = begun(&[], &or(&opening(20, 40).obligation(0), &simple(60).obligation(0)));
+    assert_eq!(judged(&either, level(110)), ("0: the state altered", vec!["altered: fulfilled"], vec![]));
+}
+
+/// Units that are replaced by equal ones in the minute of their activation.
+#[test]
+fn corners_of_the_mark_are_found() {
+    let level = build::reading(100, 1, &[0]);
+    let named = |template| instance(template, &[], &[]);
+    let plain = |body: &[u8]| build::template(&[], 0, 1, body);
+    let again = |then: &[u8]| Wait { then: then.to_vec(), ..simple(60) }.obligation(0);
+    let judged = |templates: &[Vec<u8>], main: &[u8]| judged(&begun(templates, main), level.clone());
+
+    let renewed = plain(&again(&named(0)));
+    let no_first = |why| ("0: no first is later", vec![why], vec![]);
+    assert_eq!(judged(&[renewed.clone()], &named(0)), no_first("first is the reading's time"));
+    let found = judged(&[renewed], &and(&opening(5, 9).choice(&fulfilled()), &named(0))).2;
+    assert!(found.contains(&"beside a unit replaced by its equal, by then"), "{found:?}");
+    assert!(found.contains(&"some of several units, the first"), "{found:?}");
+
+    let late = |wait: Wait| plain(&wait.choice(&again(&named(0))));
+    assert_eq!(judged(&[late(opening(-5, 0))], &named(0)), no_first("first is earlier, the window past"));
+    assert!(judged(&[late(opening(5, -6))], &named(0)).2.contains(&"the unit is late too: a choice"));
+    let both = or(&named(0), &named(1));
+    let templates = [plain(&opening(5, -6).obligation(0)), plain(&again(&both))];
+    assert!(judged(&templates, &both).2.contains(&"the unit is late too: an obligation"));
+
+    let all = and(&or(&named(0), &named(1)), &named(2));
+    let templates = [plain(&opening(5, 9).obligation(0)), plain(&simple(60).obligation(0)), plain(&again(&all))];
+    assert!(judged(&templates, &all).2.contains(&"the unit is dropped by a fulfilled `or`"));
+    let dropped = or(&opening(5, 9).obligation(0), &simple(60).obligation(0));
+    let choice = simple(-1).choice(&and(&dropped, &again(&named(0))));
+    let expected = vec!["first is the reading's time", "only a unit of an else finds it early"];
+    assert_eq!(judged(&[plain(&choice)], &named(0)), ("0: no first is later", expected, vec![]));
 }
 
 #[test]

@@ -181,7 +181,8 @@ impl Started {
     /// What a mark and a forecast both answer to the table. An accepted mark at the last reading time moves nothing.
     fn number(&self) -> u32 {
         let mut lent = self.table.clone();
-        let number = reading(&self.agreement, &mut lent, &reference::build::reading(self.table[LAST] as u32, 0, &[]));
+        let mark = reference::build::reading(self.table[LAST] as u32, 0, &[]);
+        let number = reading(&self.agreement, &mut lent, &mark).number;
         assert_eq!(number, forecast(&self.agreement, &self.table).number);
         assert_eq!(lent, self.table);
         number
@@ -290,7 +291,7 @@ fn an_or_of_one_party_runs() {
         assert_eq!(start(&agreement, &mut table), ACCEPTED);
         assert_eq!(table[HEAD + SORT], OR);
         assert_eq!(forecast(&agreement, &table).breach, Some((160, 1 << party)));
-        assert_eq!(reading(&agreement, &mut table, &reference::build::reading(110, 1, &[])), ACCEPTED);
+        assert_eq!(reading(&agreement, &mut table, &reference::build::reading(110, 1, &[])).number, ACCEPTED);
         assert_eq!(table[STATE], FULFILLED);
     }
 }

@@ -36,7 +36,7 @@ impl Run {
 
     /// Takes any bytes as a reading.
     fn take(&mut self, bytes: &[u8]) -> u32 {
-        reading(&self.agreement, &mut self.table, bytes)
+        reading(&self.agreement, &mut self.table, bytes).number
     }
 
     fn mark(&mut self, time: u32) {

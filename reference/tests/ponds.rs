@@ -29,7 +29,7 @@ impl Run {
     }
 
     fn read(&mut self, time: u32, kind: u8, values: &[i32]) -> u32 {
-        reading(&self.agreement, &mut self.table, &reference::build::reading(time, kind, values))
+        reading(&self.agreement, &mut self.table, &reference::build::reading(time, kind, values)).number
     }
 
     fn mark(&mut self, time: u32) -> i64 {

@@ -3,7 +3,7 @@
 use reference::agreement::{Operator, Type};
 use reference::build::*;
 use reference::table::{ACTIVATED, BLAMED, HEAD, LAST, MOVED, PLACE, STATE, TIME, USED};
-use reference::{check, forecast, reading, start, CELLS};
+use reference::{check, forecast, reading, start, Taken, CELLS};
 
 fn pond(templates: &[Vec<u8>], main: &[u8]) -> Vec<u8> {
     agreement(100, 2, &[reading_type(&[Type::Number, Type::Truth])], templates, main)
@@ -32,7 +32,7 @@ fn started(main: &[u8]) -> (Vec<u8>, Vec<i64>) {
 /// A table that must be refused with 7 by both entries, and left alone.
 fn refused_table(agreement: &[u8], table: &[i64]) {
     let mut lent = table.to_vec();
-    assert_eq!(reading(agreement, &mut lent, &[]), 7);
+    assert_eq!(reading(agreement, &mut lent, &[]), Taken { number: 7, early: 0 });
     assert_eq!(lent, table);
     assert_eq!(forecast(agreement, table).number, 7);
 }
@@ -163,7 +163,7 @@ fn refusal_6_cells() {
     for cells in [0, 3_079, 3_081] {
         let mut table = vec![7; cells];
         assert_eq!(start(&agreement, &mut table), 6);
-        assert_eq!(reading(&agreement, &mut table, &[]), 6);
+        assert_eq!(reading(&agreement, &mut table, &[]), Taken { number: 6, early: 0 });
         assert_eq!(forecast(&agreement, &table).number, 6);
         assert_eq!(table, vec![7; cells]);
     }
@@ -216,7 +216,7 @@ fn refusal_7_or_rule() {
 #[test]
 fn refusal_7_breach() {
     let (agreement, mut table) = started(&owed());
-    assert_eq!(reading(&agreement, &mut table, &reference::build::reading(170, 0, &[])), 0);
+    assert_eq!(reading(&agreement, &mut table, &reference::build::reading(170, 0, &[])).number, 0);
     let head =
         [(BLAMED, 0), (BLAMED, 2), (BLAMED, 3), (TIME, 99), (TIME, 171), (USED, 1), (MOVED, 171), (6, 1), (7, 1)];
     for (cell, value) in head.into_iter().chain([(HEAD, 1)]) {
@@ -229,9 +229,9 @@ fn refusal_7_breach() {
 /// The number of one reading after a mark at 110.
 fn number_after_110(taken: &[u8]) -> u32 {
     let (agreement, mut table) = started(&owed());
-    assert_eq!(reading(&agreement, &mut table, &reference::build::reading(110, 0, &[])), 0);
+    assert_eq!(reading(&agreement, &mut table, &reference::build::reading(110, 0, &[])).number, 0);
     let before = table.clone();
-    let number = reading(&agreement, &mut table, taken);
+    let Taken { number, .. } = reading(&agreement, &mut table, taken);
     assert!(number == 0 || table == before);
     number
 }
@@ -257,7 +257,7 @@ fn refusal_9_unfit() {
 }
 
 #[test]
-fn refusal_10_early() {
+fn refusal_10_time() {
     assert_eq!(number_after_110(&reference::build::reading(105, 0, &[])), 10);
     assert_eq!(number_after_110(&reference::build::reading(110, 0, &[])), 0);
 }

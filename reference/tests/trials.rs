@@ -25,8 +25,14 @@ impl<'a> Steps<'a> {
     }
 }
 
-fn table_line(entry: &str, number: u32, table: &[i64]) -> String {
-    let mut line = format!("{entry} {number}");
+fn reading_line(agreement: &[u8], table: &mut [i64], event: &[u8]) -> String {
+    let answer = reading(agreement, table, event);
+    table_line(format!("reading {} {}", answer.number, answer.early), table)
+}
+
+/// What was answered, and the cells that are not zero.
+fn table_line(answer: String, table: &[i64]) -> String {
+    let mut line = answer;
     for (i, &z) in table.iter().enumerate().filter(|(_, &z)| z != 0) {
         match z {
             0.. => write!(line, " {i}={z}"),
@@ -76,8 +82,8 @@ fn trials() {
                 let answer = check(agreement);
                 format!("check {} {}", answer.number, answer.parties)
             }
-            6 => table_line("start", start(agreement, &mut table), &table),
-            7 => table_line("reading", reading(agreement, &mut table, event), &table),
+            6 => table_line(format!("start {}", start(agreement, &mut table)), &table),
+            7 => reading_line(agreement, &mut table, event),
             8 => forecast_line(agreement, &table),
             9 => {
                 event = &given[..0];

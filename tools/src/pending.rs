@@ -64,9 +64,16 @@ impl<'a> Pending<'a> {
 
     /// "The reading type is the wanted one, T >= first and where is true"; T > last comes before.
     pub fn is_met_by(&self, reading: &Reading) -> bool {
-        let wanted = usize::from(reading.kind) == self.wait.reading + 1;
-        let time = i64::from(reading.time);
-        wanted && (self.first..=self.last).contains(&time) && self.holds(&reading.values)
+        (self.first..=self.last).contains(&i64::from(reading.time)) && self.wants(reading)
+    }
+
+    /// "wants this type, finds `where` true, and has a first later than the reading"; its last does not matter.
+    pub fn opens_after(&self, reading: &Reading) -> bool {
+        self.first > i64::from(reading.time) && self.wants(reading)
+    }
+
+    fn wants(&self, reading: &Reading) -> bool {
+        usize::from(reading.kind) == self.wait.reading + 1 && self.holds(&reading.values)
     }
 
     /// Whether `where` is true of a reading's values.
@@ -106,6 +113,13 @@ impl<'a> Tree<'a> {
             }
             _ => false,
         }
+    }
+
+    /// What waits and wants a reading whose time is before its window, the next to open first.
+    pub fn opening_after(&self, reading: &Reading) -> Vec<Pending<'a>> {
+        let mut later: Vec<_> = self.all().into_iter().filter(|one| one.opens_after(reading)).cloned().collect();
+        later.sort_by_key(|pending| pending.first);
+        later
     }
 
     /// Everything that waits, from left to right.

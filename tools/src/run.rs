@@ -12,7 +12,7 @@ pub use arguments::{command, told};
 pub use follow::followed;
 pub use teller::Form;
 
-use givuntha::{Breach, Refusal, State, Table};
+use givuntha::{Breach, Refusal, State, Table, Taken};
 use std::fmt;
 
 /// What the library answered.
@@ -32,6 +32,8 @@ pub struct Step {
     /// None where the record has none.
     pub time: Option<u32>,
     pub verdict: Verdict,
+    /// The library's mark: the reading came too early. Neither the start nor a refused reading has it.
+    pub early: bool,
 }
 
 /// An agreement that was started, and its table.
@@ -49,18 +51,18 @@ impl Run {
 
     /// What is to be seen after the start.
     pub fn started(&self) -> Step {
-        Step { number: 0, time: time(&self.agreement), verdict: self.verdict() }
+        Step { number: 0, time: time(&self.agreement), verdict: self.verdict(), early: false }
     }
 
     pub fn reading(&mut self, record: &[u8]) -> Step {
         self.readings += 1;
-        let (time, verdict) = match self.table.reading(&self.agreement, record) {
-            Ok(()) => (time(record), self.verdict()),
+        let (time, verdict, early) = match self.table.reading(&self.agreement, record) {
+            Ok(Taken { early }) => (time(record), self.verdict(), early),
             // Refused with 8 it is no record of a reading, so it has no time.
-            Err(refusal @ Refusal::ReadingForm) => (None, Verdict::Refused(refusal)),
-            Err(refusal) => (time(record), Verdict::Refused(refusal)),
+            Err(refusal @ Refusal::ReadingForm) => (None, Verdict::Refused(refusal), false),
+            Err(refusal) => (time(record), Verdict::Refused(refusal), false),
         };
-        Step { number: self.readings, time, verdict }
+        Step { number: self.readings, time, verdict, early }
     }
 
     /// What the table says now.

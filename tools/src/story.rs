@@ -31,6 +31,8 @@ pub struct Event<'a> {
     /// When the agreement last moved, by the library's table after this event.
     pub last_moved: u32,
     pub changes: Told<Vec<Change<'a>>>,
+    /// What a reading was too early for, the next window to open first; none unless the library marked it (`step`).
+    pub early: Told<Vec<Pending<'a>>>,
     /// The obligations behind the breach that is ahead or has come; none where there is none.
     pub broken: Told<Vec<Pending<'a>>>,
 }
@@ -64,6 +66,9 @@ impl Ending<'_, '_> {
 /// What is said where a breach cannot be led back to a duty.
 const UNEXPLAINED: &str = "no obligation that waited comes to just this breach";
 
+/// What is said where no window is found that opens after a reading which the library marked.
+const NO_WINDOW: &str = "no clause that waited wants it later";
+
 impl<'a> Story<'a> {
     /// Starts the agreement and tells the start.
     pub fn start(source: &'a Source) -> Result<(Story<'a>, Event<'a>), Refusal> {
@@ -78,6 +83,7 @@ impl<'a> Story<'a> {
             what: "start".to_string(),
             last_moved: story.run.last_moved(),
             changes: story.waiting.clone().map(|tree| tree.all().into_iter().cloned().map(Change::Begun).collect()),
+            early: Ok(Vec::new()),
             broken: story.ahead(&step.verdict),
         };
         story.note(&event);
@@ -102,6 +108,7 @@ impl<'a> Story<'a> {
             what: Words::of(self.source).reading(reading),
             last_moved: self.run.last_moved(),
             changes: self.changes(&step.verdict, &before, reading),
+            early: early(&step, &before, reading),
             broken,
         };
         self.note(&event);
@@ -149,5 +156,17 @@ impl<'a> Story<'a> {
     fn behind(&self, waiting: &Told<Tree<'a>>, until: i64, breach: &Breach) -> Told<Vec<Pending<'a>>> {
         let tree = waiting.as_ref().map_err(String::clone)?;
         broken(&self.source.assembled.agreement, tree, until, breach).ok_or_else(|| UNEXPLAINED.to_string())
+    }
+}
+
+/// That it was too early the library says; here it is told for what.
+fn early<'a>(step: &Step, before: &Told<Tree<'a>>, reading: &Reading) -> Told<Vec<Pending<'a>>> {
+    if !step.early {
+        return Ok(Vec::new());
+    }
+    let windows = before.as_ref().map_err(String::clone)?.opening_after(reading);
+    match windows.is_empty() {
+        true => Err(NO_WINDOW.to_string()),
+        false => Ok(windows),
     }
 }

@@ -25,7 +25,7 @@ fn run(agreement: &[u8], readings: &[(u32, u8, &[i32])]) -> Vec<i64> {
     let mut table = vec![0; CELLS];
     assert_eq!(start(agreement, &mut table), 0);
     for (time, kind, values) in readings {
-        assert_eq!(reading(agreement, &mut table, &build::reading(*time, *kind, values)), 0);
+        assert_eq!(reading(agreement, &mut table, &build::reading(*time, *kind, values)).number, 0);
     }
     table
 }
@@ -210,7 +210,7 @@ fn windows(state: &State) -> Vec<(i64, i64)> {
     if let Outcome::Running(residue) = &state.outcome {
         collect(residue, &mut units);
     }
-    units.iter().map(|waiting| waiting.window()).collect()
+    units.iter().map(|waiting| waiting.window()).map(|window| (window.first, window.last)).collect()
 }
 
 /// A damaged agreement that can still be read may be untyped; telling its table must not panic.

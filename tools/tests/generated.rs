@@ -44,22 +44,23 @@ fn runs(seed: u64, calls_made: usize) -> Vec<(Vec<u8>, Vec<Reading>)> {
     runs.into_iter().collect()
 }
 
-/// When the agreement last moved by the second monitor, after the start and after each reading.
-fn moved(agreement: &[u8], readings: &[Reading]) -> Vec<i64> {
+/// By the second monitor, after the start and after each reading: when the agreement last moved, and the mark of a
+/// reading that came too early.
+fn second(agreement: &[u8], readings: &[Reading]) -> Vec<(i64, bool)> {
     let mut table = vec![0; CELLS];
     assert_eq!(start(agreement, &mut table), 0);
-    let mut moved = vec![table[MOVED]];
+    let mut told = vec![(table[MOVED], false)];
     for given in readings {
         // A refused reading leaves the table.
-        let _ = reading(agreement, &mut table, &given.record());
-        moved.push(table[MOVED]);
+        let taken = reading(agreement, &mut table, &given.record());
+        told.push((table[MOVED], taken.early == 1));
     }
-    moved
+    told
 }
 
 #[test]
 fn every_story_is_told_and_drawn() {
-    let (mut told, mut breached, mut long) = (0, 0, 0);
+    let (mut told, mut breached, mut long, mut early) = (0, 0, 0, 0);
     for (record, readings) in runs(31, 12_000) {
         let agreement = disassemble(&record).unwrap_or_else(|fault| panic!("{fault}"));
         let source = Source::read("agreement", agreement.as_bytes()).unwrap_or_else(|fault| panic!("{fault}"));
@@ -70,11 +71,14 @@ fn every_story_is_told_and_drawn() {
         let stream = readings.iter().fold(record.clone(), |stream, reading| [stream, reading.record()].concat());
         let verdicts: String = events.iter().map(|event| format!("{}\n", event.step)).collect();
         assert_eq!(verdicts, lines(&stream));
-        let last_moved: Vec<i64> = events.iter().map(|event| i64::from(event.last_moved)).collect();
-        assert_eq!(last_moved, moved(&record, &readings), "{verdicts}");
+        let marks: Vec<_> = events.iter().map(|event| (i64::from(event.last_moved), event.step.early)).collect();
+        assert_eq!(marks, second(&record, &readings), "{verdicts}");
         for event in &events {
-            assert!(event.changes.is_ok() && event.broken.is_ok(), "{verdicts}");
-            assert!(text::event(&words, event).contains(&event.what));
+            assert!(event.changes.is_ok() && event.broken.is_ok() && event.early.is_ok(), "{verdicts}");
+            let said = text::event(&words, event);
+            assert!(said.contains(&event.what));
+            assert_eq!(said.contains("too early: the window opens at "), event.step.early);
+            early += usize::from(event.step.early);
             json::parse(&objects::event(&words, event).to_string()).unwrap_or_else(|what| panic!("{what}"));
         }
         let ending = text::ending(&words, &story.ending(), "readings");
@@ -85,5 +89,6 @@ fn every_story_is_told_and_drawn() {
         assert_eq!(xml::overlapping(&drawn), None);
         (told, long) = (told + 1, long + usize::from(events.len() > 5));
     }
-    assert!(told > 150 && breached > 20 && long > 20, "{told} told, {breached} breached, {long} long");
+    let enough = told > 150 && breached > 20 && long > 20 && early > 20;
+    assert!(enough, "{told} told, {breached} breached, {long} long, {early} early");
 }

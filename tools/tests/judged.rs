@@ -92,7 +92,7 @@ fn texts_with_slips() {
 
 /// The same text with two templates exchanged, or with one to three words exchanged.
 fn slipped(random: &mut Random, text: &str) -> String {
-    if random.chance(20) {
+    if random.chance(30) {
         return reordered(random, text);
     }
     let mut words = words(text);

@@ -18,6 +18,29 @@ pub struct Breach {
     pub parties: Parties,
 }
 
+/// What is told of a reading that was accepted.
+///
+/// ```
+/// use givuntha::{record, Table, Taken};
+///
+/// // From minute 100 on; party 0 owes the reading after 100 minutes within 60, that is from 200 to 260.
+/// let agreement = [
+///     47, 0, 1, 0, 100, 0, 0, 0, 1, 1, 0, 5, 0, 2, 0, 0, 31, 0, 17, 0, 0, 1, 5, 0, 33, 0, 1, 8, 0, 32, 0, 100, 0, 0,
+///     0, 8, 0, 32, 0, 60, 0, 0, 0, 4, 0, 16, 0,
+/// ];
+/// let mut table = Table::start(&agreement)?;
+/// assert_eq!(table.reading(&agreement, &record::reading(140, 1, &[]))?, Taken { early: true });
+/// assert_eq!(table.reading(&agreement, &record::reading(200, 1, &[]))?, Taken { early: false });
+/// # Ok::<(), givuntha::Refusal>(())
+/// ```
+#[derive(Clone, Copy, Debug, PartialEq, Eq, Hash)]
+pub struct Taken {
+    /// Whether it came too early: the run was running, no unit or state altered, and at least one waiting unit wants
+    /// this type, finds `where` true, and has a window that opens later than the reading. The reading does not count
+    /// for that window.
+    pub early: bool,
+}
+
 /// The library's version: 10,000 times its first number, 100 times its second, and its third.
 ///
 /// ```
@@ -53,8 +76,8 @@ pub fn start(agreement: &[u8], table: &mut [i64]) -> Result<(), Refusal> {
     Refusal::answer(answer)
 }
 
-/// Gives the run in lent cells a reading of any bytes. A refusal leaves the cells; once breached, so does an accepted
-/// reading.
+/// Gives the run in lent cells a reading of any bytes, and answers whether it came too early. A refusal leaves the
+/// cells; once breached, so does an accepted reading.
 ///
 /// ```
 /// use givuntha::{reading, record, start, State, Times};
@@ -63,13 +86,15 @@ pub fn start(agreement: &[u8], table: &mut [i64]) -> Result<(), Refusal> {
 /// let agreement = [20, 0, 1, 0, 100, 0, 0, 0, 1, 1, 0, 5, 0, 2, 0, 0, 4, 0, 16, 0];
 /// let mut cells = vec![0; givuntha::CELLS];
 /// start(&agreement, &mut cells)?;
-/// reading(&agreement, &mut cells, &record::reading(120, 1, &[]))?;
+/// let taken = reading(&agreement, &mut cells, &record::reading(120, 1, &[]))?;
+/// assert!(!taken.early);
 /// assert_eq!(State::of(&cells), Some(State::Fulfilled));
 /// assert_eq!(Times::of(&cells), Some(Times { last_reading: 120, last_moved: 100 }));
 /// # Ok::<(), givuntha::Refusal>(())
 /// ```
-pub fn reading(agreement: &[u8], table: &mut [i64], reading: &[u8]) -> Result<(), Refusal> {
-    // SAFETY: `agreement` and `reading` are borrowed for the call and `table` is so alone; see above.
+pub fn reading(agreement: &[u8], table: &mut [i64], reading: &[u8]) -> Result<Taken, Refusal> {
+    let mut early = 0;
+    // SAFETY: all four are borrowed for the call, `table` and `early` apart from all else; see above.
     let answer = unsafe {
         raw::givuntha_reading(
             agreement.as_ptr(),
@@ -78,9 +103,11 @@ pub fn reading(agreement: &[u8], table: &mut [i64], reading: &[u8]) -> Result<()
             table.len(),
             reading.as_ptr(),
             reading.len(),
+            &mut early,
         )
     };
-    Refusal::answer(answer)
+    Refusal::answer(answer)?;
+    Ok(Taken { early: is_set(early) })
 }
 
 /// What the run in lent cells comes to without further readings: a breach, or none. Of a breached run it is the
@@ -106,6 +133,12 @@ pub fn forecast(agreement: &[u8], table: &[i64]) -> Result<Option<Breach>, Refus
     Refusal::answer(answer)?;
     let parties = party_set(parties);
     Ok((!parties.is_empty()).then_some(Breach { time, parties }))
+}
+
+/// A mark is 1 or 0; another number would break the entries' proved contracts.
+fn is_set(mark: u64) -> bool {
+    assert!(mark <= 1, "a mark of 1 or 0");
+    mark == 1
 }
 
 /// An agreement has at most 16 parties, so more bits would break the entries' proved contracts.

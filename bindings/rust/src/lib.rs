@@ -23,13 +23,15 @@
 //! table.reading(&agreement, &record::reading(110, 1, &[240]))?;
 //! assert_eq!(table.state(), Some(State::Running));
 //! assert_eq!(table.times(), Some(Times { last_reading: 110, last_moved: 100 }));
-//! let early = table.reading(&agreement, &record::reading(105, 1, &[250]));
-//! assert_eq!(early, Err(Refusal::ReadingTime));
+//! let past = table.reading(&agreement, &record::reading(105, 1, &[250]));
+//! assert_eq!(past, Err(Refusal::ReadingTime));
 //! table.reading(&agreement, &record::reading(160, 1, &[250]))?;
 //! assert_eq!(table.state(), Some(State::Fulfilled));
 //! assert_eq!(table.times(), Some(Times { last_reading: 160, last_moved: 160 }));
 //! # Ok::<(), Refusal>(())
 //! ```
+//!
+//! An accepted reading is answered with [`Taken`], which says whether it came too early.
 //!
 //! [`STACK`] bytes of stack are enough for every call; the deepest that we built takes 334,751. The stacks of the
 //! main thread and of threads that the standard library makes are larger. Where the stack is too small the program is
@@ -44,7 +46,7 @@ mod stack;
 mod state;
 mod table;
 
-pub use entries::{check, forecast, reading, start, version, Breach};
+pub use entries::{check, forecast, reading, start, version, Breach, Taken};
 pub use parties::Parties;
 pub use refusal::Refusal;
 pub use stack::STACK;

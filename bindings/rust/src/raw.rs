@@ -14,6 +14,7 @@ extern "C" {
         table_cells: usize,
         reading: *const u8,
         reading_bytes: usize,
+        early: *mut u64,
     ) -> u32;
 
     pub fn givuntha_forecast(

@@ -1,6 +1,6 @@
 //! A table of one's own.
 
-use crate::entries::{self, Breach};
+use crate::entries::{self, Breach, Taken};
 use crate::refusal::Refusal;
 use crate::state::{State, Times};
 
@@ -30,8 +30,8 @@ impl Table {
         Ok(table)
     }
 
-    /// Gives the run a reading; see [`reading`](crate::reading).
-    pub fn reading(&mut self, agreement: &[u8], reading: &[u8]) -> Result<(), Refusal> {
+    /// Gives the run a reading, and answers whether it came too early; see [`reading`](crate::reading).
+    pub fn reading(&mut self, agreement: &[u8], reading: &[u8]) -> Result<Taken, Refusal> {
         entries::reading(agreement, self.cells_mut(), reading)
     }
 

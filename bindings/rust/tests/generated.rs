@@ -25,8 +25,9 @@ fn answer(call: &Call) -> Answer {
         }
         Entry::Reading { table, reading: given } => {
             let mut table = table.clone();
-            let number = number(&reading(&call.agreement, &mut table, given));
-            Answer::Reading { number, table }
+            let answer = reading(&call.agreement, &mut table, given);
+            let early = answer.map_or(0, |taken| u32::from(taken.early));
+            Answer::Reading { number: number(&answer), early, table }
         }
         Entry::Forecast { table } => {
             let answer = forecast(&call.agreement, table);
@@ -39,11 +40,13 @@ fn answer(call: &Call) -> Answer {
 
 #[test]
 fn both_monitors_answer_alike() {
-    let mut reached = [0; 12];
+    let (mut reached, mut early) = ([0; 12], 0);
     for (n, call) in calls(1).take(CALLS).enumerate() {
         let expected = call.answer();
         assert!(answer(&call) == expected, "call {n} of seed 1: {:?}", call.aim);
         reached[expected.number() as usize] += 1;
+        early += usize::from(matches!(expected, Answer::Reading { early: 1, .. }));
     }
     assert!(reached.iter().all(|&count| count > 0), "{reached:?}");
+    assert!(early > 0, "no reading came too early");
 }

@@ -73,6 +73,25 @@ fn the_version_is_the_library_s() {
     assert_eq!(env!("CARGO_PKG_VERSION"), format!("{}.{}.{}", part("MAJOR"), part("MINOR"), part("PATCH")));
 }
 
+/// The C functions of a text with their parameters' names; `begin` is what stands before a name, `end` behind the list.
+fn functions(text: &str, begin: &str, end: &str, name: fn(&str) -> Option<&str>) -> Vec<String> {
+    let told = |rest: &str| {
+        let (function, list) = rest.split_once(end)?.0.split_once('(')?;
+        let names = list.split(',').filter_map(|one| name(one.trim())).filter(|name| !["", "void"].contains(name));
+        Some(format!("{function}({})", names.collect::<Vec<_>>().join(", ")))
+    };
+    text.split(begin).skip(1).filter_map(told).collect()
+}
+
+#[test]
+fn the_functions_are_those_of_the_header() {
+    let declared = functions(&header(), "\nuint32_t ", ");", |one| one.rsplit([' ', '*']).next());
+    let raw = functions(include_str!("../src/raw.rs"), "pub fn ", ") -> u32;", |one| one.split(':').next());
+    assert_eq!(declared, raw);
+    let parameters = "agreement, agreement_bytes, table, table_cells, reading, reading_bytes, early";
+    assert!(declared.contains(&format!("givuntha_reading({parameters})")), "{declared:?}");
+}
+
 /// Every answer of the header has words, and no two the same.
 #[test]
 fn every_answer_has_words() {

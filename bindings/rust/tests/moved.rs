@@ -12,7 +12,7 @@ mod sample;
 use givuntha::{forecast, reading, record, Refusal, State, Table, Times};
 use pond::pond;
 use reference::build::{and, fulfilled, instance, simple, template, Wait};
-use run::Run;
+use run::{Run, TAKEN};
 use sample::sample;
 use std::fs;
 use std::path::Path;
@@ -23,7 +23,7 @@ const HEAD: usize = 8;
 
 impl Run {
     fn accept(&mut self, record: &[u8]) {
-        assert_eq!(self.take(record), Ok(()));
+        assert_eq!(self.take(record), TAKEN);
     }
 
     /// The time of the last reading, and when it last moved.

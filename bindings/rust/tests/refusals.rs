@@ -5,7 +5,7 @@ mod pond;
 #[path = "common/sample.rs"]
 mod sample;
 
-use givuntha::{check, forecast, reading, record, start, Refusal, State, Table, CELLS};
+use givuntha::{check, forecast, reading, record, start, Refusal, State, Table, Taken, CELLS};
 use pond::pond;
 use reference::agreement::Operator;
 use reference::build::{and, binary, fulfilled, instance, number, record as made, simple, template, truth, Wait};
@@ -111,12 +111,12 @@ fn refusal_9_a_reading_that_does_not_fit() {
 }
 
 #[test]
-fn refusal_10_an_early_reading() {
+fn refusal_10_a_reading_before_the_last() {
     let mut table = Table::start(&sample()).unwrap();
     table.reading(&sample(), &record::reading(110, 1, &[240])).unwrap();
-    let early = record::reading(105, 1, &[250]);
-    assert_eq!(refused_reading(&sample(), table.cells(), &early), Some(Refusal::ReadingTime));
-    assert_eq!(table.reading(&sample(), &record::mark(110)), Ok(()));
+    let past = record::reading(105, 1, &[250]);
+    assert_eq!(refused_reading(&sample(), table.cells(), &past), Some(Refusal::ReadingTime));
+    assert_eq!(table.reading(&sample(), &record::mark(110)), Ok(Taken { early: false }));
 }
 
 #[test]

@@ -96,8 +96,9 @@ fn words(answer: &Answer) -> String {
     match answer {
         Answer::Check(checked) => format!("{checked:?}"),
         Answer::Forecast(forecast) => format!("{forecast:?}"),
-        Answer::Start { number, table } | Answer::Reading { number, table } => {
-            format!("{number}, table afterwards: {}", cells(table))
+        Answer::Start { number, table } => format!("{number}, table afterwards: {}", cells(table)),
+        Answer::Reading { number, early, table } => {
+            format!("{number}, early {early}, table afterwards: {}", cells(table))
         }
     }
 }

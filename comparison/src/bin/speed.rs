@@ -45,8 +45,8 @@ const ENTRIES: [(&str, Taker, Taker); 4] = [
     ),
     (
         "reading",
-        |case, table| proved::reading(&case.agreement, table, &case.reading),
-        |case, table| entries::reading(&case.agreement, table, &case.reading),
+        |case, table| proved::reading(&case.agreement, table, &case.reading).0,
+        |case, table| entries::reading(&case.agreement, table, &case.reading).number,
     ),
     (
         "forecast",

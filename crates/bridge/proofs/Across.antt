@@ -29,7 +29,7 @@ use Rattle.soundness.proofs.Following.{ReadingOk, across-good, following-good}
 use Rattle.soundness.proofs.Forecasts.{forecasting-good}
 use Rattle.soundness.proofs.RoundTrip.{len-cells, len-nats, len-typed, units-length}
 use Rattle.soundness.proofs.Runs.{Inv, Since, runAt}
-use Rattle.soundness.proofs.Moved.{units-behind}
+use Rattle.soundness.proofs.Moved.{units-behind, withZeros}
 use Rattle.soundness.proofs.ReadBack.{runOf-good, table-back}
 use Rattle.cells.specs.Reduce.{Mode, Reduced}
 use Rattle.cells.specs.Reduce as cells
@@ -53,35 +53,114 @@ abbrev pub FoundIs : List ℕ → Type 0
 FoundIs s = (p : ℕ) (f : Found) → clauseAt (agreementOf s) p ≡ some f
     → f .clause ≡ clause (headsOf s) 23 p (part s p (recordEnd s p))
 
--- ---- one unit, in front of others
-module _ (m : Mode) (s : List ℕ) (n params values : ℕ) (sights : List ℕ) (us rest : List ℤ) (l : length us ≡ 24) where
-  -- what becomes of a unit of sort number i with cells u, in front of the cells v
-  abbrev bySort : ℕ → List ℤ → List ℤ → List Reduced
-  bySort i u v = cond (ltb i 20) (unitReduced m s params values u ∷ table.across m s n sights v)
-      (table.joinFirst (joinOf i) (table.across m s n sights v))
+-- ---- F is asked of the units of a table: `by` makes it of the first one's sort number, its two numbers of sight, its
+-- cells, and what F gives for the units behind it
+module _ {X : Type 0} (F : ℕ → List ℕ → List ℤ → X) (by : ℕ → ℕ → ℕ → List ℤ → X → X)
+    (steps : (n : ℕ) (sights : List ℕ) (cs : List ℤ) → F (suc n) sights cs ≡ by (natOf (getD cs 0 (pos 0)))
+    (getD sights 0 0) (getD sights 1 0) (take 24 cs) (F n (drop 2 sights) (drop 24 cs))) where
+  first-unit : (n params values : ℕ) (sights : List ℕ) (us rest : List ℤ) (i : ℕ) → length us ≡ 24
+      → natOf (getD us 0 (pos 0)) ≡ i
+      → F (suc n) (params ∷ values ∷ sights) (us ++ rest) ≡ by i params values us (F n sights rest)
+  first-unit n params values sights us rest i l e = steps n (params ∷ values ∷ sights) (us ++ rest)
+      ∙ ap₂ (λ k u. by k params values u (F n sights (drop 24 (us ++ rest))))
+      (ap natOf (List·getD-append us rest (pos 0) 0 (omega arith)) ∙ e) (take-at us rest 24 l)
+      ∙ ap (λ v. by i params values us (F n sights v)) (drop-at us rest 24 l)
 
-  across-first : (i : ℕ) → natOf (getD us 0 (pos 0)) ≡ i
-      → table.across m s (suc n) (params ∷ values ∷ sights) (us ++ rest) ≡ bySort i us rest
-  unfolding table.across
-  across-first i e = go (natOf (getD (us ++ rest) 0 (pos 0))) (take 24 (us ++ rest)) (drop 24 (us ++ rest))
-      (ap natOf (List·getD-append us rest (pos 0) 0 (omega arith)) ∙ e) (take-at us rest 24 l) (drop-at us rest 24 l)
-    where
-      go : (k : ℕ) (u v : List ℤ) → k ≡ i → u ≡ us → v ≡ rest → bySort k u v ≡ bySort i us rest
-      go k u v p q r = ap₂ (λ k u. bySort k u v) p q ∙ ap (λ v. bySort i us v) r
+  module _ (ag : Agreement) where
+    pub unit-first : (W : ℕ → Type 0) (k : Sort) (p a : ℕ) (e : Sight) (ps : List ℕ) (ok : OkUnit ag W k p a e ps)
+        (n : ℕ) (sights : List ℕ) (rest : List ℤ)
+        → F (1 + n) (sightAt (clauseAt ag p) ++ sights) (unitCells k p a e ++ rest) ≡ by (sortNumber k)
+        (ok .found .params) (length (ok .found .sight)) (unitCells k p a e) (F n sights rest)
+    unfolding sightAt natOf unitCells
+    unit-first W k p a e ps ok n sights rest =
+        let one : 1 + n ≡ suc n = omega arith in
+        ap₂ (λ i o. F i (sightAt o ++ sights) (unitCells k p a e ++ rest)) one (ok .isAt)
+        ∙ first-unit n (ok .found .params) (length (ok .found .sight)) sights (unitCells k p a e) rest (sortNumber k)
+        (units-length ag W k p a e ps ok) refl
 
-  unit-first : (k : Sort) → natOf (getD us 0 (pos 0)) ≡ sortNumber k
-      → table.across m s (suc n) (params ∷ values ∷ sights) (us ++ rest) ≡ unitReduced m s params values us
-      ∷ table.across m s n sights rest
-  unfolding sortNumber
-  unit-first anObligation e = across-first 17 e
-  unit-first aChoice e = across-first 18 e
+    -- a join's left side stands behind it, then its right side
+    pub join-first : (j : Join) (l r : Residue) (n : ℕ) (sights : List ℕ) (rest : List ℤ)
+        → F (1 + units l + units r + n) (units l ∷ 0 ∷ ((sightsOf ag l ++ sightsOf ag r) ++ sights))
+        ((joinCells j ++ (residueCells l ++ residueCells r)) ++ rest) ≡ by (joinNumber j) (units l) 0 (joinCells j)
+        (F (units l + (units r + n)) (sightsOf ag l ++ (sightsOf ag r ++ sights))
+        (residueCells l ++ (residueCells r ++ rest)))
+    unfolding natOf joinCells padded
+    join-first j l r n sights rest =
+        let count : 1 + units l + units r + n ≡ suc (units l + (units r + n)) = omega arith in
+        ap₂ (λ i o. F i (units l ∷ 0 ∷ o) ((joinCells j ++ (residueCells l ++ residueCells r)) ++ rest)) count
+        (append-assoc (sightsOf ag l) (sightsOf ag r) sights)
+        ∙ ap (F (suc (units l + (units r + n))) (units l ∷ 0 ∷ (sightsOf ag l ++ (sightsOf ag r ++ sights))))
+        (append-assoc (joinCells j) (residueCells l ++ residueCells r) rest
+        ∙ ap (λ x. joinCells j ++ x) (append-assoc (residueCells l) (residueCells r) rest))
+        ∙ first-unit (units l + (units r + n)) (units l) 0 (sightsOf ag l ++ (sightsOf ag r ++ sights)) (joinCells j)
+        (residueCells l ++ (residueCells r ++ rest)) (joinNumber j) (length-join j) refl
 
-  join-first : (j : Join) → natOf (getD us 0 (pos 0)) ≡ joinNumber j
-      → table.across m s (suc n) (params ∷ values ∷ sights) (us ++ rest) ≡ table.joinFirst j
-      (table.across m s n sights rest)
-  unfolding joinNumber joinOf
-  join-first and e = across-first 20 e
-  join-first or e = across-first 21 e
+-- all units of a running run's table, which stand in front of zeros
+pub whole-table : {X : Type 0} (F : ℕ → List ℕ → List ℤ → X) (now moved : ℕ) (res : Residue) (sights : List ℕ)
+    (us : List ℤ) → tableOf (runAt now moved (running res)) ≡ us
+    → F (units res) sights (drop 8 us) ≡ F (units res + 0) sights (withZeros (residueCells res))
+whole-table F now moved res sights us e =
+    let none-more : units res ≡ units res + 0 = omega arith in
+    ap₂ (λ i o. F i sights o) none-more (ap (drop 8) (sym e) ∙ units-behind now moved res)
+
+-- a unit's sort number is below 20, a join's is 20 or 21
+pub by-sort : {X : Type 0} (k : Sort) (x y : X) → cond (ltb (sortNumber k) 20) x y ≡ x
+unfolding sortNumber
+by-sort anObligation x y = refl
+by-sort aChoice x y = refl
+
+pub by-join : {X : Type 0} (j : Join) (x y : X) → cond (ltb (joinNumber j) 20) x y ≡ y
+unfolding joinNumber
+by-join and x y = refl
+by-join or x y = refl
+
+join-is : (j : Join) → joinOf (joinNumber j) ≡ j
+unfolding joinNumber joinOf
+join-is and = refl
+join-is or = refl
+
+-- ---- a unit's clause, its parameters, the values in sight and since when it waits, as its cells have them
+abbrev pub unitBy : {X : Type 0} → (Clause → List ℤ → List ℤ → ℕ → X) → List ℕ → ℕ → ℕ → List ℤ → X
+unitBy f s params values cs =
+    let p = natOf (getD cs 1 (pos 0)) in
+    f (clause (headsOf s) 23 p (part s p (recordEnd s p))) (take params (drop 3 cs)) (take values (drop 8 cs))
+    (natOf (getD cs 2 (pos 0)))
+
+pub unit-values : {X : Type 0} (f : Clause → List ℤ → List ℤ → ℕ → X) (s : List ℕ) → FoundIs s → (W : ℕ → Type 0)
+    (k : Sort) (p a : ℕ) (e : Sight) (ps : List ℕ) (ok : OkUnit (agreementOf s) W k p a e ps)
+    → unitBy f s (ok .found .params) (length (ok .found .sight)) (unitCells k p a e) ≡ f (ok .found .clause)
+    (natCells (e .params)) (cellsOf (e .values)) a
+unfolding natOf unitCells padded
+unit-values f s found W k p a e ps ok = rw (← (found p (ok .found) (ok .isAt)))
+    (ap₂ (λ qs vs. f (ok .found .clause) qs vs a) params values)
+  where
+    few : length (natCells (e .params)) ≡ ok .found .params
+    few = len-nats (e .params) ∙ ok .sight .count
+
+    params : take (ok .found .params) (padded 5 (natCells (e .params))
+        ++ padded 16 (cellsOf (e .values))) ≡ natCells (e .params)
+    params = ap (take (ok .found .params))
+        (append-assoc (natCells (e .params)) (replicate (5 - length (natCells (e .params))) (pos 0))
+        (padded 16 (cellsOf (e .values)))) ∙ take-at (natCells (e .params)) _ (ok .found .params) few
+
+    values : take (length (ok .found .sight))
+        (drop 5 (padded 5 (natCells (e .params)) ++ padded 16 (cellsOf (e .values)))) ≡ cellsOf (e .values)
+    values = ap (take (length (ok .found .sight)))
+        (drop-at (padded 5 (natCells (e .params))) (padded 16 (cellsOf (e .values))) 5
+        (length-padded 5 (natCells (e .params)) (omega (arith, few, ok .sight .fewParams))))
+        ∙ take-at (cellsOf (e .values)) _ (length (ok .found .sight))
+        (len-cells (e .values) ∙ len-typed _ (ok .found .sight) (e .values) (ok .sight .values))
+
+-- ---- what becomes of the first unit by a mode
+abbrev acrossBy : Mode → List ℕ → ℕ → ℕ → ℕ → List ℤ → List Reduced → List Reduced
+acrossBy m s i params values us rs = cond (ltb i 20) (unitReduced m s params values us ∷ rs)
+    (table.joinFirst (joinOf i) rs)
+
+across-steps : (m : Mode) (s : List ℕ) (n : ℕ) (sights : List ℕ) (cs : List ℤ)
+    → table.across m s (suc n) sights cs ≡ acrossBy m s (natOf (getD cs 0 (pos 0))) (getD sights 0 0) (getD sights 1 0)
+    (take 24 cs) (table.across m s n (drop 2 sights) (drop 24 cs))
+unfolding table.across
+across-steps m s n sights cs = refl
 
 -- what the units of a residue, in front of others, give by a mode; it shows what csl's step gives for the residue
 pub record Gives (m : Mode) (s : List ℕ) (st : Step) (res : Residue) (n : ℕ) (sights : List ℕ) (rest : List ℤ) : Type
@@ -97,78 +176,9 @@ pub record Whole (m : Mode) (s : List ℕ) (st : Step) (res : Residue) (sights :
   pub only : table.across m s (units res) (sightsOf (agreementOf s) res ++ sights) (drop 8 us) ≡ given ∷ []
   pub shown : Shows (across st (agreementOf s) res) given
 
--- ---- how many units
-none-more : (res : Residue) → units res ≡ units res + 0
-none-more res = omega arith
-
-both-count : (l r : Residue) (n : ℕ) → 1 + units l + units r + n ≡ suc (units l + (units r + n))
-both-count l r n = omega arith
-
 module _ (s mains : List ℕ) (fair : Fair (agreementOf s) mains) (found : FoundIs s) where
   abbrev ag : Agreement
   ag = agreementOf s
-
-  -- a unit's parameters and values, read from its cells
-  unit-values : (W : ℕ → Type 0) (m : Mode) (k : Sort) (p a : ℕ) (e : Sight) (ps : List ℕ) (ok : OkUnit ag W k p a e ps)
-      → unitReduced m s (ok .found .params) (length (ok .found .sight)) (unitCells k p a e) ≡ cells.reduce m
-      (ag .templates) (ok .found .clause) (natCells (e .params)) (cellsOf (e .values)) a
-  unfolding unitReduced natOf unitCells padded
-  unit-values W m k p a e ps ok = rw (← (found p (ok .found) (ok .isAt)))
-      (ap₂ (λ qs vs. cells.reduce m (ag .templates) (ok .found .clause) qs vs a) params values)
-    where
-      few : length (natCells (e .params)) ≡ ok .found .params
-      few = len-nats (e .params) ∙ ok .sight .count
-
-      params : take (ok .found .params) (padded 5 (natCells (e .params))
-          ++ padded 16 (cellsOf (e .values))) ≡ natCells (e .params)
-      params = ap (take (ok .found .params))
-          (append-assoc (natCells (e .params)) (replicate (5 - length (natCells (e .params))) (pos 0))
-          (padded 16 (cellsOf (e .values)))) ∙ take-at (natCells (e .params)) _ (ok .found .params) few
-
-      values : take (length (ok .found .sight))
-          (drop 5 (padded 5 (natCells (e .params)) ++ padded 16 (cellsOf (e .values)))) ≡ cellsOf (e .values)
-      values = ap (take (length (ok .found .sight)))
-          (drop-at (padded 5 (natCells (e .params))) (padded 16 (cellsOf (e .values))) 5
-          (length-padded 5 (natCells (e .params)) (omega (arith, few, ok .sight .fewParams))))
-          ∙ take-at (cellsOf (e .values)) _ (length (ok .found .sight))
-          (len-cells (e .values) ∙ len-typed (ag .parties) (ok .found .sight) (e .values) (ok .sight .values))
-
-  unit-across : (W : ℕ → Type 0) (m : Mode) (k : Sort) (p a : ℕ) (e : Sight) (ps : List ℕ)
-      (ok : OkUnit ag W k p a e ps) (n : ℕ) (sights : List ℕ) (rest : List ℤ)
-      → table.across m s (1 + n) (sightAt (clauseAt ag p) ++ sights) (unitCells k p a e ++ rest) ≡ cells.reduce m
-      (ag .templates) (ok .found .clause) (natCells (e .params)) (cellsOf (e .values)) a
-      ∷ table.across m s n sights rest
-  unfolding sightAt natOf unitCells
-  unit-across W m k p a e ps ok n sights rest =
-      ap₂ (λ i o. table.across m s i (sightAt o ++ sights) (unitCells k p a e ++ rest)) one (ok .isAt)
-      ∙ unit-first m s n (ok .found .params) (length (ok .found .sight)) sights (unitCells k p a e) rest
-      (units-length ag W k p a e ps ok) k refl
-      ∙ ap (λ x. x ∷ table.across m s n sights rest) (unit-values W m k p a e ps ok)
-    where
-      one : 1 + n ≡ suc n
-      one = omega arith
-
-  join-across : (W : ℕ → Type 0) (m : Mode) (j : Join) (l r : Residue) (x y : Reduced) (n : ℕ) (sights : List ℕ)
-      (rest : List ℤ)
-      → table.across m s (units l + (units r + n)) (sightsOf ag l ++ (sightsOf ag r ++ sights))
-      (residueCells l ++ (residueCells r ++ rest)) ≡ x
-      ∷ table.across m s (units r + n) (sightsOf ag r ++ sights) (residueCells r ++ rest)
-      → table.across m s (units r + n) (sightsOf ag r ++ sights) (residueCells r ++ rest) ≡ y
-      ∷ table.across m s n sights rest
-      → table.across m s (1 + units l + units r + n) (units l ∷ 0 ∷ ((sightsOf ag l ++ sightsOf ag r) ++ sights))
-      ((joinCells j ++ (residueCells l ++ residueCells r)) ++ rest) ≡ cells.joined j x y
-      ∷ table.across m s n sights rest
-  unfolding natOf joinCells padded table.joinFirst
-  join-across W m j l r x y n sights rest p q =
-      ap₂ (λ i o. table.across m s i (units l ∷ 0 ∷ o) ((joinCells j ++ (residueCells l ++ residueCells r)) ++ rest))
-      (both-count l r n) (append-assoc (sightsOf ag l) (sightsOf ag r) sights)
-      ∙ ap (table.across m s (suc (units l + (units r + n)))
-      (units l ∷ 0 ∷ (sightsOf ag l ++ (sightsOf ag r ++ sights))))
-      (append-assoc (joinCells j) (residueCells l ++ residueCells r) rest
-      ∙ ap (λ x. joinCells j ++ x) (append-assoc (residueCells l) (residueCells r) rest))
-      ∙ join-first m s (units l + (units r + n)) (units l) 0 (sightsOf ag l ++ (sightsOf ag r ++ sights))
-      (joinCells j) (residueCells l ++ (residueCells r ++ rest)) (length-join j) j refl
-      ∙ ap (table.joinFirst j) (p ∙ ap (λ o. x ∷ o) q)
 
   -- ---- any step and mode: W says at what times the step may be taken, Q since when a unit waits
   module _ (Q W : ℕ → Type 0) (since : (t : ℕ) → Q t → W t) (st : Step)
@@ -179,10 +189,13 @@ module _ (s mains : List ℕ) (fair : Fair (agreementOf s) mains) (found : Found
       (cells.reduce m (ag .templates) c (natCells (e .params)) (cellsOf (e .values)) a)) where
     pub across-shows : (res : Residue) (ps : List ℕ) (n : ℕ) (sights : List ℕ) (rest : List ℤ) → Ok ag Q res ps
         → Gives m s st res n sights rest
-    unfolding Ok units sightsOf residueCells across orStuck
+    unfolding Ok units sightsOf residueCells across orStuck unitReduced table.joinFirst
     across-shows (unit k p a e) ps n sights rest ok = record {
       given = cells.reduce m (ag .templates) (ok .found .clause) (natCells (e .params)) (cellsOf (e .values)) a;
-      first = unit-across Q m k p a e ps ok n sights rest;
+      first = unit-first (table.across m s) (acrossBy m s) (across-steps m s) ag Q k p a e ps ok n sights rest
+          ∙ by-sort k _ _
+          ∙ ap (λ x. x ∷ table.across m s n sights rest)
+          (unit-values (cells.reduce m (ag .templates)) s found Q k p a e ps ok);
       shown = shows-bind (clauseAt ag p) _ (ok .found) _ (ok .isAt)
           (shows (ok .found .clause) (ok .found .params) (ok .found .sight) e a (ok .blames) (ok .sight)
           (since a (ok .when)) (ok .typed) (ok .placed));
@@ -192,7 +205,9 @@ module _ (s mains : List ℕ) (fair : Fair (agreementOf s) mains) (found : Found
         let left = across-shows l (ok .0) (units r + n) (sightsOf ag r ++ sights) (residueCells r ++ rest) (ok .2) in
         record {
           given = cells.joined j (left .given) (right .given);
-          first = join-across Q m j l r (left .given) (right .given) n sights rest (left .first) (right .first);
+          first = join-first (table.across m s) (acrossBy m s) (across-steps m s) ag j l r n sights rest
+              ∙ by-join j _ _
+              ∙ ap₂ table.joinFirst (join-is j) (left .first ∙ ap (λ o. left .given ∷ o) (right .first));
           shown = joined-shows j (across st ag l) (across st ag r) (left .given) (right .given)
               (good-moves ag W ps (across st ag (both j l r))
               (across-good ag mains fair Q W since st good (both j l r) ps ok)) (left .shown) (right .shown);
@@ -206,8 +221,7 @@ module _ (s mains : List ℕ) (fair : Fair (agreementOf s) mains) (found : Found
         let g = across-shows res ps 0 sights (replicate (3072 - length (residueCells res)) (pos 0)) ok in
         record {
           given = g .given;
-          only = ap₂ (λ i o. table.across m s i (sightsOf ag res ++ sights) o) (none-more res)
-              (ap (drop 8) (sym e) ∙ units-behind now moved res) ∙ g .first;
+          only = whole-table (table.across m s) now moved res (sightsOf ag res ++ sights) us e ∙ g .first;
           shown = g .shown;
         }
 

@@ -20,6 +20,7 @@ use Rattle.csl.specs.Table.{cellOf, cellsOf}
 use Rattle.laws.proofs.Options.{from-bind, from-need, some-inj, none-some}
 use Rattle.laws.proofs.Cells.{truth-is}
 use Rattle.soundness.proofs.Evaluation.{HasTy, HaveTy, at-typed}
+use Rattle.soundness.proofs.Walks.{bool-typed}
 use Rattle.cells.specs.Evaluate.{applyCells, evalCells, evalsCells, isTrue, truthCell}
 
 -- ---- a cell in range is left as it is
@@ -165,6 +166,11 @@ module _ (ps : ℕ) (few : ps ≤ 16) (env : List Ty) (vs : List Val) (h : HaveT
       from-bind (typeExpr ps env x) _ u ty λ t p q.
       from-bind (eval vs x) _ b e λ v pv r.
       ap isTrue (eval-cells x t v p pv ∙ as-bool v b r) ∙ is-true b
+
+  -- so it has the truth that its cell tells
+  pub truth-cells : (x : Expr) (u : Unit {0}) → hasType ps env x truth ≡ some u
+      → evalBool vs x ≡ some (isTrue (evalCells (cellsOf vs) x))
+  truth-cells x u ty = bool-typed ps env vs h x u ty λ b e. e ∙ ap some (sym (bool-cells x u b ty e))
 
   -- the cells of an instance's values
   pub evals-cells : (xs : List Expr) (ts : List Ty) (u : Unit {0}) (ws : List Val) → haveTypes ps env xs ts ≡ some u

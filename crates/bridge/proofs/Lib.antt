@@ -4,5 +4,6 @@ pub mod Reduce
 pub mod Across
 pub mod Tables
 pub mod Moved
+pub mod Early
 pub mod Refusals
 pub mod Entries

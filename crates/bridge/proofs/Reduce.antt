@@ -3,11 +3,12 @@
 use mathlib.Core.Bool.{Bool, cond, false, not, true, _&&_}
 use mathlib.Core.List.{List, [], _∷_, _++_}
 use mathlib.Core.Option.{Option, some}
-use mathlib.Core.Path.{ap, ap₂, refl, subst, sym, _∙_, _≡_}
+use mathlib.Core.Path.{ap, refl, subst, sym, _∙_, _≡_}
 use Prim.Native.Nat.{_<_, suc, zero, ℕ, _≤_}
 use native.Mathlib.Omega.{arith}
+use borrow.Author.Tests.{not-true}
 use lib.Dec.{T, eqb, eqb→eq, leb, leb→le, ltb, ltb→lt}
-use lib.IntN.{_+ℤ_, _-ℤ_, pos, ℤ}
+use lib.IntN.{_-ℤ_, pos, ℤ}
 use lib.ListN.{length}
 use lib.Seq.{take-all}
 use lib.Signed.{ltZ}
@@ -21,15 +22,16 @@ use Rattle.csl.specs.Guards.{guardedIn}
 use Rattle.csl.specs.Values.{Val, evalBool, evals, num}
 use Rattle.csl.specs.Outcomes.{Outcome, Sight, aChoice, anObligation, joined, orStuck}
 use Rattle.csl.specs.Rules.{Reading, Step, Window, activate, activating, blamed, blamedAll, during, following}
-use Rattle.csl.specs.Rules.{forecasting, late, taken, walk, walkIn, wants, window, withValues}
+use Rattle.csl.specs.Rules.{early, forecasting, late, onTime, taken, timing, walk, walkIn, window, withValues}
 use Rattle.csl.specs.Table.{cellOf, cellsOf, natCells, residueCells, sortNumber, standFor}
-use Rattle.laws.proofs.Bools.{T-left, T-right, both-true}
+use Rattle.laws.proofs.Bools.{T-left, T-right, T→true, true→T}
 use Rattle.laws.proofs.Options.{from-bind, from-need, some-inj, none-some}
 use Rattle.laws.proofs.Integers.{later-from}
+use Rattle.laws.proofs.Timings.{timing-early, timing-late, timing-on-time}
 use Rattle.soundness.proofs.Evaluation.{HasTy, HaveTy, HaveTy-++}
-use Rattle.soundness.proofs.Times.{later-to, remaining-range}
+use Rattle.soundness.proofs.Times.{by-timing, later-to, remaining-range}
 use Rattle.soundness.proofs.Good.{Placed, SightOk, good-moves}
-use Rattle.soundness.proofs.Walks.{Fair, StepGood, UnfoldGood, at-heads, blamed-ok, blamedAll-ok, bool-typed}
+use Rattle.soundness.proofs.Walks.{Fair, StepGood, UnfoldGood, at-heads, blamed-ok, blamedAll-ok}
 use Rattle.soundness.proofs.Walks.{evals-typed, num-typed, walk-good}
 use Rattle.soundness.proofs.Activation.{activating-good, heads-declared, typed-guarded, unfold-good, walkIn-good}
 use Rattle.soundness.proofs.Following.{ReadingOk, following-good, from-wait, orNil-is, window-is}
@@ -39,7 +41,7 @@ use Rattle.cells.specs.Evaluate.{evalCells, isTrue}
 use Rattle.cells.specs.Reduce as cells
 use Rattle.cells.specs.Reduce.{Mode, Reduced}
 use Rattle.cells.proofs.Unfolds.{unfold-at}
-use Rattle.bridge.proofs.Evaluate.{bool-cells, evals-cells, num-cells}
+use Rattle.bridge.proofs.Evaluate.{evals-cells, num-cells, truth-cells}
 use Rattle.bridge.proofs.Shows.{Shows, blame-bits, blamed-cells, cells-++, joined-shows, shows-bind, unit-cells}
 
 -- ---- the walk, whatever the step
@@ -83,21 +85,20 @@ module _ (ag : Agreement) (mains : List ℕ) (fair : Fair ag mains) (W : ℕ →
           from-bind (hasType (ag .parties) env x truth) _ bs ty λ u tx q₀.
           from-bind (typeClause (namesOf ag n) env t) _ bs q₀ λ ps p q.
           from-bind (typeClause (namesOf ag n) env f) _ bs q λ qs p′ q′.
-          bool-typed (ag .parties) env (e .values) (ok .values) x u tx λ b eb.
-          shows-bind (evalBool (e .values) x) _ b _ eb
-          (pick b (isTrue (evalCells (cellsOf (e .values)) x))
-          (bool-cells (ag .parties) (fair .few) env (e .values) (ok .values) x u b tx eb)
+          shows-bind (evalBool (e .values) x) _ _ _
+          (truth-cells (ag .parties) (fair .few) env (e .values) (ok .values) x u tx)
+          (pick (isTrue (evalCells (cellsOf (e .values)) x))
           (walk-shows t n env e a ps (T-left (guardedIn m t) _ gd) ok wa p (pl .0))
           (walk-shows f n env e a qs (T-right (guardedIn m t) _ gd) ok wa p′ (pl .1)))
         where
           side : Clause → Reduced
           side c = cells.walk md th un′ c (natCells (e .params)) (cellsOf (e .values)) a
 
-          pick : (b b′ : Bool) → b′ ≡ b → Shows (walk s un t e a) (side t) → Shows (walk s un f e a) (side f)
+          pick : (b : Bool) → Shows (walk s un t e a) (side t) → Shows (walk s un f e a) (side f)
               → Shows (orStuck (elim b [ true ↦ some (walk s un t e a) | false ↦ some (walk s un f e a) ]))
-              (elim b′ [ true ↦ side t | false ↦ side f ])
-          pick true b′ q h k = rw q h
-          pick false b′ q h k = rw q k
+              (elim b [ true ↦ side t | false ↦ side f ])
+          pick true h k = h
+          pick false h k = k
       walk-shows (join j t f) n env e a bs gd ok wa ty pl =
           from-bind (typeClause (namesOf ag n) env t) _ bs ty λ ps p q.
           from-bind (typeClause (namesOf ag n) env f) _ bs q λ qs p′ q′.
@@ -158,22 +159,37 @@ module _ (ag : Agreement) (mains : List ℕ) (fair : Fair ag mains) (W : ℕ →
     during-shows c n env e a bs ok wa ty pl = walkIn-shows (length (ag .templates)) (length (ag .templates))
         (omega arith) c n env e a bs (typed-guarded ag mains fair c n env bs ty) ok wa ty pl
 
--- ---- windows
--- a typed wait has a window, which the cells show
-from-window : {C : Type 0} (ag : Agreement) (few : ag .parties ≤ 16) (n : ℕ) (env : List Ty) (e : Sight) (a : ℕ)
-    (w : Wait) (vs : List Ty) → SightOk ag n env e → typeWait (namesOf ag n) env w ≡ some vs
-    → ((x y : ℤ) → window e a w ≡ some (record { first = x; last = x +ℤ y })
-    → cells.firstOf (cellsOf (e .values)) a w ≡ x → cells.lastOf (cellsOf (e .values)) a w ≡ x +ℤ y
-    → T (inRange y) → C) → C
-unfolding cells.firstOf cells.lastOf
-from-window ag few n env e a w vs ok tw k =
-    from-wait ag n env w vs tw λ u₁ u₂ u₃ rt tc ta ti.
-    num-typed (ag .parties) env (e .values) (ok .values) (w .after) u₂ ta λ x ex rx.
-    num-typed (ag .parties) env (e .values) (ok .values) (w .within) u₃ ti λ y ey ry.
-    let first : cells.firstOf (cellsOf (e .values)) a w ≡ pos a +ℤ x = ap (λ z. pos a +ℤ z)
-    (num-cells (ag .parties) few env (e .values) (ok .values) (w .after) u₂ x ta ex) in
-    k (pos a +ℤ x) y (window-is e a w x y ex ey) first
-    (ap₂ _+ℤ_ first (num-cells (ag .parties) few env (e .values) (ok .values) (w .within) u₃ y ti ey)) ry
+-- ---- a typed wait
+module _ (ag : Agreement) (few : ag .parties ≤ 16) (n : ℕ) (env : List Ty) (e : Sight) (w : Wait) (vs : List Ty)
+    (ok : SightOk ag n env e) (tw : typeWait (namesOf ag n) env w ≡ some vs) where
+  -- its window is the one on cells, and `within` is in range
+  pub window-cells : (a : ℕ) → (window e a w ≡ some (cells.windowOf (cellsOf (e .values)) a w))
+      × T (inRange (evalCells (cellsOf (e .values)) (w .within)))
+  unfolding cells.windowOf cells.firstOf cells.lastOf
+  window-cells a =
+      from-wait ag n env w vs tw λ u₁ u₂ u₃ rt tc ta ti.
+      num-typed (ag .parties) env (e .values) (ok .values) (w .after) u₂ ta λ x ex rx.
+      num-typed (ag .parties) env (e .values) (ok .values) (w .within) u₃ ti λ y ey ry.
+      rw (
+        num-cells (ag .parties) few env (e .values) (ok .values) (w .after) u₂ x ta ex,
+        num-cells (ag .parties) few env (e .values) (ok .values) (w .within) u₃ y ti ey,
+      ) (window-is e a w x y ex ey, ry)
+
+  -- what it sees of a reading that it wants, and the truth of `where` there
+  module _ (r : Reading) (rok : ReadingOk ag r) (wanted : T (eqb (w .wanted) (r .type))) where
+    seen-typed : HaveTy (ag .parties) (env ++ vs) (e .values ++ r .values)
+    unfolding ReadingOk
+    seen-typed =
+        from-wait ag n env w vs tw λ u₁ u₂ u₃ rt tc ta ti.
+        HaveTy-++ (ag .parties) env vs (e .values) (r .values) (ok .values)
+        (rok vs (subst (λ z. readingOfType (ag .readings) z ≡ some vs) (eqb→eq (w .wanted) (r .type) wanted) rt))
+
+    pub where-cells : evalBool (e .values ++ r .values) (w .condition) ≡ some
+        (isTrue (evalCells (cellsOf (e .values) ++ cellsOf (r .values)) (w .condition)))
+    where-cells =
+        from-wait ag n env w vs tw λ u₁ u₂ u₃ rt tc ta ti.
+        rw (← cells-++ (e .values) (r .values))
+        (truth-cells (ag .parties) few (env ++ vs) (e .values ++ r .values) seen-typed (w .condition) u₁ tc)
 
 -- what becomes of a wait, by its fate
 abbrev byFate : cells.Fate → Reduced → Reduced → Reduced → Reduced
@@ -221,23 +237,21 @@ module _ (ag : Agreement) (mains : List ℕ) (fair : Fair ag mains) where
 
   forecasting-shows : (th : Clause → List ℤ → List ℤ → ℕ → Reduced)
       → StepShows ag mains fair From forecasting cells.forecasting th
-  unfolding forecasting cells.walk cells.fate Shows orStuck typeClause
+  unfolding forecasting cells.walk cells.fate cells.windowOf Shows orStuck typeClause
   forecasting-shows th = record {
     obligation = λ n env b w t e a bs un ok wa ty pl.
         from-need (blameOk (namesOf ag n) b) _ bs ty λ bo q₁.
         from-bind (typeWait (namesOf ag n) env w) _ bs q₁ λ vs tw q₂.
-        from-window ag (fair .few) n env e a w vs ok tw λ x y ew ef el ry.
         blamed-ok ag n env e ok (fair .few) b bo λ who eb st lt.
-        shows-bind (window e a w) _ (record { first = x; last = x +ℤ y }) _ ew
-        (shows-bind (blamed (e .params) b) _ who _ eb
-        (ap₂ cells.breach (ap (laterOf a) el) (blame-bits (e .params) b who eb)));
+        shows-bind (window e a w) _ _ _ (window-cells ag (fair .few) n env e w vs ok tw a .0)
+        (shows-bind (blamed (e .params) b) _ who _ eb (rw (blame-bits (e .params) b who eb) refl));
     choice = λ n env w t f e a bs un g ok wa ty pl h.
         from-bind (typeWait (namesOf ag n) env w) _ bs ty λ vs tw q₂.
         from-bind (typeClause (namesOf ag n) (thenSight env vs) t) _ bs q₂ λ ps p q₃.
         from-bind (typeClause (namesOf ag n) env f) _ bs q₃ λ qs p′ q₄.
-        from-window ag (fair .few) n env e a w vs ok tw λ x y ew ef el ry.
-        shows-bind (window e a w) _ (record { first = x; last = x +ℤ y }) _ ew
-        (rw el (h qs (laterOf a (x +ℤ y)) p′ (omega (arith, later-from a (x +ℤ y)))));
+        let last = cells.lastOf (cellsOf (e .values)) a w in
+        shows-bind (window e a w) _ _ _ (window-cells ag (fair .few) n env e w vs ok tw a .0)
+        (h qs (laterOf a last) p′ (omega (arith, later-from a last)));
   }
 
   -- Forecasting a typed clause on cells shows what csl's forecast gives.
@@ -287,120 +301,106 @@ module _ (ag : Agreement) (mains : List ℕ) (fair : Fair ag mains) where
     actedCells t e z = cells.activate (ag .templates) t (natCells (e .params))
         (cells.thenValues (cellsOf (e .values)) (cellsOf (r .values)) (z -ℤ pos (r .time))) (r .time)
 
-    abbrev condition : Sight → Wait → Bool
-    condition e w = isTrue (evalCells (cellsOf (e .values) ++ cellsOf (r .values)) (w .condition))
+    -- a wait: o, on cells `on`, is what it is while it waits on; `out` is what a late one becomes on cells
+    module _ (n : ℕ) (env : List Ty) (e : Sight) (a : ℕ) (w : Wait) (vs : List Ty) (t : Clause) (ps : List ℕ)
+        (ok : SightOk ag n env e) (tw : typeWait (namesOf ag n) env w ≡ some vs)
+        (ty : typeClause (namesOf ag n) (thenSight env vs) t ≡ some ps)
+        (pl : Placed ag n (thenSight env (orNil (readingOfType (ag .readings) (w .wanted)))) t)
+        (o : Outcome) (on out : Reduced) (sh : Shows o on) where
+      abbrev seen : List ℤ
+      seen = cellsOf (e .values)
 
-    -- not late: taken, or waiting on
-    taken-shows : (n : ℕ) (env : List Ty) (e : Sight) (w : Wait) (vs : List Ty) (x y : ℤ) (t : Clause) (ps : List ℕ)
-        (o : Outcome) (on out : Reduced)
-        → SightOk ag n env e → typeWait (namesOf ag n) env w ≡ some vs → T (inRange y)
-        → T (not (ltZ (x +ℤ y) (pos (r .time)))) → typeClause (namesOf ag n) (thenSight env vs) t ≡ some ps
-        → Placed ag n (thenSight env vs) t → Shows o on
-        → Shows (taken (ag .templates) r e w (record { first = x; last = x +ℤ y }) t o)
-        (byFate (cond (eqb (w .wanted) (r .type) && not (ltZ (pos (r .time)) x) && condition e w) cells.taken
-        cells.waits) on out (actedCells t e (x +ℤ y)))
-    unfolding taken wants orStuck withValues thenSight HaveTy HasTy ReadingOk
-    taken-shows n env e w vs x y t ps o on out ok tw ry nl ty pl sh = from-wait ag n env w vs tw λ u₁ u₂ u₃ rt tc ta
-        ti. wanted u₁ rt tc (eqb (w .wanted) (r .type) && not (ltZ (pos (r .time)) x)) refl
-      where
-        vals : readingOfType (ag .readings) (w .wanted) ≡ some vs → T (eqb (w .wanted) (r .type))
-            → HaveTy (ag .parties) (env ++ vs) (e .values ++ r .values)
-        vals rt h = HaveTy-++ (ag .parties) env vs (e .values) (r .values) (ok .values)
-            (rok vs (subst (λ z. readingOfType (ag .readings) z ≡ some vs) (eqb→eq (w .wanted) (r .type) h) rt))
+      abbrev opens : Window
+      opens = cells.windowOf seen a w
 
-        few : HaveTy (ag .parties) (env ++ vs) (e .values ++ r .values) → T (not (ltZ (pos (r .time)) x))
-            → length ((e .values ++ r .values) ++ (num ((x +ℤ y) -ℤ pos (r .time)) ∷ [])) ≤ 16
-        few h k = subst (λ m. m ≤ 16) (sym (len-typed (ag .parties) (thenSight env vs) _
-            (HaveTy-++ (ag .parties) (env ++ vs) (number ∷ []) (e .values ++ r .values) _ h
-            (remaining-range x y (r .time) k nl ry, tt)))) (sight-few ag n env w vs tw)
+      then-placed : Placed ag n (thenSight env vs) t
+      then-placed =
+          from-wait ag n env w vs tw λ u₁ u₂ u₃ rt tc ta ti.
+          subst (λ z. Placed ag n z t) (orNil-is ag mains fair r rok w vs env rt) pl
 
-        acts : HaveTy (ag .parties) (env ++ vs) (e .values ++ r .values) → T (not (ltZ (pos (r .time)) x))
-            → Shows (acted t e (x +ℤ y)) (actedCells t e (x +ℤ y))
-        acts h k = rw (← then-cells e ((x +ℤ y) -ℤ pos (r .time)) (few h k))
-            (then-shows t n (thenSight env vs) (withValues e (r .values) ((x +ℤ y) -ℤ pos (r .time))) (r .time) ps
-            (record {
-              count = ok .count;
-              fewParams = ok .fewParams;
-              range = ok .range;
-              values = HaveTy-++ (ag .parties) (env ++ vs) (number ∷ []) (e .values ++ r .values) _ h
-                  (remaining-range x y (r .time) k nl ry, tt);
-            }) ty pl)
+      -- in an open window: taken, or waiting on
+      taken-shows : T (not (ltZ (opens .last) (pos (r .time)))) → T (not (ltZ (pos (r .time)) (opens .first)))
+          → Shows (taken (ag .templates) r e w opens t o)
+          (byFate (cond (cells.takes seen w (r .type) (cellsOf (r .values))) cells.taken cells.waits) on out
+          (actedCells t e (opens .last)))
+      unfolding taken orStuck withValues thenSight HaveTy HasTy cells.windowOf cells.lastOf cells.takes
+      taken-shows nl ne = wanted (eqb (w .wanted) (r .type)) refl
+        where
+          condition : Bool
+          condition = isTrue (evalCells (seen ++ cellsOf (r .values)) (w .condition))
 
-        choose : (b b′ : Bool) → b′ ≡ b → Shows (acted t e (x +ℤ y)) (actedCells t e (x +ℤ y))
-            → Shows (orStuck (elim b [ false ↦ some o | true ↦ some (acted t e (x +ℤ y)) ]))
-            (byFate (cond b′ cells.taken cells.waits) on out (actedCells t e (x +ℤ y)))
-        choose true b′ q k = rw q k
-        choose false b′ q k = rw q sh
+          typed : T (eqb (w .wanted) (r .type)) → HaveTy (ag .parties) (thenSight env vs)
+              ((e .values ++ r .values) ++ (num (opens .last -ℤ pos (r .time)) ∷ []))
+          typed h = HaveTy-++ (ag .parties) (env ++ vs) (number ∷ []) (e .values ++ r .values) _
+              (seen-typed ag (fair .few) n env e w vs ok tw r rok h) (
+                remaining-range (opens .first) _ (r .time) ne nl
+                    (window-cells ag (fair .few) n env e w vs ok tw a .1),
+                tt,
+              )
 
-        wanted : (u : Unit {0}) → readingOfType (ag .readings) (w .wanted) ≡ some vs
-            → hasType (ag .parties) (env ++ vs) (w .condition) truth ≡ some u → (b : Bool)
-            → (eqb (w .wanted) (r .type) && not (ltZ (pos (r .time)) x)) ≡ b
-            → Shows (elim b [
-              | false ↦ o
-              | true ↦ orStuck
-                  (evalBool (e .values ++ r .values) (w .condition) >>= λ b. elim b
-                  [ false ↦ some o | true ↦ some (acted t e (x +ℤ y)) ])
-            ])
-            (byFate (cond (b && condition e w) cells.taken cells.waits) on out (actedCells t e (x +ℤ y)))
-        wanted u rt tc false q = sh
-        wanted u rt tc true q = both-true (eqb (w .wanted) (r .type)) (not (ltZ (pos (r .time)) x))
-            (subst T (sym q) tt) λ h k.
-            bool-typed (ag .parties) (env ++ vs) (e .values ++ r .values) (vals rt h) (w .condition) u tc λ b eb.
-            shows-bind (evalBool (e .values ++ r .values) (w .condition)) _ b _ eb
-            (choose b (condition e w) (ap (λ l. isTrue (evalCells l (w .condition)))
-            (sym (cells-++ (e .values) (r .values)))
-            ∙ bool-cells (ag .parties) (fair .few) (env ++ vs) (e .values ++ r .values) (vals rt h) (w .condition)
-            u b tc eb) (acts (vals rt h) k))
+          acts : T (eqb (w .wanted) (r .type)) → Shows (acted t e (opens .last)) (actedCells t e (opens .last))
+          acts h = rw (← then-cells e (opens .last -ℤ pos (r .time)) (subst (λ m. m ≤ 16)
+              (sym (len-typed (ag .parties) (thenSight env vs) _ (typed h))) (sight-few ag n env w vs tw)))
+              (then-shows t n (thenSight env vs) (withValues e (r .values) (opens .last -ℤ pos (r .time))) (r .time) ps
+              (record { count = ok .count; fewParams = ok .fewParams; range = ok .range; values = typed h }) ty
+              then-placed)
 
-    by-test : (b : Bool) (f : cells.Fate) (X : Option Outcome) (o : Outcome) (on out then : Reduced)
-        → (T b → Shows (orStuck X) out) → (T (not b) → Shows o (byFate f on out then))
-        → Shows (orStuck (elim b [ true ↦ X | false ↦ some o ])) (byFate (cond b cells.late f) on out then)
-    unfolding orStuck
-    by-test true f X o on out then h k = h tt
-    by-test false f X o on out then h k = k tt
+          choose : (b : Bool) → Shows (acted t e (opens .last)) (actedCells t e (opens .last))
+              → Shows (orStuck (elim b [ false ↦ some o | true ↦ some (acted t e (opens .last)) ]))
+              (byFate (cond b cells.taken cells.waits) on out (actedCells t e (opens .last)))
+          choose true k = k
+          choose false k = sh
 
-    -- a wait, late or not: `gone` is what a late one becomes, o one that waits on
-    wait-shows : (n : ℕ) (env : List Ty) (e : Sight) (a : ℕ) (w : Wait) (vs : List Ty) (t : Clause) (ps : List ℕ)
-        (gone : Window → Option Outcome) (o : Outcome) (on out : Reduced)
-        → SightOk ag n env e → typeWait (namesOf ag n) env w ≡ some vs
-        → typeClause (namesOf ag n) (thenSight env vs) t ≡ some ps
-        → Placed ag n (thenSight env (orNil (readingOfType (ag .readings) (w .wanted)))) t
-        → ((v : Window) → cells.lastOf (cellsOf (e .values)) a w ≡ v .last → T (ltZ (v .last) (pos (r .time)))
-        → Shows (orStuck (gone v)) out) → Shows o on
-        → Shows (orStuck (window e a w >>= λ v. elim (late v r)
-        [ true ↦ gone v | false ↦ some (taken (ag .templates) r e w v t o) ]))
-        (byFate (cells.fate mode (cellsOf (e .values)) a w) on out
-        (cells.onTaken mode (cells.activate (ag .templates)) t (natCells (e .params)) (cellsOf (e .values)) a w))
-    unfolding late cells.fate cells.takes cells.onTaken
-    wait-shows n env e a w vs t ps gone o on out ok tw ty pl lt sh =
-        from-wait ag n env w vs tw λ u₁ u₂ u₃ rt tc ta ti.
-        from-window ag (fair .few) n env e a w vs ok tw λ x y ew ef el ry.
-        shows-bind (window e a w) _ (record { first = x; last = x +ℤ y }) _ ew
-        (rw (ef, el) (by-test (ltZ (x +ℤ y) (pos (r .time))) _ (gone (record { first = x; last = x +ℤ y })) _ on out _
-        (lt (record { first = x; last = x +ℤ y }) el)
-        (λ nl. taken-shows n env e w vs x y t ps o on out ok tw ry nl ty
-        (subst (λ z. Placed ag n z t) (orNil-is ag mains fair r rok w vs env rt) pl) sh)))
+          wanted : (b : Bool) → eqb (w .wanted) (r .type) ≡ b
+              → Shows (elim b [
+                | false ↦ o
+                | true ↦ orStuck
+                    (evalBool (e .values ++ r .values) (w .condition) >>= λ b. elim b
+                    [ false ↦ some o | true ↦ some (acted t e (opens .last)) ])
+              ])
+              (byFate (cond (b && condition) cells.taken cells.waits) on out (actedCells t e (opens .last)))
+          wanted false q = sh
+          wanted true q = shows-bind (evalBool (e .values ++ r .values) (w .condition)) _ condition _
+              (where-cells ag (fair .few) n env e w vs ok tw r rok (true→T q)) (choose condition (acts (true→T q)))
+
+      -- by its window, which is one on both sides: `gone` is what a late one becomes
+      wait-shows : (gone : Window → Option Outcome)
+          → (T (ltZ (opens .last) (pos (r .time))) → Shows (orStuck (gone opens)) out)
+          → Shows (orStuck (window e a w >>= λ v. elim (timing v (r .time))
+          [ late ↦ gone v | onTime ↦ some (taken (ag .templates) r e w v t o) | early ↦ some o ]))
+          (byFate (cells.fate mode seen a w) on out
+          (cells.onTaken mode (cells.activate (ag .templates)) t (natCells (e .params)) seen a w))
+      unfolding cells.fate cells.onTaken cells.windowOf orStuck
+      wait-shows gone lt = shows-bind (window e a w) _ _ _ (window-cells ag (fair .few) n env e w vs ok tw a .0)
+          (by-timing (λ z. Shows (orStuck z) (byFate (cells.fate mode seen a w) on out (actedCells t e (opens .last))))
+          opens (r .time) (gone opens) (some o) (some (taken (ag .templates) r e w opens t o))
+          (λ l. rw (timing-late opens (r .time) (T→true _ l), byFate, cells.fate) (lt l))
+          (λ nl l. rw (timing-early opens (r .time) (untrue nl) (T→true _ l), byFate, cells.fate) sh)
+          (λ nl ne. rw (timing-on-time opens (r .time) (untrue nl) (untrue ne), byFate, cells.fate)
+          (taken-shows nl ne)))
+        where
+          untrue : {b : Bool} → T (not b) → b ≡ false
+          untrue {b} t = not-true b (T→true (not b) t)
 
     following-shows : StepShows ag mains fair W (following (ag .templates) r) mode (cells.activate (ag .templates))
-    unfolding following cells.walk Shows orStuck typeClause Placed residueCells sortNumber
+    unfolding following cells.walk cells.windowOf Shows orStuck typeClause Placed residueCells sortNumber
     following-shows = record {
       obligation = λ n env b w t e a bs un ok wa ty pl.
           from-need (blameOk (namesOf ag n) b) _ bs ty λ bo q₁.
           from-bind (typeWait (namesOf ag n) env w) _ bs q₁ λ vs tw q₂.
           from-bind (typeClause (namesOf ag n) (thenSight env vs) t) _ bs q₂ λ ps p q₃.
           blamed-ok ag n env e ok (fair .few) b bo λ who eb st lt.
-          wait-shows n env e a w vs t ps _ _ _ _ ok tw p (pl .1)
-          (λ v el late-now. shows-bind (blamed (e .params) b) _ who _ eb
-          (ap₂ cells.breach (ap (laterOf a) el) (blame-bits (e .params) b who eb)))
-          (ap cells.running (unit-cells anObligation (w .place) a e));
+          wait-shows n env e a w vs t ps ok tw p (pl .1) _ _ _
+          (ap cells.running (unit-cells anObligation (w .place) a e)) _
+          (λ late-now. shows-bind (blamed (e .params) b) _ who _ eb (rw (blame-bits (e .params) b who eb) refl));
       choice = λ n env w t f e a bs un g ok wa ty pl h.
           from-bind (typeWait (namesOf ag n) env w) _ bs ty λ vs tw q₂.
           from-bind (typeClause (namesOf ag n) (thenSight env vs) t) _ bs q₂ λ ps p q₃.
           from-bind (typeClause (namesOf ag n) env f) _ bs q₃ λ qs p′ q₄.
-          wait-shows n env e a w vs t ps _ _ _ _ ok tw p (pl .1)
-          (λ v el late-now. rw el (h qs (laterOf a (v .last)) p′
-          (omega (arith, later-from a (v .last), wa .0), later-to a (r .time) (v .last) (wa .1) late-now)))
-          (ap cells.running (unit-cells aChoice (w .place) a e));
+          let last = cells.lastOf (cellsOf (e .values)) a w in
+          wait-shows n env e a w vs t ps ok tw p (pl .1) _ _ _ (ap cells.running (unit-cells aChoice (w .place) a e)) _
+          (λ late-now. h qs (laterOf a last) p′
+          (omega (arith, later-from a last, wa .0), later-to a (r .time) last (wa .1) late-now));
     }
 
     -- A typed clause following a reading on cells shows what it gives following it in csl.

@@ -17,14 +17,19 @@ use Rattle.csl.specs.Widths.{narrowAll}
 use Rattle.csl.specs.Check.{CheckResult, accepted, answerFor, checkDecoded, checkOf, checkTyped, checked, refused}
 use Rattle.csl.specs.Run.{started, step}
 use Rattle.csl.specs.Table.{Run, runOf}
-use Rattle.csl.specs.Entries.{Answer, Forecast, forecastOf, forecastRun, isTable, readingOf, refusal, refusedForecast}
-use Rattle.csl.specs.Entries.{shown, startOf, written}
+use Rattle.csl.specs.Early.{cameEarly, markOf}
+use Rattle.csl.specs.Entries.{Answer, Forecast, ReadingAnswer, forecastOf, forecastRun, isTable, marked, readingOf}
+use Rattle.csl.specs.Entries.{refusal, refusedForecast, shown, startOf, written}
 use Rattle.soundness.proofs.Decoding.{decode-is}
 use Rattle.soundness.proofs.Checked.{passed}
 use Rattle.soundness.proofs.Runs.{isTable-is}
 
 abbrev pub answer : ℕ → List ℤ → Answer
 answer n us = record { number = n; table = us }
+
+-- a refused reading's
+abbrev pub unread : ℕ → List ℤ → ReadingAnswer
+unread n us = marked 0 (answer n us)
 
 -- ---- what check says
 -- a refusal has a number
@@ -97,8 +102,11 @@ module _ (us : List ℤ) where
   onStart : Agreement → List ℕ → Answer
   onStart a ps = written us (started a)
 
-  onReading : List ℕ → Agreement → List ℕ → Answer
-  onReading r a ps = elim (runOf a ps us) [ none ↦ answer 7 us | some q ↦ written us (step a q r) ]
+  abbrev readBy : List ℕ → Agreement → Option Run → ReadingAnswer
+  readBy r a o = elim o [ none ↦ unread 7 us | some q ↦ marked (markOf (cameEarly a q r)) (written us (step a q r)) ]
+
+  onReading : List ℕ → Agreement → List ℕ → ReadingAnswer
+  onReading r a ps = readBy r a (runOf a ps us)
 
   onForecast : Agreement → List ℕ → Forecast
   onForecast a ps = elim (runOf a ps us) [ none ↦ refusedForecast 7 | some q ↦ shown (forecastRun a q) ]
@@ -106,15 +114,18 @@ module _ (us : List ℤ) where
   refuse : ℕ → Answer
   refuse n = answer n us
 
+  refuseReading : ℕ → ReadingAnswer
+  refuseReading n = unread n us
+
   -- the numbers 1 to 5
   module _ (s : List ℕ) (n : ℕ) (ck : checked s ≡ refused n) where
     pub start-refused : startOf s us ≡ answer n us
     unfolding startOf refusal asked onStart refuse
     start-refused = ap (asked us refuse onStart) ck
 
-    pub reading-refused : (r : List ℕ) → readingOf s us r ≡ answer n us
-    unfolding readingOf refusal asked onReading refuse
-    reading-refused r = ap (asked us refuse (onReading r)) ck
+    pub reading-refused : (r : List ℕ) → readingOf s us r ≡ unread n us
+    unfolding readingOf refusal asked onReading refuseReading
+    reading-refused r = ap (asked us refuseReading (onReading r)) ck
 
     pub forecast-refused : forecastOf s us ≡ refusedForecast n
     unfolding forecastOf asked onForecast
@@ -127,9 +138,9 @@ module _ (us : List ℤ) where
       unfolding startOf refusal asked onStart refuse
       start-six = asked-six us refuse onStart s a mains ck no-table
 
-      pub reading-six : (r : List ℕ) → readingOf s us r ≡ answer 6 us
-      unfolding readingOf refusal asked onReading refuse
-      reading-six r = asked-six us refuse (onReading r) s a mains ck no-table
+      pub reading-six : (r : List ℕ) → readingOf s us r ≡ unread 6 us
+      unfolding readingOf refusal asked onReading refuseReading
+      reading-six r = asked-six us refuseReading (onReading r) s a mains ck no-table
 
       pub forecast-six : forecastOf s us ≡ refusedForecast 6
       unfolding forecastOf asked onForecast
@@ -137,10 +148,10 @@ module _ (us : List ℤ) where
 
     -- 7, or the run that the table shows
     module _ (l : length us ≡ 3080) where
-      pub reading-seven : (r : List ℕ) → runOf a mains us ≡ none → readingOf s us r ≡ answer 7 us
-      unfolding readingOf refusal asked onReading refuse
-      reading-seven r e = asked-on us refuse (onReading r) s a mains ck l
-          ∙ ap (λ o. elim o [ none ↦ answer 7 us | some q ↦ written us (step a q r) ]) e
+      pub reading-seven : (r : List ℕ) → runOf a mains us ≡ none → readingOf s us r ≡ unread 7 us
+      unfolding readingOf refusal asked onReading refuseReading
+      reading-seven r e = asked-on us refuseReading (onReading r) s a mains ck l
+          ∙ ap (readBy r a) e
 
       pub forecast-on : (o : Option Run) → runOf a mains us ≡ o
           → forecastOf s us ≡ (elim o [ none ↦ refusedForecast 7 | some q ↦ shown (forecastRun a q) ])

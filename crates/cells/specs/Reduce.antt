@@ -1,7 +1,7 @@
 -- The rules on cells: activating, following and forecasting a clause, the residue being the cells that the table
 -- holds for it.
 -- Total, with no stuck outcome; on a typed clause it is csl's rules: `bridge` proves it (proofs/Reduce).
-use mathlib.Core.Bool.{Bool, true, false, cond, not, _&&_}
+use mathlib.Core.Bool.{Bool, true, false, cond, _&&_}
 use mathlib.Core.List.{List, [], _∷_, _++_}
 use mathlib.Core.Option.{none, some}
 use Prim.Native.Nat.{ℕ, zero, suc, _-_}
@@ -15,6 +15,8 @@ use Rattle.csl.specs.Numbers.{laterOf}
 use Rattle.csl.specs.Parties.{bitsOf}
 use Rattle.csl.specs.Syntax.{Join, and, or, Wait, Clause, fulfilled, obligation, choice, if, join, instance}
 use Rattle.csl.specs.Syntax.{badClause, Template}
+use Rattle.csl.specs.Rules as csl
+use Rattle.csl.specs.Rules.{Window, timing}
 use Rattle.csl.specs.Table.{padded, joinCells}
 use Rattle.cells.specs.Evaluate.{evalCells, evalsCells, isTrue}
 
@@ -84,10 +86,16 @@ firstOf vs a w = pos a +ℤ evalCells vs (w .after)
 unfoldable pub lastOf : List ℤ → ℕ → Wait → ℤ
 lastOf vs a w = firstOf vs a w +ℤ evalCells vs (w .within)
 
--- the reading is wanted, not early, and `where` is true
-unfoldable pub takes : List ℤ → ℕ → Wait → ℕ → ℕ → List ℤ → Bool
-takes vs a w t k rs = eqb (w .wanted) k && not (ltZ (pos t) (firstOf vs a w))
-    && isTrue (evalCells (vs ++ rs) (w .condition))
+unfoldable pub windowOf : List ℤ → ℕ → Wait → Window
+windowOf vs a w = record { first = firstOf vs a w; last = lastOf vs a w }
+
+-- the reading is wanted, and `where` is true
+unfoldable pub takes : List ℤ → Wait → ℕ → List ℤ → Bool
+takes vs w k rs = eqb (w .wanted) k && isTrue (evalCells (vs ++ rs) (w .condition))
+
+-- paper 02, No. 8: a wait that "wants this type, finds `where` true, and has a first later than the reading"
+unfoldable pub opensLater : List ℤ → ℕ → Wait → ℕ → ℕ → List ℤ → Bool
+opensLater vs a w t k rs = takes vs w k rs && ltZ (pos t) (firstOf vs a w)
 
 -- "At most 16 are in sight."
 unfoldable pub thenValues : List ℤ → List ℤ → ℤ → List ℤ
@@ -100,7 +108,11 @@ pub data Fate : Type 0 where
 unfoldable pub fate : Mode → List ℤ → ℕ → Wait → Fate
 fate activating vs a w = waits
 fate forecasting vs a w = late
-fate (following t k rs) vs a w = cond (ltZ (lastOf vs a w) (pos t)) late (cond (takes vs a w t k rs) taken waits)
+fate (following t k rs) vs a w = elim (timing (windowOf vs a w) t) [
+  | csl.late ↦ late
+  | csl.onTime ↦ cond (takes vs w k rs) taken waits
+  | csl.early ↦ waits
+]
 
 -- ---- the walk; `thenIs` activates a `then`, `instantiate` unfolds a template
 unfoldable pub onTaken : Mode → (Clause → List ℤ → List ℤ → ℕ → Reduced) → Clause → List ℤ → List ℤ → ℕ → Wait → Reduced

@@ -13,6 +13,7 @@ use Rattle.csl.specs.Outcomes.{Outcome, done, breach, running, stuck, un
 use Rattle.csl.specs.Rules.{Reading, follow}
 use Rattle.csl.specs.Table.{Run}
 use Rattle.csl.specs.Run.{rawReading, typedReading, step}
+use Rattle.csl.specs.Early.{cameEarly, markOf}
 
 unfoldable pub Bytes : List ℕ → Type 0
 Bytes bs = T (all (λ b. ltb b 256) bs)
@@ -64,3 +65,8 @@ runAfter a run (r ∷ rs) = runAfter a ((step a run r) .run) rs
 unfoldable pub numbersBy : Agreement → Run → List (List ℕ) → List ℕ
 numbersBy a run [] = []
 numbersBy a run (r ∷ rs) = (step a run r) .number ∷ numbersBy a ((step a run r) .run) rs
+
+-- paper 02, No. 8: the mark of each
+unfoldable pub marksBy : Agreement → Run → List (List ℕ) → List ℕ
+marksBy a run [] = []
+marksBy a run (r ∷ rs) = markOf (cameEarly a run r) ∷ marksBy a ((step a run r) .run) rs

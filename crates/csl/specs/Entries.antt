@@ -13,12 +13,22 @@ use Rattle.csl.specs.Check.{CheckResult, refused, accepted, checked}
 use Rattle.csl.specs.Outcomes.{Outcome, done, breach, running, stuck}
 use Rattle.csl.specs.Rules.{forecast}
 use Rattle.csl.specs.Run.{Stepped, started, step}
+use Rattle.csl.specs.Early.{cameEarly, markOf}
 use Rattle.csl.specs.Table.{Run, tableLength, tableOf, runOf}
 
 -- a number, and the table afterwards
 pub record Answer : Type 0 where
   pub number : ℕ
   pub table : List ℤ
+
+-- a reading's, with the mark of paper 02, No. 8
+pub record ReadingAnswer : Type 0 where
+  pub number : ℕ
+  pub early : ℕ
+  pub table : List ℤ
+
+unfoldable pub marked : ℕ → Answer → ReadingAnswer
+marked early x = record { number = x .number; early = early; table = x .table }
 
 unfoldable pub refusal : ℕ → List ℤ → Answer
 refusal n cells = record { number = n; table = cells }
@@ -40,12 +50,15 @@ startOf bytes cells = elim (checked bytes) [
   | accepted a ps ↦ elim (isTable cells) [ false ↦ refusal 6 cells | true ↦ written cells (started a) ]
 ]
 
-unfoldable pub readingOf : List ℕ → List ℤ → List ℕ → Answer
+unfoldable pub readingOf : List ℕ → List ℤ → List ℕ → ReadingAnswer
 readingOf bytes cells reading = elim (checked bytes) [
-  | refused n ↦ refusal n cells
+  | refused n ↦ marked 0 (refusal n cells)
   | accepted a ps ↦ elim (isTable cells) [
-    | false ↦ refusal 6 cells
-    | true ↦ elim (runOf a ps cells) [ none ↦ refusal 7 cells | some r ↦ written cells (step a r reading) ]
+    | false ↦ marked 0 (refusal 6 cells)
+    | true ↦ elim (runOf a ps cells) [
+      | none ↦ marked 0 (refusal 7 cells)
+      | some r ↦ marked (markOf (cameEarly a r reading)) (written cells (step a r reading))
+    ]
   ]
 ]
 
@@ -82,5 +95,5 @@ forecastOf bytes cells = elim (checked bytes) [
 
 -- what a proof by computation unfolds
 unfoldable pub computes : Unit {0}
-unfolding refusal written isTable startOf readingOf shown forecastRun forecastOf
+unfolding marked refusal written isTable startOf readingOf shown forecastRun forecastOf
 computes = tt

@@ -25,13 +25,14 @@ use Rattle.csl.specs.Places.{clauseAt}
 use Rattle.csl.specs.Rules.{activate}
 use Rattle.csl.specs.Widths.{narrowAll}
 use Rattle.csl.specs.Table.{Run, addUnit, cellsOf, isSort, tableOf, runOf}
+use Rattle.csl.specs.Early.{waitIn, someTooEarly, cameEarly}
 use Rattle.csl.specs.Entries.{refusedForecast, noForecast, shown, startOf, readingOf, forecastOf, forecastRun}
 use Rattle.csl.specs.Build.{le2, le4, recordOf, lit, truthOf, yes′, partyOf, var, opposite, op, nothing}
 use Rattle.csl.specs.Build.{owesTyped, owes, simply, may, mayTyped, ifs, all′, any′, inst, readingTypeOf}
 use Rattle.csl.specs.Build.{templateWith, agreementWith, agreement, readingWith, reading, mark, sample, zeros}
 use Rattle.csl.specs.Build.{filled, unitOf, joinUnit, flat, runningTable, fulfilledTable}
 use Rattle.csl.specs.Trials.{Trial, Seen, checks, answers, forecasts, steps, reads, becomes, decides, evaluates}
-use Rattle.csl.specs.Trials.{holds, counts, gives, follows, live, fulfils, breaches, harness}
+use Rattle.csl.specs.Trials.{holds, counts, gives, unmarked, follows, live, fulfils, breaches, harness}
 
 -- ---- forms of a trial
 unfoldable pub shows : String → List Seen → List Seen → Trial
@@ -57,7 +58,8 @@ five = pos 5 ∷ []
 
 unfoldable pub refusesAll : String → ℕ → List ℕ → Trial
 refusesAll n k b = shows n
-    (checks (checkOf b) ∷ answers (startOf b five) ∷ answers (readingOf b five []) ∷ forecasts (forecastOf b five) ∷ [])
+    (checks (checkOf b) ∷ answers (unmarked (startOf b five)) ∷ answers (readingOf b five []) ∷ forecasts
+    (forecastOf b five) ∷ [])
     (says k 0 ∷ gives k five ∷ gives k five ∷ forecasts (refusedForecast k) ∷ [])
 
 -- an agreement started and given readings, by the rules alone
@@ -865,16 +867,16 @@ entries =
     (readingWith 110 1 (pos 7 ∷ pos 1 ∷ pos 2 ∷ []) ∷ [])
     (live 100 100 begun 160 3 ∷ live 110 110 (units′ 20 21 (pos 7) 1 1 100) 160 2 ∷ [])
     ∷ shows "6: a cell too few and one too many"
-    (answers (startOf sample (take 3079 zeros)) ∷ answers (readingOf sample (take 3079 zeros) []) ∷ forecasts
-    (forecastOf sample (take 3079 zeros)) ∷ answers (startOf sample (pos 1 ∷ zeros)) ∷ [])
+    (answers (unmarked (startOf sample (take 3079 zeros))) ∷ answers (readingOf sample (take 3079 zeros) [])
+    ∷ forecasts (forecastOf sample (take 3079 zeros)) ∷ answers (unmarked (startOf sample (pos 1 ∷ zeros))) ∷ [])
     (gives 6 (take 3079 zeros) ∷ gives 6 (take 3079 zeros) ∷ forecasts (refusedForecast 6) ∷ gives 6 (pos 1 ∷ zeros)
     ∷ [])
     ∷ shows "a start whatever the table was, 7 before 8"
-    (answers (startOf sample (set 0 (pos 9) zeros)) ∷ answers (readingOf sample zeros []) ∷ forecasts
+    (answers (unmarked (startOf sample (set 0 (pos 9) zeros))) ∷ answers (readingOf sample zeros []) ∷ forecasts
     (forecastOf sample zeros) ∷ [])
     (gives 0 (runningTable 100 100 (unitOf 17 17 100 [] [] ∷ [])) ∷ gives 7 zeros ∷ forecasts (refusedForecast 7) ∷ [])
     ∷ shows "11 at the start, 8 on a fulfilled table"
-    (answers (startOf crowd zeros) ∷ answers (readingOf sample (fulfilledTable 120 100) []) ∷ [])
+    (answers (unmarked (startOf crowd zeros)) ∷ answers (readingOf sample (fulfilledTable 120 100) []) ∷ [])
     (gives 11 zeros ∷ gives 8 (fulfilledTable 120 100) ∷ [])
     ∷ []
 
@@ -967,6 +969,14 @@ unreached =
     ∷ shows "a place where nothing stands" (holds (absent (clauseAt (laddered [] badClause) 99_999)) ∷ [])
     (holds true ∷ [])
     ∷ shows "the width of no template" (holds (narrowAll (laddered [] (calls 99))) ∷ []) (holds true ∷ [])
+    ∷ shows "too early for a unit where nothing stands, for a stuck run"
+    (holds (someTooEarly (laddered [] fulfilled) (record { time = 5; type = 1; values = [] })
+    (unit anObligation 7 5 bare)) ∷ holds (cameEarly (laddered [] fulfilled) (still stuck) (mark 9)) ∷ [])
+    (replicate 2 (holds false))
+    ∷ shows "only what waits waits for something"
+    (map (λ c. holds (absent (waitIn c))) (fulfilled ∷ if′ (next′ fulfilled) (next′ fulfilled)
+    ∷ both′ (next′ fulfilled) (next′ fulfilled) ∷ calls 0 ∷ badClause ∷ []))
+    (replicate 5 (holds true))
     ∷ shows "only what waits has a sort"
     (map (λ c. holds (isSort anObligation c))
     (fulfilled ∷ if′ fulfilled fulfilled ∷ both′ fulfilled fulfilled ∷ calls 0 ∷ badClause ∷ []))

@@ -14,9 +14,11 @@ pub mod Places
 pub mod Rules
 pub mod Table
 pub mod Run
+pub mod Early
 pub mod Entries
 pub mod Demand3
 pub mod Marks
 pub mod Build
 pub mod Trials
 pub mod Further
+pub mod TooEarly

@@ -1,6 +1,6 @@
 -- Paper 01, "Following a reading": activating, following (CSL Fig. 8) and forecasting (CSL Fig. 9).
 -- The three are one walk over a clause; they differ in what an obligation and a choice become.
-use mathlib.Core.Bool.{Bool, true, false, not, _&&_}
+use mathlib.Core.Bool.{true, false}
 use mathlib.Core.List.{List, [], _∷_, _++_}
 use mathlib.Core.Option.{Option, none, some}
 use Prim.Native.Nat.{ℕ, zero, suc, _-_}
@@ -82,22 +82,26 @@ pub record Reading : Type 0 where
   pub type : ℕ
   pub values : List Val
 
--- 1. "T > last"
-unfoldable pub late : Window → Reading → Bool
-late v r = ltZ (v .last) (pos (r .time))
+-- paper 02, No. 8: "the window test must tell early from late". 1 comes first: a window that is over before it begins
+-- is late
+pub data Timing : Type 0 where
+  early onTime late : Timing
 
--- 2. "The reading type is the wanted one, T ≥ first and where is true"; the last is asked apart
-unfoldable pub wants : Wait → Window → Reading → Bool
-wants w v r = eqb (w .wanted) (r .type) && not (ltZ (pos (r .time)) (v .first))
+-- 1. "T > last"; 2. "T ≥ first"
+unfoldable pub timing : Window → ℕ → Timing
+timing v t = elim (ltZ (v .last) (pos t)) [
+  | true ↦ late
+  | false ↦ elim (ltZ (pos t) (v .first)) [ true ↦ early | false ↦ onTime ]
+]
 
 -- in `then`: the reading's values, and after them the remaining time
 unfoldable pub withValues : Sight → List Val → ℤ → Sight
 withValues s vs z = record { params = s .params; values = (s .values ++ vs) ++ (num z ∷ []) }
 
--- 2 and 3, not late: "`then` is activated at T, remaining time last − T. It does not see this reading again.";
--- "Otherwise it waits on."
+-- 2, in an open window: "The reading type is the wanted one [..] and where is true: `then` is activated at T, remaining
+-- time last − T. It does not see this reading again."; 3. "Otherwise it waits on."
 unfoldable pub taken : List Template → Reading → Sight → Wait → Window → Clause → Outcome → Outcome
-taken ts r e w v t waiting = elim (wants w v r) [
+taken ts r e w v t waiting = elim (eqb (w .wanted) (r .type)) [
   | false ↦ waiting
   | true ↦ orStuck (evalBool (e .values ++ r .values) (w .condition) >>= λ b. elim b [
     | false ↦ some waiting
@@ -109,13 +113,15 @@ taken ts r e w v t waiting = elim (wants w v r) [
 -- time, and the else follows this same reading."
 unfoldable pub following : List Template → Reading → Step
 following ts r = record {
-  onObligation = λ e a b w t. orStuck (window e a w >>= λ v. elim (late v r) [
-    | true ↦ blamed (e .params) b >>= (λ p. some (breach (laterOf a (v .last)) (p ∷ [])))
-    | false ↦ some (taken ts r e w v t (running (unit anObligation (w .place) a e)))
+  onObligation = λ e a b w t. orStuck (window e a w >>= λ v. elim (timing v (r .time)) [
+    | late ↦ blamed (e .params) b >>= (λ p. some (breach (laterOf a (v .last)) (p ∷ [])))
+    | onTime ↦ some (taken ts r e w v t (running (unit anObligation (w .place) a e)))
+    | early ↦ some (running (unit anObligation (w .place) a e))
   ]);
-  onChoice = λ e a w t f. orStuck (window e a w >>= λ v. elim (late v r) [
-    | true ↦ some (f (laterOf a (v .last)))
-    | false ↦ some (taken ts r e w v t (running (unit aChoice (w .place) a e)))
+  onChoice = λ e a w t f. orStuck (window e a w >>= λ v. elim (timing v (r .time)) [
+    | late ↦ some (f (laterOf a (v .last)))
+    | onTime ↦ some (taken ts r e w v t (running (unit aChoice (w .place) a e)))
+    | early ↦ some (running (unit aChoice (w .place) a e))
   ]);
 }
 
@@ -142,6 +148,6 @@ forecast a res = across forecasting a res
 
 -- what a proof by computation unfolds
 unfoldable pub computes : Unit {0}
-unfolding blamed blamedAll walk walkIn during activating activate window late wants withValues taken following
+unfolding blamed blamedAll walk walkIn during activating activate window timing withValues taken following
     forecasting across follow forecast
 computes = tt

@@ -22,6 +22,7 @@ use Rattle.csl.specs.Outcomes as Outcomes
 use Rattle.csl.specs.Rules as Rules
 use Rattle.csl.specs.Places as Places
 use Rattle.csl.specs.Run as Run
+use Rattle.csl.specs.Early as Early
 use Rattle.csl.specs.Table as Table
 use Rattle.csl.specs.Entries as Entries
 use Rattle.csl.specs.Build as Build
@@ -31,7 +32,9 @@ use Rattle.csl.specs.Values.{Val}
 use Rattle.csl.specs.Outcomes.{Outcome}
 use Rattle.csl.specs.Run.{Stepped, started, step}
 use Rattle.csl.specs.Table.{Run, tableOf}
-use Rattle.csl.specs.Entries.{Answer, Forecast, noBreach, breachAt, startOf, readingOf, forecastOf}
+use Rattle.csl.specs.Early.{cameEarly, markOf}
+use Rattle.csl.specs.Entries.{Answer, ReadingAnswer, Forecast, noBreach, breachAt, startOf, readingOf}
+use Rattle.csl.specs.Entries.{forecastOf}
 use Rattle.csl.specs.Build.{lit, yes′, op, nothing, owes, simply, may, all′, any′, inst, templateWith, agreement}
 use Rattle.csl.specs.Build.{reading, mark, sample, zeros, unitOf, joinUnit, runningTable, fulfilledTable}
 use Rattle.csl.specs.Build.{breachedTable}
@@ -40,14 +43,14 @@ use Rattle.csl.specs.Build.{breachedTable}
 unfoldable pub computes : Unit {0}
 unfolding Lists.computes Numbers.computes Bytes.computes Parties.computes Decode.computes Typing.computes
     Guards.computes Widths.computes Check.computes Values.computes Outcomes.computes Rules.computes Places.computes
-    Run.computes Table.computes Entries.computes Build.computes
+    Run.computes Early.computes Table.computes Entries.computes Build.computes
 computes = tt
 
 -- ---- a trial: what is computed, and what it must be
 pub data Seen : Type 0 where
   -- the entries' answers
   checks : CheckAnswer → Seen
-  answers : Answer → Seen
+  answers : ReadingAnswer → Seen
   forecasts : Forecast → Seen
   -- a step of the run with what it would become if only time went on, the run that a table shows, a definition alone
   steps : Stepped → Outcome → Seen
@@ -63,49 +66,58 @@ pub record Trial : Type 0 where
   pub shown : List Seen
   pub expected : List Seen
 
--- a number, and a table
+-- a number, a mark and a table
+unfoldable pub marks : ℕ → ℕ → List ℤ → ReadingAnswer
+marks n early cells = record { number = n; early = early; table = cells }
+
 unfoldable pub gives : ℕ → List ℤ → Seen
-gives n cells = answers (record { number = n; table = cells })
+gives n cells = answers (marks n 0 cells)
+
+-- a start's answer, which has no mark
+unfoldable pub unmarked : Answer → ReadingAnswer
+unmarked a = marks (a .number) 0 (a .table)
 
 -- ---- an agreement started and given readings
 -- by the entries, on the table that the one before left, with the forecast of each table
-unfoldable pub byEntries : List ℕ → Answer → List (List ℕ) → List Seen
+unfoldable pub byEntries : List ℕ → ReadingAnswer → List (List ℕ) → List Seen
 byEntries bytes a [] = answers a ∷ forecasts (forecastOf bytes (a .table)) ∷ []
 byEntries bytes a (r ∷ rs) = answers a ∷ forecasts (forecastOf bytes (a .table)) ∷ byEntries bytes
     (readingOf bytes (a .table) r) rs
 
 -- the same without the forecasts
-unfoldable pub byReadings : List ℕ → Answer → List (List ℕ) → List Seen
+unfoldable pub byReadings : List ℕ → ReadingAnswer → List (List ℕ) → List Seen
 byReadings bytes a [] = answers a ∷ []
 byReadings bytes a (r ∷ rs) = answers a ∷ byReadings bytes (readingOf bytes (a .table) r) rs
 
 -- by the rules: no table is read
-unfoldable pub byRules : Agreement → Stepped → List (List ℕ) → List Seen
-byRules ag s [] = gives (s .number) (tableOf (s .run)) ∷ []
-byRules ag s (r ∷ rs) = gives (s .number) (tableOf (s .run)) ∷ byRules ag (step ag (s .run) r) rs
+unfoldable pub byRules : Agreement → ℕ → Stepped → List (List ℕ) → List Seen
+byRules ag early s [] = answers (marks (s .number) early (tableOf (s .run))) ∷ []
+byRules ag early s (r ∷ rs) = answers (marks (s .number) early (tableOf (s .run))) ∷ byRules ag
+    (markOf (cameEarly ag (s .run) r)) (step ag (s .run) r) rs
 
 unfoldable pub rulesOf : CheckResult → List (List ℕ) → List Seen
 rulesOf (refused n) rs = []
-rulesOf (accepted ag ps) rs = byRules ag (started ag) rs
+rulesOf (accepted ag ps) rs = byRules ag 0 (started ag) rs
 
--- ---- a moment: a number, the table with it, and its forecast
+-- ---- a moment: a number, a mark, the table with them, and its forecast
 pub record Moment : Type 0 where
   pub number : ℕ
+  pub early : ℕ
   pub table : List ℤ
   pub forecast : Forecast
 
 unfoldable pub ofEntries : List Moment → List Seen
 ofEntries [] = []
-ofEntries (m ∷ ms) = gives (m .number) (m .table) ∷ forecasts (m .forecast) ∷ ofEntries ms
+ofEntries (m ∷ ms) = answers (marks (m .number) (m .early) (m .table)) ∷ forecasts (m .forecast) ∷ ofEntries ms
 
 unfoldable pub ofRules : List Moment → List Seen
 ofRules [] = []
-ofRules (m ∷ ms) = gives (m .number) (m .table) ∷ ofRules ms
+ofRules (m ∷ ms) = answers (marks (m .number) (m .early) (m .table)) ∷ ofRules ms
 
 unfoldable pub follows : String → List ℕ → List (List ℕ) → List Moment → Trial
 follows n bytes rs ms = record {
   name = n;
-  shown = byEntries bytes (startOf bytes zeros) rs ++ rulesOf
+  shown = byEntries bytes (unmarked (startOf bytes zeros)) rs ++ rulesOf
       (checked bytes) rs;
   expected = ofEntries ms ++ ofRules ms;
 }
@@ -113,24 +125,34 @@ follows n bytes rs ms = record {
 unfoldable pub grows : String → List ℕ → List (List ℕ) → List Moment → Trial
 grows n bytes rs ms = record {
   name = n;
-  shown = byReadings bytes (startOf bytes zeros) rs ++ rulesOf
+  shown = byReadings bytes (unmarked (startOf bytes zeros)) rs ++ rulesOf
       (checked bytes) rs;
   expected = ofRules ms ++ ofRules ms;
 }
 
 -- running: the last reading time, when it last moved, the units, and the forecast breach
 unfoldable pub live : ℕ → ℕ → List (List ℤ) → ℕ → ℕ → Moment
-live now moved us t b = record { number = 0; table = runningTable now moved us; forecast = breachAt t b }
+live now moved us t b = record {
+  number = 0;
+  early = 0;
+  table = runningTable now moved us;
+  forecast = breachAt t b;
+}
 
 unfoldable pub fulfils : ℕ → ℕ → Moment
-fulfils now moved = record { number = 0; table = fulfilledTable now moved; forecast = noBreach }
+fulfils now moved = record { number = 0; early = 0; table = fulfilledTable now moved; forecast = noBreach }
 
 unfoldable pub breaches : ℕ → ℕ → ℕ → ℕ → Moment
-breaches now moved t b = record { number = 0; table = breachedTable now moved t b; forecast = breachAt t b }
+breaches now moved t b = record {
+  number = 0;
+  early = 0;
+  table = breachedTable now moved t b;
+  forecast = breachAt t b;
+}
 
 -- the moment before, with a number
 unfoldable pub refusing : ℕ → Moment → Moment
-refusing n m = record { number = n; table = m .table; forecast = m .forecast }
+refusing n m = record { number = n; early = 0; table = m .table; forecast = m .forecast }
 
 -- an obligation and a choice that wait since A, with nothing in sight
 unfoldable pub owed : ℕ → ℕ → List ℤ
@@ -228,8 +250,8 @@ trials = p1to4 ∷ p5and6 ∷ p7 ∷ p8 ∷ p9 ∷ p10 ∷ p11 ∷ p12a ∷ p12b
 
 -- what a proof by computation unfolds
 unfoldable pub harness : Unit {0}
-unfolding computes gives byEntries byReadings byRules rulesOf ofEntries ofRules follows grows live fulfils breaches
-    refusing owed chosen
+unfolding computes marks gives unmarked byEntries byReadings byRules rulesOf ofEntries ofRules follows grows live
+    fulfils breaches refusing owed chosen
 harness = tt
 
 pub trials-pass : map (λ t. t .shown) trials ≡ map (λ t. t .expected) trials

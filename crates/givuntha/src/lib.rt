@@ -1,7 +1,7 @@
 // The entries as C functions: a slice is a pointer and a length. include/givuntha.h declares and documents them.
 ghost use mathlib.Core.Path.{_≡_};
 ghost use Rattle.csl.specs.Check.{CheckAnswer, checkOf};
-ghost use Rattle.csl.specs.Entries.{Answer, startOf, readingOf, forecastOf};
+ghost use Rattle.csl.specs.Entries.{Answer, ReadingAnswer, startOf, readingOf, forecastOf};
 ghost use Rattle.givuntha.specs.Numbers.{ForecastNumbers, forecastNumbers};
 use monitor::Checked;
 use monitor::Foretold;
@@ -35,12 +35,24 @@ pub extern "C" fn givuntha_start(agreement: &[u8], table: &mut [i64]) -> u32
 }
 
 #[no_mangle]
-pub extern "C" fn givuntha_reading(agreement: &[u8], table: &mut [i64], reading: &[u8]) -> u32
-    ensures { λ r. ⌜ record { number = r; table = now (table .exit) } ≡ readingOf (now (agreement .entry)) (now (table .entry)) (now (reading .entry)) ⌝ }
+pub extern "C" fn givuntha_reading(
+    agreement: &[u8],
+    table: &mut [i64],
+    reading: &[u8],
+    early: &mut u64,
+) -> u32
+    ensures { λ r. ⌜ record { number = r; early = now (early .exit); table = now (table .exit) }
+        ≡ readingOf (now (agreement .entry)) (now (table .entry)) (now (reading .entry)) ⌝ }
 {
     match monitor::reading(agreement, table, reading) {
-        Taken::Accepted => 0,
-        Taken::Refused(why) => monitor::number(why),
+        Taken::Accepted { early: mark } => {
+            *early = if mark { 1 } else { 0 };
+            0
+        }
+        Taken::Refused(why) => {
+            *early = 0;
+            monitor::number(why)
+        }
     }
 }
 

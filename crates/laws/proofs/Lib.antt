@@ -11,3 +11,4 @@ pub mod Residues
 pub mod Types
 pub mod Templates
 pub mod Sameness
+pub mod Timings

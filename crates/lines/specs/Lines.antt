@@ -8,7 +8,8 @@ use lib.IntN.{ℤ, pos}
 use lib.ListN.{getD}
 use Rattle.csl.specs.Numbers.{eqZ}
 use Rattle.csl.specs.Bytes.{le32}
-use Rattle.csl.specs.Entries.{Answer, Forecast, refusedForecast, noBreach, breachAt, noForecast, startOf, readingOf}
+use Rattle.csl.specs.Entries.{Answer, ReadingAnswer, Forecast, refusedForecast, noBreach, breachAt, noForecast}
+use Rattle.csl.specs.Entries.{startOf, readingOf}
 use Rattle.csl.specs.Entries.{forecastOf}
 use Rattle.lines.specs.Text.{decimal, live, done, breach, refused, none, dash, line}
 
@@ -37,8 +38,8 @@ unfoldable pub refusalFields : ℕ → List (List ℕ)
 refusalFields number = refused ∷ decimal number ∷ []
 
 -- what an answer says: the verdict of the table that it left, or the refusal
-unfoldable pub answerFields : List ℕ → Answer → List (List ℕ)
-answerFields s a = elim (a .number) [ zero ↦ verdictFields s (a .table) | suc k ↦ refusalFields (suc k) ]
+unfoldable pub answerFields : List ℕ → ℕ → List ℤ → List (List ℕ)
+answerFields s number table = elim number [ zero ↦ verdictFields s table | suc k ↦ refusalFields (suc k) ]
 
 -- the time of an agreement or a reading, or "`-` as time": both stand behind length and kind
 unfoldable pub timeField : Bool → List ℕ → List ℕ
@@ -50,14 +51,14 @@ unfoldable pub startTime : List ℕ → ℕ → List ℕ
 startTime s number = timeField (eqb number 0) s
 
 unfoldable pub startLine : List ℕ → Answer → List ℕ
-startLine s a = line 0 (startTime s (a .number) ∷ answerFields s a)
+startLine s a = line 0 (startTime s (a .number) ∷ answerFields s (a .number) (a .table))
 
 -- ---- the line of a reading, from its answer; "a reading refused with 8, print[s] `-` as time"
 unfoldable pub readingTime : List ℕ → ℕ → List ℕ
 readingTime reading number = timeField (not (eqb number 8)) reading
 
-unfoldable pub readingLine : List ℕ → ℕ → List ℕ → Answer → List ℕ
-readingLine s n reading a = line n (readingTime reading (a .number) ∷ answerFields s a)
+unfoldable pub readingLine : List ℕ → ℕ → List ℕ → ReadingAnswer → List ℕ
+readingLine s n reading a = line n (readingTime reading (a .number) ∷ answerFields s (a .number) (a .table))
 
 -- ---- all lines: of the readings, from line n on, and of the whole run
 -- "A refused start, and a reading refused with 8, [..] end the run."

@@ -15,7 +15,8 @@ use Rattle.csl.specs.Decode.{agreementOf}
 use Rattle.csl.specs.Check.{CheckAnswer, checked, accepted}
 use Rattle.csl.specs.Table.{Run, runOf}
 use Rattle.csl.specs.Entries as entries
-use Rattle.csl.specs.Entries.{Answer, Forecast, forecastOf, forecastRun}
+use Rattle.csl.specs.Entries.{Answer, ReadingAnswer, Forecast, forecastOf, forecastRun}
+use Rattle.csl.specs.Early.{markOf}
 use Rattle.csl.specs.Marks.{ForecastFits}
 use Rattle.soundness.proofs.Runs.{isFair}
 use Rattle.soundness.proofs.ReadBack.{runOf-good}
@@ -74,12 +75,14 @@ pub start-told : (r : Started) (table : List ℤ) → startedBy (startAnswer r t
 start-told Begun table = refl
 start-told (refusedStart r) table = number-told Begun refusedStart r
 
-abbrev pub takenBy : Answer → Taken
-takenBy a = told acceptedReading refusedReading (a .number)
+abbrev pub takenBy : ReadingAnswer → Taken
+takenBy a = told (acceptedReading (eqb (a .early) 1)) refusedReading (a .number)
 
 pub reading-told : (r : Taken) (table : List ℤ) → takenBy (takenAnswer r table) ≡ r
-reading-told acceptedReading table = refl
-reading-told (refusedReading r) table = number-told acceptedReading refusedReading r
+unfolding markOf
+reading-told (acceptedReading true) table = refl
+reading-told (acceptedReading false) table = refl
+reading-told (refusedReading r) table = number-told (acceptedReading false) refusedReading r
 
 abbrev pub foretoldBy : Forecast → Foretold
 foretoldBy entries.noBreach = Nothing

@@ -1,9 +1,8 @@
 -- Laws for start: the main clause is activated as csl says.
 use mathlib.Core.Path.{_≡_, sym, ap, _∙_}
-use mathlib.Core.Bool.{Bool, true, false, not}
+use mathlib.Core.Bool.{Bool}
 use mathlib.Core.List.{List}
 use Prim.Native.Nat.{ℕ, _≤_, _<_}
-use borrow.Author.Tests.{not-true, not-false}
 use lib.Dec.{leb, leb→le}
 use lib.IntN.{ℤ}
 use lib.ListN.{length}
@@ -19,6 +18,8 @@ use Rattle.monitor.specs.declared.Started.the-variants.{Begun, Refused a
 use Rattle.monitor.specs.Answers.{startAnswer}
 use Rattle.reduction.proofs.Main.{startEvent}
 use Rattle.reduction.specs.Steps.{mainReduced, Due, reduced, advanced, Advances}
+use Rattle.reduction.specs.declared.Advanced.{Advanced}
+use Rattle.reduction.specs.declared.Advanced.the-variants.{TooMany, Wrote}
 use Rattle.monitor.specs.Steps.{Goes}
 
 -- ---- an accepted agreement is short
@@ -43,14 +44,15 @@ module _ {s places : List ℕ} {p : ℕ} (g : Goes s places p) {us : List ℤ} (
     units = tt;
   }
 
-  module _ {fits : Bool} {left : List ℤ} (a : Advances s sights us 0 (startEvent t) rs left fits)
-      (et : t ≡ le32 s 4) where
-    begun : advanced fits left ≡ startOf s us
-    unfolding reduced mainReduced agreementOf
-    begun = a .is ∙ ap (λ k. keptCells k 0 us (mainReduced s)) et ∙ sym (start-reduce s (g .mains) (g .isAccepted) us l)
+  module _ {r : Advanced} {left : List ℤ} (a : Advances s sights us 0 (startEvent t) rs left r) (et : t ≡ le32 s 4)
+    where
+      begun : advanced r left ≡ startOf s us
+      unfolding reduced mainReduced agreementOf
+      begun = a .is ∙ ap (λ k. keptCells k 0 us (mainReduced s)) et
+          ∙ sym (start-reduce s (g .mains) (g .isAccepted) us l)
 
-    pub begin-no : not fits ≡ true → startAnswer (refusedStart Units) left ≡ startOf s us
-    begin-no e = ap (λ b. advanced b left) (sym (not-true fits e)) ∙ begun
+      pub begin-no : r ≡ TooMany → startAnswer (refusedStart Units) left ≡ startOf s us
+      begin-no e = ap (λ r. advanced r left) (sym e) ∙ begun
 
-    pub begin-yes : not fits ≡ false → startAnswer Begun left ≡ startOf s us
-    begin-yes e = ap (λ b. advanced b left) (sym (not-false fits e)) ∙ begun
+      pub begin-yes : {altered : Bool} → r ≡ Wrote altered → startAnswer Begun left ≡ startOf s us
+      begin-yes e = ap (λ r. advanced r left) (sym e) ∙ begun

@@ -18,7 +18,7 @@ use Rattle.csl.specs.Check.{checked, accepted}
 use Rattle.csl.specs.Run.{started}
 use Rattle.csl.specs.Table.{Run, runOf, tableOf}
 use Rattle.csl.specs.Entries.{startOf}
-use Rattle.csl.specs.Demand3.{AllBytes, Bytes, Unaltered}
+use Rattle.csl.specs.Demand3.{AllBytes, Bytes}
 use Rattle.soundness.proofs.Runs.{CaseOf, case-of, not-stuck, start-is, table-typed, written-number, written-zero}
 use Rattle.soundness.proofs.Demand3.{after-inv, moved-cell, start-inv, start-moved, start-unbreached, step-eleven}
 use Rattle.soundness.proofs.Demand3.{step-final, step-moves, step-refused, step-shows, step-stays, step-taken}
@@ -33,7 +33,8 @@ use Rattle.monitor.specs.declared.Started.the-variants.{Begun, Refused}
 use Rattle.monitor.specs.Answers.{numberOf, startAnswer}
 use Rattle.monitor.specs.Calls.{Call, Calls, readingsIn}
 use Rattle.monitor.specs.Demand3.{Begins, Demand3, IsStarted, Upheld, runBy}
-use Rattle.monitor.proofs.Calls.{Found, Sound, all-numbers, found, inv-at, last-table}
+use Rattle.monitor.proofs.Calls.{Found, Sound, all-marks, all-numbers, found, inv-at, last-table}
+use Rattle.monitor.proofs.Early.{early-is, unaltered-in}
 
 -- a refusal's number is not 0
 numbered : (w : Refusal) → numberOf w ≡ 0 → ⊥
@@ -61,10 +62,6 @@ table-left (Refused w) us = refl
 -- the same number
 carries : {P : Type 0} {m n k : ℕ} → m ≡ n → (n ≡ k) ↔ P → (m ≡ k) ↔ P
 carries e h = (λ x. h .0 (sym e ∙ x), λ p. e ∙ h .1 p)
-
--- the same tables
-unaltered-in : {us vs xs ys : List ℤ} → us ≡ xs → vs ≡ ys → Unaltered us vs → Unaltered xs ys
-unaltered-in e f u = rw (e, f) at u
 
 module _ (s : List ℕ) (lent : List ℤ) (a : Agreement) (mains : List ℕ) (st : IsStarted s lent a mains) (r : Started)
     (us : List ℤ) (start : startAnswer r us ≡ startOf s lent) (hs : Bytes s) where
@@ -135,6 +132,9 @@ module _ (s : List ℕ) (lent : List ℤ) (a : Agreement) (mains : List ℕ) (st
               cell-five (f .0 .left) (f .0 .next)
               ∙ ap (λ m. some (pos m)) (step-moves a (runBy a before) (one .bytes) (f .1)
               (λ u. h (unaltered-in (sym (f .0 .table)) (sym (f .0 .left)) u)));
+          marks = all-marks s a mains ck run us calls us-is run-inv hr cs;
+          early = λ before one later e. let f = at-call before one later e .0 in
+              early-is a (runBy a before) _ one (f .table) (f .number) (f .left) (f .early);
           breached = λ before one later e. step-shows s a mains ck (runBy a before) (one .bytes)
               ((at-call before one later e) .0 .inv);
           unbreached = start-unbreached s a mains ck;

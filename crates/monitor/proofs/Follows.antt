@@ -1,11 +1,11 @@
 -- Laws for a reading: what each part of the code learned, as csl's answer.
 use mathlib.Core.Path.{_≡_, refl, sym, ap, ap₂, subst, _∙_}
-use mathlib.Core.Bool.{Bool, true, false, not}
-use mathlib.Core.List.{List, [], _∷_}
+use mathlib.Core.Bool.{Bool, true, false, cond, not, _&&_}
+use mathlib.Core.List.{List, [], _∷_, _++_}
 use mathlib.Core.Option.{none, some}
 use Prim.Native.Nat.{ℕ, _*_, _≤_, _<_}
 use native.Mathlib.Omega.{arith}
-use borrow.Author.Tests.{not-true, not-false, ltb-true, ltb-false}
+use borrow.Author.Tests.{ltb-true, ltb-false}
 use mir.Syntax.{w64}
 use mir.Val.{toZ, SFits}
 use mir.ValLaws.{toZ-pos}
@@ -21,21 +21,26 @@ use Rattle.csl.specs.Check.{checked, accepted}
 use Rattle.csl.specs.Outcomes.{Residue, units, done}
 use Rattle.csl.specs.Table as csl
 use Rattle.csl.specs.Run.{rawReading}
-use Rattle.csl.specs.Table.{tableOf, padded, headCells, natCells, cellsOf}
-use Rattle.csl.specs.Entries.{readingOf}
+use Rattle.csl.specs.Table.{tableOf, tableLength, padded, headCells, natCells, cellsOf}
+use Rattle.csl.specs.Early.{markOf}
+use Rattle.csl.specs.Entries.{marked, readingOf}
 use Rattle.csl.specs.Demand3.{fitting}
 use Rattle.soundness.proofs.Readings.{reading-ok}
 use Rattle.soundness.proofs.Runs.{isFair, runAt}
 use Rattle.soundness.proofs.ReadBack.{table-back}
 use Rattle.cells.specs.Reduce as cells
 use Rattle.cells.specs.Across as table
+use Rattle.cells.specs.Across.{someOpenLater}
 use Rattle.csl.specs.Check.{mainsOf}
+use Rattle.laws.proofs.Bools.{by-test}
 use Rattle.laws.proofs.Integers.{pos-inj}
-use Rattle.bridge.proofs.Across.{follow-across}
+use Rattle.bridge.proofs.Across.{follow-across, sightsOf}
+use Rattle.bridge.proofs.Moved.{idle-units}
+use Rattle.bridge.proofs.Tables.{unitsIn}
 use Rattle.bridge.proofs.Refusals.{answer}
-use Rattle.cells.specs.Tables.{headOf, reducedTable}
+use Rattle.cells.specs.Tables.{alters, headOf, reducedTable, steppedTable}
 use Rattle.bridge.proofs.Entries.{keptCells, reading-eight, reading-nine, reading-ten, reading-done, reading-breach}
-use Rattle.bridge.proofs.Entries.{reading-running}
+use Rattle.bridge.proofs.Entries.{earlyCells, marks-later, reading-running}
 use Rattle.readings.specs.Taking.{TakenIs, UntypedRead, FittingRead}
 use Rattle.readings.specs.declared.Taken.{Taken as Fitting}
 use Rattle.readings.specs.declared.Taken.the-variants.{Malformed, Untyped, Fits}
@@ -55,7 +60,9 @@ use Rattle.monitor.specs.Answers.{takenAnswer}
 use Rattle.reduction.specs.Steps.{mainReduced, UnitsDue, DueBy, Due, reducedBy, reduced}
 use Rattle.monitor.specs.Steps.{ShowsRun, Opened}
 use Rattle.reduction.specs.Steps.{advanced, Advances}
-use Rattle.monitor.specs.Steps.{Fitted, SomeReading, ReadAs}
+use Rattle.reduction.specs.declared.Advanced.{Advanced}
+use Rattle.reduction.specs.declared.Advanced.the-variants.{TooMany, Wrote}
+use Rattle.monitor.specs.Steps.{Fitted, SomeReading, ReadAs, Judged}
 use Rattle.monitor.proofs.Begins.{short}
 use Rattle.monitor.proofs.Opens.{accepts}
 use Rattle.reduction.proofs.Tabled.{founds, sighted, has-tree}
@@ -80,6 +87,38 @@ retimed : (us : List ℤ) (now m t : ℕ) → us ≡ tableOf (runAt now m done)
     → set us 1 (pos t) ≡ reducedTable t (pos m) cells.done
 unfolding tableOf padded headCells natCells reducedTable headOf
 retimed us now m t e = rw e refl
+
+-- ---- what a written table and a refusal say of the residue
+module _ (now n : ℕ) (us : List ℤ) (x : cells.Reduced) where
+  kept-by : {b : Bool} → ltb 128 (unitsIn x) ≡ b
+      → keptCells now n us x ≡ cond b (answer 11 us) (answer 0 (steppedTable now n us x))
+  unfolding keptCells
+  kept-by e = ap (λ b. cond b (answer 11 us) (answer 0 (steppedTable now n us x))) e
+
+  kept-eleven : {left : List ℤ} → answer 11 left ≡ keptCells now n us x → ltb 128 (unitsIn x) ≡ true
+  kept-eleven e = by-test (ltb 128 (unitsIn x)) (λ t. t) (λ f.
+      let z : _≡_ {A = ℕ} 11 0 = ap (λ a. a .number) (e ∙ kept-by f) in absurd (omega arith))
+
+  module _ {left : List ℤ} (e : answer 0 left ≡ keptCells now n us x) where
+    kept-zero : ltb 128 (unitsIn x) ≡ false
+    kept-zero = by-test (ltb 128 (unitsIn x)) (λ t.
+        let z : _≡_ {A = ℕ} 0 11 = ap (λ a. a .number) (e ∙ kept-by t) in absurd (omega arith)) (λ f. f)
+
+    kept-table : left ≡ steppedTable now n us x
+    kept-table = ap (λ a. a .table) (e ∙ kept-by kept-zero)
+
+  early-over : {left : List ℤ} (b : Bool) → answer 11 left ≡ keptCells now n us x → markOf (earlyCells n us x b) ≡ 0
+  unfolding earlyCells markOf
+  early-over b e = rw (kept-eleven e) refl
+
+  early-within : {left : List ℤ} (b : Bool) → answer 0 left ≡ keptCells now n us x
+      → (not (alters n us x) && b) ≡ earlyCells n us x b
+  unfolding earlyCells
+  early-within b e = rw (kept-zero e) refl
+
+judged-as : {b c : Bool} (altered : Bool) → (altered ≡ false → b ≡ c) → (not altered && b) ≡ (not altered && c)
+judged-as true h = refl
+judged-as false h = h refl
 
 module _ {s places : List ℕ} {us : List ℤ} {sights : List ℕ} {run : Run} (o : Opened s places us sights run) where
   abbrev ag : Agreement
@@ -110,12 +149,18 @@ module _ {s places : List ℕ} {us : List ℤ} {sights : List ℕ} {n : ℕ} (o 
   units-ready = rw (o .shows .count)
       (has-tree s (mainsOf s) (ck o) now moved res us (o .isTable) (o .shows .shows .is) sights residue-sights)
 
+  -- some unit opens later than the event says
+  abbrev later : Event → List ℤ → Bool
+  later e rs = someOpenLater (e .time) (e .tag) rs s n sights (drop 8 us)
+
   module _ {bytes : List ℕ} {e : Event} {rs : List ℤ} (f : Fitted s bytes us e rs) where
     -- what the rules on cells give for a reading
     record Given : Type 0 where
       given : cells.Reduced
       is : table.across (modeAt e rs) s n sights (drop 8 us) ≡ given ∷ []
-      reads : readingOf s us bytes ≡ keptCells (e .time) n us given
+      reads : readingOf s us bytes ≡ marked (markOf (earlyCells n us given (later e rs)))
+          (keptCells (e .time) n us given)
+      marks : e .tag ≡ 0 → later e rs ≡ false
 
     following : Given
     following =
@@ -126,6 +171,12 @@ module _ {s places : List ℕ} {us : List ℤ} {sights : List ℕ} {n : ℕ} (o 
         moved res us (o .isTable) (o .shows .shows .is) more d ((reading-ok (ag o) (f .raw) d (f .typed)) .0) le in
         let seen = sighted s (mainsOf s) (ck o) now moved res us (o .isTable) (o .shows .shows .is) sights
         residue-sights in
+        let same : someOpenLater (d .time) (d .type) (cellsOf (d .values)) s (units res) (sightsOf (ag o) res ++ more)
+        (drop 8 us) ≡ later e rs =
+        ap₂ (λ k q. someOpenLater (d .time) (d .type) (cellsOf (d .values)) s k q (drop 8 us)) (sym (o .shows .count))
+        (sym seen)
+        ∙ ap₂ (λ t k. someOpenLater t k (cellsOf (d .values)) s n sights (drop 8 us)) (sym (f .time)) (sym (f .type))
+        ∙ ap (λ vs. someOpenLater (e .time) (e .tag) vs s n sights (drop 8 us)) (sym (f .cells)) in
         record {
           given = w .given;
           is = ap (λ m. table.across m s n sights (drop 8 us)) (mode-as f)
@@ -133,7 +184,12 @@ module _ {s places : List ℕ} {us : List ℤ} {sights : List ℕ} {n : ℕ} (o 
               (drop 8 us)) (o .shows .count) seen ∙ w .only;
           reads = reading-running s (mainsOf s) (ck o) us (o .isTable) now moved bytes d (fits-as f) le
               (founds s (mainsOf s) (ck o)) res more (w .given) (o .shows .shows .is) (w .only)
-              ∙ ap₂ (λ t k. keptCells t k us (w .given)) (sym (f .time)) (sym (o .shows .count));
+              ∙ ap (λ b. marked (markOf (earlyCells (units res) us (w .given) b)) (keptCells (d .time) (units res) us
+              (w .given))) same
+              ∙ ap₂ (λ t k. marked (markOf (earlyCells k us (w .given) (later e rs))) (keptCells t k us (w .given)))
+              (sym (f .time)) (sym (o .shows .count));
+          marks = λ z. sym same ∙ marks-later s (mainsOf s) (ck o) us (o .isTable) now moved bytes d (fits-as f) le
+              (founds s (mainsOf s) (ck o)) res more (o .shows .shows .is) (sym (f .type) ∙ z);
         }
 
     follows-as : reduced s sights us n e rs ≡ following .given
@@ -141,9 +197,12 @@ module _ {s places : List ℕ} {us : List ℤ} {sights : List ℕ} {n : ℕ} (o 
     follows-as = ap (λ k. reducedBy k (mainReduced s) (treeReduced (modeAt e rs) s n sights (drop 8 us))) (f .follows)
         ∙ tree-only (following .is)
 
-    reads-as : {fits : Bool} {left : List ℤ} → Advances s sights us n e rs left fits
-        → advanced fits left ≡ readingOf s us bytes
-    reads-as a = a .is ∙ ap (keptCells (e .time) n us) follows-as ∙ sym (following .reads)
+    -- the mark is the one judged on cells
+    reads-as : {r : Advanced} {left : List ℤ} → Advances s sights us n e rs left r
+        → marked (markOf (earlyCells n us (reduced s sights us n e rs) (later e rs))) (advanced r left)
+        ≡ readingOf s us bytes
+    reads-as a = ap₂ (λ x y. marked (markOf (earlyCells n us x (later e rs))) y) follows-as
+        (a .is ∙ ap (keptCells (e .time) n us) follows-as) ∙ sym (following .reads)
 
   module _ {e : Event} {rs : List ℤ} where
     pub follow-due : SomeReading s us e rs → Due s places sights us n e rs
@@ -164,17 +223,59 @@ module _ {s places : List ℕ} {us : List ℤ} {sights : List ℕ} {n : ℕ} (o 
           units = subst (λ k. DueBy k (UnitsDue s sights us n e rs)) (sym (f .follows)) all;
         }
 
-    module _ {fits : Bool} {left : List ℤ} (a : Advances s sights us n e rs left fits) where
-      pub follow-no : not fits ≡ true → ReadAs s us e rs (refusedReading tooManyUnits) left
-      follow-no q = record { is = λ bytes f. ap (λ b. advanced b left) (sym (not-true fits q)) ∙ reads-as f a }
+    module _ {r : Advanced} {left : List ℤ} (a : Advances s sights us n e rs left r) where
+      pub follow-no : r ≡ TooMany → ReadAs s us e rs (refusedReading tooManyUnits) left
+      unfolding marked
+      follow-no q = record {
+        is = λ bytes f. ap₂ (λ m r. marked m (advanced r left))
+            (sym (early-over (e .time) n us (reduced s sights us n e rs) (later e rs)
+            (ap (λ r. advanced r left) (sym q) ∙ a .is))) (sym q) ∙ reads-as f a;
+      }
 
-      pub follow-yes : not fits ≡ false → ReadAs s us e rs acceptedReading left
-      follow-yes q = record { is = λ bytes f. ap (λ b. advanced b left) (sym (not-false fits q)) ∙ reads-as f a }
+      module _ {altered : Bool} (q : r ≡ Wrote altered) where
+        wrote : answer 0 left ≡ keptCells (e .time) n us (reduced s sights us n e rs)
+        wrote = ap (λ r. advanced r left) (sym q) ∙ a .is
+
+        told : altered ≡ alters n us (reduced s sights us n e rs)
+        told = rw q at (a .told)
+
+        -- where nothing altered the units are as they were
+        same-units : altered ≡ false → drop 8 left ≡ drop 8 us
+        unfolding steppedTable
+        same-units h = ap (drop 8) (kept-table (e .time) n us (reduced s sights us n e rs) wrote)
+            ∙ idle-units (ag o) (mainsOf s) (isFair s (ag o) (mainsOf s) (ck o)) now moved res us (o .isTable)
+            (o .shows .shows .is) (e .time) _ (reduced s sights us n e rs)
+            (ap (λ k. alters k us (reduced s sights us n e rs)) (sym (o .shows .count)) ∙ sym told ∙ h)
+
+        pub judge-due : SomeReading s us e rs → length left ≡ tableLength → Judged s sights left n e rs altered
+        judge-due reading l =
+            let f = reading .1 in
+            record {
+              isTable = l;
+              short = short (o .goes);
+              few = f .few;
+              soon = f .fits;
+              tree = λ h. subst (λ cs. Tree (length s) sights cs n) (sym (same-units h)) units-ready;
+              marks = λ h z. ap (λ cs. someOpenLater (e .time) (e .tag) rs s n sights cs) (same-units h)
+                  ∙ following f .marks z;
+            }
+
+        pub follow-yes : {early : Bool}
+            → early ≡ (not altered && someOpenLater (e .time) (e .tag) rs s n sights (drop 8 left))
+            → ReadAs s us e rs (acceptedReading early) left
+        unfolding marked
+        follow-yes {early} h = record {
+          is = λ bytes f. ap₂ (λ b r. marked (markOf b) (advanced r left))
+              (h ∙ judged-as altered (λ g. ap (λ cs. someOpenLater (e .time) (e .tag) rs s n sights cs) (same-units g))
+              ∙ ap (λ b. not b && later e rs) told
+              ∙ early-within (e .time) n us (reduced s sights us n e rs) (later e rs) wrote) (sym q) ∙ reads-as f a;
+        }
 
 -- ---- a breached run, and a fulfilled one
 module _ {s places : List ℕ} {us : List ℤ} {sights : List ℕ} {e : Event} {rs : List ℤ} where
   pub read-breached : {t : ℤ} {b : ℕ} → Opened s places us sights (Breached t b)
-      → ReadAs s us e rs acceptedReading us
+      → ReadAs s us e rs (acceptedReading false) us
+  unfolding marked markOf
   read-breached o =
       let b = o .shows in
       record {
@@ -184,13 +285,15 @@ module _ {s places : List ℕ} {us : List ℤ} {sights : List ℕ} {e : Event} {
       }
 
   pub read-done : Opened s places us sights Fulfilled
-      → ReadAs s us e rs acceptedReading (set us 1 (toZ w64 (e .time)))
+      → ReadAs s us e rs (acceptedReading false) (set us 1 (toZ w64 (e .time)))
+  unfolding marked markOf
   read-done o =
       let r = o .shows in
       let back = sym (table-back (ag o) (mainsOf s) us (runAt (r .now) (r .moved) done) (r .is) (o .isTable)) in
       record {
         is = λ bytes f.
-            ap (answer 0) (ap (set us 1) (toZ-pos w64 (e .time) (omega (arith, f .fits)) ∙ ap pos (f .time))
+            ap (λ cells. marked 0 (answer 0 cells))
+            (ap (set us 1) (toZ-pos w64 (e .time) (omega (arith, f .fits)) ∙ ap pos (f .time))
             ∙ retimed us (r .now) (r .moved) (f .reading .time) back)
             ∙ sym (reading-done s (mainsOf s) (ck o) us (o .isTable) (r .now) (r .moved) bytes (f .reading)
             (fits-as f)
@@ -214,11 +317,13 @@ module _ {s places : List ℕ} {us : List ℤ} {sights : List ℕ} {r : Run} (o 
   shown = some-run s us sights r (o .shows)
 
   pub read-eight : t ≡ Malformed → takenAnswer (refusedReading ReadingForm) us ≡ readingOf s us bytes
+  unfolding marked
   read-eight g =
       let f : rawReading bytes ≡ none = rw g at h in
       sym (reading-eight s (mainsOf s) (ck o) us (o .isTable) (shown .run) (shown .is) bytes f)
 
   pub read-nine : t ≡ Untyped → takenAnswer (refusedReading ReadingTyping) us ≡ readingOf s us bytes
+  unfolding marked
   read-nine g =
       let f : UntypedRead s bytes = rw g at h in
       sym (reading-nine s (mainsOf s) (ck o) us (o .isTable) (shown .run) (shown .is) bytes (f .raw) (f .is)
@@ -242,7 +347,7 @@ module _ {s places : List ℕ} {us : List ℤ} {sights : List ℕ} {r : Run} (o 
 
     pub read-ten : {z : ℤ} {b : Bool} → z ≡ getD us 1 (pos 0) → b ≡ ltZ (toZ w64 time) z → b ≡ true
         → takenAnswer (refusedReading ReadingTime) us ≡ readingOf s us bytes
-    unfolding fitting _>>=_
+    unfolding fitting _>>=_ marked
     read-ten ez eb t =
         let f = fitting-read in
         let fits : fitting (ag o) bytes ≡ some (f .reading) = rw (f .is) (f .typed) in

@@ -20,9 +20,8 @@ use Rattle.soundness.proofs.Demand3.{after-inv}
 use Rattle.soundness.proofs.ReadBack.{runOf-good, table-back}
 use Rattle.soundness.proofs.Marks.{AtOnce, Marks, Stays, at-once, breach-state, fits, forecast-shows, frozen, given}
 use Rattle.soundness.proofs.Marks.{never, none-breach, not-yet, run-ok, table-state, until}
-use Rattle.monitor.specs.declared.Taken.the-variants.{Accepted}
-use Rattle.monitor.specs.Answers.{forecastAnswer, takenAnswer}
-use Rattle.monitor.specs.Calls.{Call, Calls, lastTable, numberIn, readingsIn}
+use Rattle.monitor.specs.Answers.{forecastAnswer}
+use Rattle.monitor.specs.Calls.{Call, Calls, lastTable, readingsIn}
 use Rattle.monitor.specs.Forecasts.{AcceptedMarks, ForecastClaim, Foretells}
 use Rattle.monitor.proofs.Calls.{Sound, called, found, last-table}
 
@@ -38,10 +37,6 @@ unfolding AcceptedMarks
 marks-split a [] later m = (tt, m)
 marks-split a (c ∷ before) later m = let h = marks-split a before later (m .2) in ((m .0, m .1, h .0), h .1)
 
-accepted-zero : (c : Call) → c .answer ≡ Accepted → numberIn c ≡ 0
-unfolding numberIn
-accepted-zero c e = ap (λ r. (takenAnswer r (c .left)) .number) e
-
 module _ (s : List ℕ) (a : Agreement) (mains : List ℕ) (ck : checked s ≡ accepted a mains) where
   -- the run takes the marks that the calls take
   run-marks : (q : Run) (us : List ℤ) (marks : List Call) → us ≡ tableOf q → Sound s a mains ck q
@@ -51,7 +46,7 @@ module _ (s : List ℕ) (a : Agreement) (mains : List ℕ) (ck : checked s ≡ a
   run-marks q us (c ∷ marks) e i h cs m =
       let x = called s a mains ck q us c e i (cs .0) in (
         m .0,
-        sym (x .0) ∙ accepted-zero c (m .1),
+        sym (x .0) ∙ m .1,
         run-marks ((step a q (c .bytes)) .run) (c .left) marks (x .1)
             (step-inv s a mains ck q (c .bytes) (h .0) i) (h .1) (cs .1) (m .2),
       )
@@ -139,7 +134,7 @@ module _ (s : List ℕ) (a : Agreement) (mains : List ℕ) (ck : checked s ≡ a
           let st = until s a mains ck q (readingsIn before) (x .bytes .0) i
           (run-marks q us before is i (x .bytes .0) (x .meets .0) (two .0)) (breachAt t b) first open-still in
           let g = given s a mains ck t b run (one .bytes) (x .inv) st (two .1 .0)
-          (sym (x .number) ∙ accepted-zero one (two .1 .1)) lt in
+          (sym (x .number) ∙ two .1 .1) lt in
           let next = (step a run (one .bytes)) .run in
           let ib : IsBreach (next .outcome) = subst (λ r. IsBreach (r .outcome)) (sym (g .1)) tt in
           let last : lastTable us marks ≡ tableOf next = ap (lastTable us) e ∙ last-++ us before (one ∷ later)

@@ -4,6 +4,7 @@ pub mod Begins
 pub mod Follows
 pub mod Foretells
 pub mod Calls
+pub mod Early
 pub mod Demand3
 pub mod Forecasts
 pub mod Apart

@@ -8,7 +8,7 @@ use lib.IntN.{ℤ, pos, natAbs}
 use lib.ListN.{getD, set}
 use Rattle.csl.specs.Bytes.{le32}
 use Rattle.csl.specs.Check.{CheckAnswer, checkOf}
-use Rattle.csl.specs.Entries.{Answer, Forecast, refusedForecast, noBreach, breachAt, noForecast}
+use Rattle.csl.specs.Entries.{Answer, ReadingAnswer, Forecast, refusedForecast, noBreach, breachAt, noForecast}
 use Rattle.csl.specs.Entries.{startOf, readingOf, forecastOf}
 use Rattle.csl.specs.Build.{sample, agreement, all′, simply, zeros}
 use Rattle.csl.specs.Build as Build
@@ -27,7 +27,7 @@ p8bytes = agreement [] (all′ (simply 0 (pos 60)) (simply 1 (pos 60)))
 abbrev p1 : Answer
 p1 = startOf sample zeros
 
-abbrev p2 : Answer
+abbrev p2 : ReadingAnswer
 p2 = readingOf sample (p1 .table) p2bytes
 
 -- ---- a table's head: its state, last reading time and units in use
@@ -49,7 +49,7 @@ IsRefused noForecast = ⊥
 
 module _ (check : List ℕ → CheckAnswer) (checks : (s : List ℕ) → check s ≡ checkOf s)
     (start : List ℕ → List ℤ → Answer) (starts : (s : List ℕ) (us : List ℤ) → start s us ≡ startOf s us)
-    (reading : List ℕ → List ℤ → List ℕ → Answer)
+    (reading : List ℕ → List ℤ → List ℕ → ReadingAnswer)
     (reads : (s : List ℕ) (us : List ℤ) (r : List ℕ) → reading s us r ≡ readingOf s us r)
     (forecast : List ℕ → List ℤ → Forecast)
     (foretells : (s : List ℕ) (us : List ℤ) → forecast s us ≡ forecastOf s us) where
@@ -72,7 +72,7 @@ module _ (check : List ℕ → CheckAnswer) (checks : (s : List ℕ) → check s
 
 -- any monitor that starts and reads as its contracts say: it does not say 11 where 0 is right
 module _ (start : List ℕ → List ℤ → Answer) (starts : (s : List ℕ) (us : List ℤ) → start s us ≡ startOf s us)
-    (reading : List ℕ → List ℤ → List ℕ → Answer)
+    (reading : List ℕ → List ℤ → List ℕ → ReadingAnswer)
     (reads : (s : List ℕ) (us : List ℤ) (r : List ℕ) → reading s us r ≡ readingOf s us r) where
   -- at the start, and at the first reading: the last reading time is still the start
   pub eleven-at-once :
@@ -100,7 +100,7 @@ module _ (start : List ℕ → List ℤ → Answer) (starts : (s : List ℕ) (us
       (sym (ap (λ a. unitsIn (a .table)) (starts p8bytes zeros)) ∙ wrong p8bytes zeros) in
       absurd (omega arith)
 
-module _ (reading : List ℕ → List ℤ → List ℕ → Answer)
+module _ (reading : List ℕ → List ℤ → List ℕ → ReadingAnswer)
     (reads : (s : List ℕ) (us : List ℤ) (r : List ℕ) → reading s us r ≡ readingOf s us r) where
   -- P2 then P3: no monitor that meets the contract is still running
   fulfilled : stateIn ((reading sample (p2 .table) p3bytes) .table) ≡ pos 1 → ⊥

@@ -4,7 +4,8 @@ use Prim.Native.Nat.{ℕ}
 use lib.IntN.{ℤ}
 use Rattle.csl.specs.Check.{CheckAnswer}
 use Rattle.csl.specs.Entries as entries
-use Rattle.csl.specs.Entries.{Answer}
+use Rattle.csl.specs.Entries.{Answer, ReadingAnswer}
+use Rattle.csl.specs.Early.{markOf}
 use Rattle.monitor.specs.declared.Refusal.{Refusal}
 use Rattle.monitor.specs.declared.Refusal.the-variants.{AgreementLength, AgreementForm, AgreementTyping}
 use Rattle.monitor.specs.declared.Refusal.the-variants.{AgreementGuards, AgreementWidth, TableLength}
@@ -43,10 +44,10 @@ abbrev pub startAnswer : Started → List ℤ → Answer
 startAnswer Begun table = record { number = 0; table = table }
 startAnswer (refusedStart r) table = record { number = numberOf r; table = table }
 
--- a reading
-abbrev pub takenAnswer : Taken → List ℤ → Answer
-takenAnswer acceptedReading table = record { number = 0; table = table }
-takenAnswer (refusedReading r) table = record { number = numberOf r; table = table }
+-- a reading; paper 02, No. 8: with the mark "early"
+abbrev pub takenAnswer : Taken → List ℤ → ReadingAnswer
+takenAnswer (acceptedReading early) table = record { number = 0; early = markOf early; table = table }
+takenAnswer (refusedReading r) table = record { number = numberOf r; early = 0; table = table }
 
 abbrev pub forecastAnswer : Foretold → entries.Forecast
 forecastAnswer Nothing = entries.noBreach

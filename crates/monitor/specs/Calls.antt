@@ -34,3 +34,11 @@ numberIn c = (takenAnswer (c .answer) (c .left)) .number
 unfoldable pub numbersIn : List Call → List ℕ
 numbersIn [] = []
 numbersIn (c ∷ cs) = numberIn c ∷ numbersIn cs
+
+-- and the marks
+unfoldable pub earlyIn : Call → ℕ
+earlyIn c = (takenAnswer (c .answer) (c .left)) .early
+
+unfoldable pub marksIn : List Call → List ℕ
+marksIn [] = []
+marksIn (c ∷ cs) = earlyIn c ∷ marksIn cs

@@ -21,12 +21,14 @@ use Rattle.csl.specs.Run.{started, step}
 use Rattle.csl.specs.Table.{Run, tableLength, tableOf, runOf}
 use Rattle.csl.specs.Entries.{startOf}
 use Rattle.csl.specs.Demand3.{Bytes, AllBytes, fitting, reached, needed, NotStuck, IsBreach, Unaltered, runAfter}
-use Rattle.csl.specs.Demand3.{numbersBy}
+use Rattle.csl.specs.Demand3.{numbersBy, marksBy}
 use Rattle.csl.specs.Marks.{timeIn}
 use Rattle.monitor.specs.declared.Started.{Started}
 use Rattle.monitor.specs.declared.Started.the-variants.{Begun}
 use Rattle.monitor.specs.Answers.{startAnswer}
-use Rattle.monitor.specs.Calls.{Call, Calls, lastTable, readingsIn, numberIn, numbersIn}
+use Rattle.monitor.specs.Calls.{Call, Calls, lastTable, readingsIn, numberIn, numbersIn, earlyIn}
+use Rattle.monitor.specs.Calls.{marksIn}
+use Rattle.monitor.specs.Early.{TooEarly}
 
 -- "A run is fed the agreement and the readings' bytes, nothing from a table."
 unfoldable pub runBy : Agreement → List Call → Run
@@ -68,6 +70,12 @@ pub record Upheld (a : Agreement) (mains : List ℕ) (r : Started) (us : List �
   -- and where one does it is the reading's time
   pub moves : (before : List Call) (one : Call) (later : List Call) → calls ≡ before ++ (one ∷ later)
       → (Unaltered (lastTable us before) (one .left) → ⊥) → at (one .left) 5 ≡ some (pos (timeIn (one .bytes)))
+  -- paper 02, No. 8: each answer carries the run's mark
+  pub marks : marksIn calls ≡ marksBy a ((started a) .run) (readingsIn calls)
+  -- "It is 1 if and only if the reading is accepted, the table was running and no unit or state altered, and at least
+  -- one waiting unit wants this type, finds `where` true, and has a first later than the reading."
+  pub early : (before : List Call) (one : Call) (later : List Call) → calls ≡ before ++ (one ∷ later)
+      → (earlyIn one ≡ 1) ↔ TooEarly a (runBy a before) (lastTable us before) one
   -- "a breach names only parties that can be blamed, at a time from the start to the reading that showed it", here
   -- `one`
   pub breached : (before : List Call) (one : Call) (later : List Call) → calls ≡ before ++ (one ∷ later)

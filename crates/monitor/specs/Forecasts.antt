@@ -15,14 +15,13 @@ use Rattle.csl.specs.Table.{Run, tableLength, runOf}
 use Rattle.csl.specs.Entries.{Forecast, noBreach, breachAt, forecastOf}
 use Rattle.csl.specs.Demand3.{AllBytes}
 use Rattle.csl.specs.Marks.{IsMark, timeIn, AllTimes, Breached, breachTable, ForecastFits}
-use Rattle.monitor.specs.declared.Taken.the-variants.{Accepted}
 use Rattle.monitor.specs.declared.Foretold.{Foretold}
 use Rattle.monitor.specs.Answers.{forecastAnswer}
-use Rattle.monitor.specs.Calls.{Call, Calls, lastTable, readingsIn}
+use Rattle.monitor.specs.Calls.{Call, Calls, lastTable, readingsIn, numberIn}
 
 unfoldable pub AcceptedMarks : Agreement → List Call → Type 0
 AcceptedMarks a [] = Unit {0}
-AcceptedMarks a (c ∷ cs) = IsMark a (c .bytes) × (c .answer ≡ Accepted) × AcceptedMarks a cs
+AcceptedMarks a (c ∷ cs) = IsMark a (c .bytes) × (numberIn c ≡ 0) × AcceptedMarks a cs
 
 -- of agreement a, whose main clause's parties are `mains`: f is the forecast before the marks, f′ the one after them
 pub record Foretells (a : Agreement) (mains : List ℕ) (us : List ℤ) (f : Forecast) (marks : List Call) (f′ : Forecast)

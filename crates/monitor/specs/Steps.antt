@@ -1,10 +1,11 @@
 -- What the functions between the entries ask and promise.
 use mathlib.Core.Path.{_≡_}
+use mathlib.Core.Bool.{Bool, false}
 use mathlib.Core.List.{List}
 use mathlib.Core.Option.{some}
 use Prim.Native.Nat.{ℕ, _≤_, _<_}
 use lib.IntN.{ℤ, pos}
-use lib.ListN.{length, getD}
+use lib.ListN.{length, getD, drop}
 use Rattle.csl.specs.Parties.{bitsOf}
 use Rattle.csl.specs.Decode.{agreementOf}
 use Rattle.csl.specs.Check as check
@@ -15,6 +16,8 @@ use Rattle.csl.specs.Run.{Raw, rawReading, typedReading}
 use Rattle.csl.specs.Table.{tableLength, cellsOf}
 use Rattle.csl.specs.Entries.{startOf, readingOf, forecastOf}
 use Rattle.records.specs.Index.{Indexed}
+use Rattle.cells.specs.Across.{someOpenLater}
+use Rattle.walk.specs.Tree.{Tree}
 use Rattle.waits.specs.declared.Event.{Event}
 use Rattle.waits.specs.declared.Step.the-variants.{Follow}
 use Rattle.state.specs.Shown.{RunShows, RunningAs, BreachedAs, runIn}
@@ -101,3 +104,13 @@ SomeReading s us e rs = (bytes : List ℕ) × Fitted s bytes us e rs
 -- r and the table `left` answer every reading that says the event
 pub record ReadAs (s : List ℕ) (us : List ℤ) (e : Event) (rs : List ℤ) (r : Taken) (left : List ℤ) : Type 0 where
   pub is : (bytes : List ℕ) → Fitted s bytes us e rs → takenAnswer r left ≡ readingOf s us bytes
+
+-- what is asked of a table that a step has left: where nothing altered it still has the n units, and a mark waits for
+-- none of them
+pub record Judged (s sights : List ℕ) (us : List ℤ) (n : ℕ) (e : Event) (rs : List ℤ) (altered : Bool) : Type 0 where
+  pub isTable : length us ≡ tableLength
+  pub short : length s ≤ 16_384
+  pub few : length rs ≤ 4
+  pub soon : e .time < 4_294_967_296
+  pub tree : altered ≡ false → Tree (length s) sights (drop 8 us) n
+  pub marks : altered ≡ false → e .tag ≡ 0 → someOpenLater (e .time) (e .tag) rs s n sights (drop 8 us) ≡ false

@@ -1,15 +1,17 @@
 // The public entries of paper 01. No entry relies on an earlier check.
 ghost use mathlib.Core.Path.{_≡_};
+ghost use mathlib.Core.Bool.{not, _&&_};
 ghost use Prim.Native.Nat.{ℕ, _≤_};
 ghost use lib.IntN.{pos};
-ghost use lib.ListN.{length};
+ghost use lib.ListN.{length, drop};
 ghost use lib.Signed.{_≤ℤ_};
+ghost use Rattle.cells.specs.Across.{someOpenLater};
 ghost use Rattle.csl.specs.Check.{checkOf};
 ghost use Rattle.csl.specs.Entries.{startOf, readingOf, forecastOf};
 ghost use Rattle.csl.specs.Table.{tableLength};
 ghost use Rattle.monitor.specs.Answers.{numberOf, checkAnswer, startAnswer, takenAnswer, forecastAnswer};
 ghost use Rattle.monitor.specs.Steps.{indexLength, sightsLength, Goes, Verified, Admitted, Opened, Opens};
-ghost use Rattle.monitor.specs.Steps.{SomeReading, ReadAs};
+ghost use Rattle.monitor.specs.Steps.{SomeReading, ReadAs, Judged};
 use arith::less;
 use cells::HEAD_CELLS;
 use cells::LAST_TIME;
@@ -18,6 +20,7 @@ use cells::TABLE_CELLS;
 use octets::unsigned32;
 use readings::Taken as Fitting;
 use records::START_AT;
+use reduction::Advanced;
 use reduction::advance;
 use residues::Reduced;
 use state::State;
@@ -26,6 +29,7 @@ use typing::Typed;
 use waits::Event;
 use waits::Step;
 use walk::across;
+use walk::later::some_open_later;
 
 // The places of its index.
 const PLACES: usize = 49;
@@ -62,8 +66,9 @@ pub enum Started {
     Refused(Refusal),
 }
 
+// `early` says that the reading came too early: nothing altered, and some unit waits for it and opens later.
 pub enum Taken {
-    Accepted,
+    Accepted { early: bool },
     Refused(Refusal),
 }
 
@@ -164,10 +169,10 @@ fn begin(agreement: &[u8], places: &[usize], table: &mut [i64]) -> Started
         time: unsigned32(agreement, START_AT),
         tag: 0,
     };
-    if !advance(agreement, places, &sights, table, 0, event, &none) {
-        return Started::Refused(Refusal::Units);
+    match advance(agreement, places, &sights, table, 0, event, &none) {
+        Advanced::TooMany => Started::Refused(Refusal::Units),
+        Advanced::Wrote { altered: _ } => Started::Begun,
     }
-    Started::Begun
 }
 
 // Starts a run of an agreement of any bytes; a refusal leaves the table.
@@ -179,6 +184,30 @@ pub fn start(agreement: &[u8], table: &mut [i64]) -> Started
         Checked::Refused(why) => Started::Refused(why),
         Checked::Accepted(_) => begin(agreement, &places, table),
     }
+}
+
+// Whether a reading that was followed came too early, from the table that it left. No unit waits for a time mark.
+fn came_early(
+    agreement: &[u8],
+    sights: &[usize],
+    table: &[i64],
+    used: usize,
+    event: Event,
+    rs: &[i64],
+    altered: bool,
+) -> bool
+    requires { ⌜ Judged (now agreement) (now sights) (now table) used event (now rs) altered ⌝ }
+    ensures { λ r. ⌜ r ≡ (not altered && someOpenLater (event .time) (event .tag) (now (rs .entry)) (now (agreement .entry)) used
+        (now (sights .entry)) (drop 8 (now (table .entry)))) ⌝ }
+{
+    if altered {
+        return false;
+    }
+    if event.tag == 0 {
+        return false;
+    }
+    let units = &table[HEAD_CELLS..];
+    some_open_later(agreement, event, rs, sights, units, used)
 }
 
 // A reading that fits and is not before the last. A breached run is left as it is; of a fulfilled one the last reading
@@ -198,19 +227,22 @@ fn step(
 {
     match run {
         Run::Running(used) => {
-            if !advance(agreement, places, sights, table, used, event, rs) {
-                return Taken::Refused(Refusal::Units);
+            match advance(agreement, places, sights, table, used, event, rs) {
+                Advanced::TooMany => Taken::Refused(Refusal::Units),
+                Advanced::Wrote { altered } => {
+                    let early = came_early(agreement, sights, table, used, event, rs, altered);
+                    Taken::Accepted { early }
+                }
             }
-            Taken::Accepted
         }
         Run::Fulfilled => {
             table[LAST_TIME] = event.time as i64;
-            Taken::Accepted
+            Taken::Accepted { early: false }
         }
         Run::Breached {
             time: _,
             parties: _,
-        } => Taken::Accepted,
+        } => Taken::Accepted { early: false },
     }
 }
 

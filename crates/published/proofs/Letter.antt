@@ -4,13 +4,13 @@ use mathlib.Core.Bool.{Bool, true, false, not}
 use mathlib.Core.List.{List, [], _∷_, _++_}
 use mathlib.Core.Option.{Option, some}
 use mathlib.Core.Path.{ap, ap₂, refl, subst, sym, _∙_, _≡_}
-use Prim.Native.Nat.{ℕ, _<_, _≤_}
+use Prim.Native.Nat.{ℕ}
 use native.Mathlib.Omega.{arith}
 use borrow.Author.Tests.{eqb-false}
 use lib.Dec.{T, eqb, eqb→eq, leb}
 use lib.IntN.{ℤ, pos, _+ℤ_, _-ℤ_}
 use lib.ListN.{length}
-use lib.Signed.{ltZ, _≤ℤ_, _<ℤ_}
+use lib.Signed.{ltZ, _≤ℤ_, _<ℤ_, ltZ-yes, ltZ-no, clashℤ}
 use Rattle.csl.specs.Lists.{_>>=_, need}
 use Rattle.csl.specs.Numbers.{inRange, laterOf}
 use Rattle.csl.specs.Syntax.{Agreement, Clause, Join, and, or, Ty, Wait, choice, number, numberLit, obligation, truth}
@@ -20,6 +20,7 @@ use Rattle.csl.specs.Values.{evalBool}
 use Rattle.csl.specs.Outcomes.{Sight, Outcome, breach, joined}
 use Rattle.csl.specs.Rules.{Reading, Window, withValues}
 use Rattle.csl.specs.Table.{standFor}
+use Rattle.laws.proofs.Bools.{not-T→false}
 use Rattle.laws.proofs.Options.{from-bind, from-need, passes, some-bind, some-inj}
 use Rattle.laws.proofs.Integers.{later-from}
 use Rattle.soundness.proofs.Members.{Sub, in-left, in-right, joinOk-sub, stand-sub, sub-both, sub-refl, sub-trans}
@@ -41,7 +42,6 @@ use Rattle.published.proofs.Sighted.{i-choice-waiting, i-composition, i
 use Rattle.published.proofs.Sighted.{i-internal-false, i-instantiation}
 use Rattle.published.proofs.Evaluations.{bool-derived, num-derived, stands-derived}
 use Rattle.published.proofs.Verdicts.{joins-derived}
-use Rattle.published.proofs.Reducing.{ltZ-false, true-ltZ, false-ltZ}
 use Rattle.published.proofs.Existence.{Rules, typed-gives}
 use Rattle.published.proofs.Ranges.{rewritten-range}
 
@@ -70,8 +70,15 @@ unfolding typeWait
 rewritten-typed n env w d t u₁ u₂ p q h k = ap₂ (waitWith n env w) (literal-typed (n .parties) env _ h)
     (literal-typed (n .parties) env _ k) ∙ sym (ap₂ (waitWith n env w) p q)
 
+-- ---- tests of times
+true-ltZ : (x y : ℤ) → ltZ x y ≡ true → x <ℤ y
+true-ltZ x y e = ltZ-yes (subst T (sym e) tt)
+
+false-ltZ : (x y : ℤ) → ltZ x y ≡ false → y ≤ℤ x
+false-ltZ x y e = ltZ-no (subst (λ z. T (not z)) (sym e) tt)
+
 not-less : (x y : ℤ) → y ≤ℤ x → T (not (ltZ x y))
-not-less x y h = subst (λ z. T (not z)) (sym (ltZ-false x y h)) tt
+not-less x y h = rw (not-T→false (ltZ x y) (λ t. clashℤ (ltZ-yes {a = x} {b = y} t) h)) tt
 
 -- ---- two breaches that can be joined as outcomes can be joined to the letter
 two-breaches : {j : Join} {t u : ℕ} {B C : List ℕ} {o : Outcome} → Joins j (breach t B) (breach u C) o

@@ -1,11 +1,11 @@
 -- Laws for a step: what the rules on cells give is written where there is room for it, and over 128 units are 11.
 use mathlib.Core.Path.{_≡_, refl, sym, ap, subst, _∙_}
-use mathlib.Core.Bool.{Bool, false}
+use mathlib.Core.Bool.{Bool}
 use mathlib.Core.Logic.{inl, inr, _⊎_}
 use mathlib.Core.List.{List}
 use Prim.Native.Nat.{ℕ, _-_, _*_, _/_, _≤_, _<_, min}
 use native.Mathlib.Omega.{arith}
-use borrow.Author.Tests.{le-leb, lt-ltb, le-ltb}
+use borrow.Author.Tests.{lt-ltb, le-ltb}
 use denote.Enum.Declared.{tagOf}
 use mir.Syntax.{w64}
 use mir.Val.{toZ}
@@ -30,7 +30,12 @@ use Rattle.residues.specs.declared.Reduced.the-variants.{Done, Breach, Running}
 use Rattle.waits.proofs.Step.{the-type}
 use Rattle.residues.proofs.Few.{reduce-few, outcome-few, answer-few}
 use Rattle.walk.proofs.Trees.{tree-only}
-use Rattle.reduction.specs.Steps.{mainReduced, UnitsDue, DueBy, Due, reducedBy, reduced, Advances, Tried}
+use Rattle.reduction.specs.Steps.{mainReduced, UnitsDue, DueBy, Due, reducedBy, reduced, Advances, NoRoom}
+use Rattle.reduction.specs.Steps.{Tried}
+use Rattle.reduction.specs.declared.Advanced.{Advanced}
+use Rattle.reduction.specs.declared.Advanced.the-variants.{TooMany, Wrote}
+use Rattle.reduction.specs.declared.Attempt.{Attempt}
+use Rattle.reduction.specs.declared.Attempt.the-variants.{Short, Wrote as Settled}
 
 -- a time's cell
 pub time-cell : {t : ℕ} → t < 4_294_967_296 → (toZ w64 t ≡ pos (natOf (toZ w64 t))) × (natOf (toZ w64 t) ≡ t)
@@ -69,7 +74,7 @@ module _ (r : Reduced) (out : List ℤ) (x : cells.Reduced) (i : Is x r out) (no
   unfolding keptCells
   kept-few settles h = rw (
     le-ltb 128 (unitsIn x) (omega (arith, units-counted out x r i)),
-    settles .wrote (settles .fits ∙ le-leb (unitsOf r) 128 h) x i,
+    settles .wrote x i,
   ) refl
 
 -- ---- what an event makes of the main clause or of units
@@ -131,37 +136,42 @@ module _ {s places sights : List ℕ} {us : List ℤ} {n : ℕ} {e : Event} {rs 
       reduced-few = bits-few (e .step) (d .units) i
 
       pub tried-none : {room : List ℤ} {u : ℕ} → length room ≡ length out → u ≡ unitsOf r → length out < 24 * u
-          → Tried s sights us n e rs room us u
+          → NoRoom s sights us n e rs room us u
       tried-none same eu h = record {
         count = eu ∙ units-counted out (reduced s sights us n e rs) r i;
-        fits = λ k. absurd (omega arith);
-        kept = λ k. refl;
+        short = omega arith;
+        kept = refl;
       }
 
-      pub tried-room : {room : List ℤ} {u t : ℕ} {left : List ℤ} {q : Bool} → length room ≡ length out
-          → u ≡ unitsOf r → 24 * u ≤ length out → length out ≤ 3072 → t ≡ e .time → Settles t n r out us left q
-          → Tried s sights us n e rs room left u
-      tried-room {left = left} same eu h l et settles = record {
-        count = eu ∙ units-counted out (reduced s sights us n e rs) r i;
-        fits = λ k. record {
-          is = subst (λ t. answer 0 left ≡ keptCells t n us (reduced s sights us n e rs)) et
-              (kept-few r out (reduced s sights us n e rs) i _ n us settles (omega (arith, eu)));
-        };
-        kept = λ k. absurd (omega arith);
+      pub tried-room : {t : ℕ} {left : List ℤ} {q : Bool} → unitsOf r ≤ 128 → t ≡ e .time
+          → Settles t n r out us left q → Advances s sights us n e rs left (Wrote q)
+      tried-room {left = left} few et settles = record {
+        is = subst (λ t. answer 0 left ≡ keptCells t n us (reduced s sights us n e rs)) et
+            (kept-few r out (reduced s sights us n e rs) i _ n us settles few);
+        told = settles .told (reduced s sights us n e rs) i;
       }
+
+-- ---- by what a try said
+module _ (s sights : List ℕ) (us : List ℤ) (n : ℕ) (e : Event) (rs room left : List ℤ) (a : Attempt)
+    (t : Tried s sights us n e rs room left a) where
+  pub is-short : {u : ℕ} → a ≡ Short u → NoRoom s sights us n e rs room left u
+  is-short q = rw q at t
+
+  pub is-settled : {b : Bool} → a ≡ Settled b → Advances s sights us n e rs left (Wrote b)
+  is-settled q = rw q at t
 
 -- ---- one room after another
 module _ {s sights : List ℕ} {us : List ℤ} {n : ℕ} {e : Event} {rs room left : List ℤ} {u : ℕ}
-    (t : Tried s sights us n e rs room left u) where
-  pub tried-over : length room ≤ 3072 → 128 < u → Advances s sights us n e rs left false
-  tried-over l h = record {
-    is = ap (answer 11) (t .kept (omega arith)) ∙ kept-over (reduced s sights us n e rs) (e .time) n us (t .count) h;
+    (t : NoRoom s sights us n e rs room left u) where
+  pub tried-over : 128 < u → Advances s sights us n e rs left TooMany
+  tried-over h = record {
+    is = ap (answer 11) (t .kept) ∙ kept-over (reduced s sights us n e rs) (e .time) n us (t .count) h;
+    told = tt;
   }
 
-  module _ (h : length room < 24 * u) where
-    pub due-again : {places : List ℕ} → Due s places sights us n e rs → Due s places sights left n e rs
-    due-again {places = places} d = subst (λ a. Due s places sights a n e rs) (sym (t .kept h)) d
+  pub due-again : {places : List ℕ} → Due s places sights us n e rs → Due s places sights left n e rs
+  due-again {places = places} d = subst (λ a. Due s places sights a n e rs) (sym (t .kept)) d
 
-    pub advances-again : {last : List ℤ} {fits : Bool} → Advances s sights left n e rs last fits
-        → Advances s sights us n e rs last fits
-    advances-again {last = last} {fits = fits} a = subst (λ a. Advances s sights a n e rs last fits) (t .kept h) a
+  pub advances-again : {last : List ℤ} {r : Advanced} → Advances s sights left n e rs last r
+      → Advances s sights us n e rs last r
+  advances-again {last = last} {r = r} a = subst (λ a. Advances s sights a n e rs last r) (t .kept) a

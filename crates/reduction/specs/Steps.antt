@@ -1,6 +1,6 @@
 -- A step by the rules on cells: what it asks, and what it makes of the main clause or of a table's units.
 use mathlib.Core.Path.{_≡_}
-use mathlib.Core.Bool.{Bool, true, false}
+use mathlib.Core.Bool.{Bool}
 use mathlib.Core.List.{List, [], _∷_}
 use Prim.Native.Nat.{ℕ, _*_, _≤_, _<_, min}
 use lib.IntN.{ℤ}
@@ -11,10 +11,15 @@ use Rattle.csl.specs.Entries.{Answer}
 use Rattle.records.specs.Index.{Indexed}
 use Rattle.cells.specs.Reduce as cells
 use Rattle.cells.specs.Across.{across}
+use Rattle.cells.specs.Tables.{alters}
 use Rattle.bridge.proofs.Tables.{unitsIn}
 use Rattle.bridge.proofs.Entries.{keptCells}
 use Rattle.waits.specs.Fates.{modeAt}
 use Rattle.walk.specs.Tree.{Tree, treeReduced}
+use Rattle.reduction.specs.declared.Advanced.{Advanced}
+use Rattle.reduction.specs.declared.Advanced.the-variants.{TooMany, Wrote}
+use Rattle.reduction.specs.declared.Attempt.{Attempt}
+use Rattle.reduction.specs.declared.Attempt.the-variants.{Short, Wrote as Settled}
 use Rattle.waits.specs.declared.Event.{Event}
 use Rattle.waits.specs.declared.Step.{Step}
 use Rattle.waits.specs.declared.Step.the-variants.{Activate, Forecast, Follow}
@@ -58,18 +63,27 @@ unfoldable pub reduced : List ℕ → List ℕ → List ℤ → ℕ → Event �
 reduced s sights us n e rs = reducedBy (e .step) (mainReduced s) (treeReduced (modeAt e rs) s n sights (drop 8 us))
 
 -- "over 128 units it is 11 and nothing changes, otherwise 0"
-abbrev pub advanced : Bool → List ℤ → Answer
-advanced true left = record { number = 0; table = left }
-advanced false left = record { number = 11; table = left }
+abbrev pub advanced : Advanced → List ℤ → Answer
+advanced TooMany left = record { number = 11; table = left }
+advanced (Wrote altered) left = record { number = 0; table = left }
 
-pub record Advances (s sights : List ℕ) (us : List ℤ) (n : ℕ) (e : Event) (rs left : List ℤ) (fits : Bool)
+-- what is said of a written table: whether a unit or the state altered
+abbrev pub SaysAltered : Advanced → Bool → Type 0
+SaysAltered TooMany b = Unit {0}
+SaysAltered (Wrote altered) b = altered ≡ b
+
+pub record Advances (s sights : List ℕ) (us : List ℤ) (n : ℕ) (e : Event) (rs left : List ℤ) (r : Advanced)
     : Type 0 where
-  pub is : advanced fits left ≡ keptCells (e .time) n us (reduced s sights us n e rs)
+  pub is : advanced r left ≡ keptCells (e .time) n us (reduced s sights us n e rs)
+  pub told : SaysAltered r (alters n us (reduced s sights us n e rs))
 
--- what comes of it needs so many units, counted up to 129: where `room` has cells for them, the table is written, else
--- not
-pub record Tried (s sights : List ℕ) (us : List ℤ) (n : ℕ) (e : Event) (rs room left : List ℤ) (units : ℕ)
+-- what comes of it needs so many units, counted up to 129, for which `room` has no cells
+pub record NoRoom (s sights : List ℕ) (us : List ℤ) (n : ℕ) (e : Event) (rs room left : List ℤ) (units : ℕ)
     : Type 0 where
   pub count : units ≡ min (unitsIn (reduced s sights us n e rs)) 129
-  pub fits : 24 * units ≤ length room → Advances s sights us n e rs left true
-  pub kept : length room < 24 * units → left ≡ us
+  pub short : length room < 24 * units
+  pub kept : left ≡ us
+
+abbrev pub Tried : List ℕ → List ℕ → List ℤ → ℕ → Event → List ℤ → List ℤ → List ℤ → Attempt → Type 0
+Tried s sights us n e rs room left (Short units) = NoRoom s sights us n e rs room left units
+Tried s sights us n e rs room left (Settled altered) = Advances s sights us n e rs left (Wrote altered)

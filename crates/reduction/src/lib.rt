@@ -31,6 +31,20 @@ const FEW_UNITS: usize = 16;
 // That room.
 const FEW_ROOM: usize = FEW_UNITS * UNIT_CELLS;
 
+// A try in some room: too short for so many units, counted up to 129; or written, and whether a unit or the state
+// altered.
+enum Attempt {
+    Short(usize),
+    Wrote(bool),
+}
+
+// Where a step leads: to more units than a table has; or to a table that is written, and whether a unit or the state
+// altered.
+pub enum Advanced {
+    TooMany,
+    Wrote { altered: bool },
+}
+
 // The main clause activated at the start time; a residue grows downward from the end of out.
 fn activate_main(agreement: &[u8], places: &[usize], out: &mut [i64]) -> Reduced
     requires { ⌜ Indexed (now places) (now agreement) × (length (now agreement) ≤ 16_384) × (length (now out) ≤ roomLength) ⌝ }
@@ -76,7 +90,7 @@ fn reduce(
     across(agreement, places, event, rs, sights, units, used, out)
 }
 
-// The table is written where `out` has room for the residue. The answer is the units that it needs, counted up to 129.
+// The table is written where `out` has room for the residue.
 fn reduce_into(
     agreement: &[u8],
     places: &[usize],
@@ -86,18 +100,18 @@ fn reduce_into(
     event: Event,
     rs: &[i64],
     out: &mut [i64],
-) -> usize
+) -> Attempt
     requires { ⌜ Due (now agreement) (now places) (now sights) (now table) used event (now rs) × (length (now out) ≤ roomLength) ⌝ }
-    ensures { λ n. ⌜ Tried (now (agreement .entry)) (now (sights .entry)) (now (table .entry)) used event (now (rs .entry))
-        (now (out .entry)) (now (table .exit)) n ⌝ }
+    ensures { λ r. ⌜ Tried (now (agreement .entry)) (now (sights .entry)) (now (table .entry)) used event (now (rs .entry))
+        (now (out .entry)) (now (table .exit)) r ⌝ }
 {
     let r = reduce(agreement, places, sights, table, used, event, rs, out);
     let units = units_of(r);
     if UNIT_CELLS * units > out.len() {
-        return units;
+        return Attempt::Short(units);
     }
-    settle(table, used, event.time as i64, r, out);
-    units
+    let altered = settle(table, used, event.time as i64, r, out);
+    Attempt::Wrote(altered)
 }
 
 // The same as `advance`, with room for as many units as a table has.
@@ -109,19 +123,18 @@ fn advance_widely(
     used: usize,
     event: Event,
     rs: &[i64],
-) -> bool
+) -> Advanced
     requires { ⌜ Due (now agreement) (now places) (now sights) (now table) used event (now rs) ⌝ }
-    ensures { λ fits. ⌜ Advances (now (agreement .entry)) (now (sights .entry)) (now (table .entry)) used event (now (rs .entry)) (now (table .exit)) fits ⌝ }
+    ensures { λ r. ⌜ Advances (now (agreement .entry)) (now (sights .entry)) (now (table .entry)) used event (now (rs .entry)) (now (table .exit)) r ⌝ }
 {
     let mut out = [0i64; ROOM];
-    let units = reduce_into(agreement, places, sights, table, used, event, rs, &mut out);
-    if units > MOST_UNITS {
-        return false;
+    match reduce_into(agreement, places, sights, table, used, event, rs, &mut out) {
+        Attempt::Short(_) => Advanced::TooMany,
+        Attempt::Wrote(altered) => Advanced::Wrote { altered },
     }
-    true
 }
 
-// Whether the table that an event leads to has few enough units; if so, it is written.
+// The table that an event leads to is written where it has few enough units.
 pub fn advance(
     agreement: &[u8],
     places: &[usize],
@@ -130,20 +143,21 @@ pub fn advance(
     used: usize,
     event: Event,
     rs: &[i64],
-) -> bool
+) -> Advanced
     requires { ⌜ Due (now agreement) (now places) (now sights) (now table) used event (now rs) ⌝ }
-    ensures { λ fits. ⌜ Advances (now (agreement .entry)) (now (sights .entry)) (now (table .entry)) used event (now (rs .entry)) (now (table .exit)) fits ⌝ }
+    ensures { λ r. ⌜ Advances (now (agreement .entry)) (now (sights .entry)) (now (table .entry)) used event (now (rs .entry)) (now (table .exit)) r ⌝ }
 {
     if used > FEW_UNITS {
         return advance_widely(agreement, places, sights, table, used, event, rs);
     }
     let mut out = [0i64; FEW_ROOM];
-    let units = reduce_into(agreement, places, sights, table, used, event, rs, &mut out);
-    if units > MOST_UNITS {
-        return false;
+    match reduce_into(agreement, places, sights, table, used, event, rs, &mut out) {
+        Attempt::Wrote(altered) => Advanced::Wrote { altered },
+        Attempt::Short(units) => {
+            if units > MOST_UNITS {
+                return Advanced::TooMany;
+            }
+            advance_widely(agreement, places, sights, table, used, event, rs)
+        }
     }
-    if units > FEW_UNITS {
-        return advance_widely(agreement, places, sights, table, used, event, rs);
-    }
-    true
 }

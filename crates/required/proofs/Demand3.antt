@@ -17,12 +17,13 @@ use Rattle.csl.specs.Run.{started, step}
 use Rattle.csl.specs.Table.{Run, tableOf, runOf}
 use Rattle.csl.specs.Entries.{startOf}
 use Rattle.csl.specs.Demand3.{Bytes, AllBytes, fitting, reached, needed, NotStuck, IsBreach, Unaltered, runAfter}
-use Rattle.csl.specs.Demand3.{numbersBy}
+use Rattle.csl.specs.Demand3.{marksBy, numbersBy}
 use Rattle.csl.specs.Marks.{timeIn}
 use Rattle.monitor.specs.declared.Started.{Started}
 use Rattle.monitor.specs.declared.Started.the-variants.{Begun}
 use Rattle.monitor.specs.Answers.{startAnswer}
-use Rattle.monitor.specs.Calls.{Call, Calls, lastTable, readingsIn, numberIn, numbersIn}
+use Rattle.monitor.specs.Calls.{Call, Calls, lastTable, readingsIn, numberIn, numbersIn, earlyIn, marksIn}
+use Rattle.monitor.specs.Early.{TooEarly}
 use Rattle.monitor.specs.Demand3.{Demand3, Begins, Upheld, runBy}
 use Rattle.monitor.proofs.Demand3.{demand3, begins}
 
@@ -109,6 +110,14 @@ module _ (s : List ℕ) (lent : List ℤ) (a : Agreement) (mains : List ℕ) (r 
         → at (one .left) 5 ≡ some (pos (timeIn (one .bytes)))
     unfolding Unaltered
     moved-moves = claim .moves before one later split
+
+    -- paper 02, No. 8
+    came-early : (earlyIn one ≡ 1) ↔ TooEarly a (ran a before) (lastTable us before) one
+    unfolding runBy
+    came-early = claim .early before one later split
+
+  marks : marksIn calls ≡ marksBy a ((started a) .run) (readingsIn calls)
+  marks = claim .marks
 
   moved-first : at us 5 ≡ some (pos (a .start))
   moved-first = claim .movedFirst

@@ -2,6 +2,7 @@ pub mod Trials
 pub mod Contracts
 pub mod Demand3
 pub mod Forecast
+pub mod Early
 pub mod Monitors
 pub mod Rules
 pub mod Quotients

@@ -7,7 +7,7 @@ use lib.IntN.{ℤ, pos}
 use lib.ListN.{getD, set}
 use Rattle.csl.specs.Bytes.{le32}
 use Rattle.csl.specs.Check.{CheckAnswer, checkOf}
-use Rattle.csl.specs.Entries.{Answer, Forecast, forecastOf, readingOf, refusedForecast, startOf}
+use Rattle.csl.specs.Entries.{Answer, ReadingAnswer, Forecast, forecastOf, readingOf, refusedForecast, startOf}
 use Rattle.monitor.specs.declared.Checked.{Checked}
 use Rattle.monitor.specs.declared.Started.{Started}
 use Rattle.monitor.specs.declared.Taken.{Taken}
@@ -20,7 +20,7 @@ use Rattle.monitor.proofs.WrongMonitors.{live-always, table-left-alone, works-a
 
 module _ (check : List ℕ → CheckAnswer) (checks : (s : List ℕ) → check s ≡ checkOf s)
     (start : List ℕ → List ℤ → Answer) (starts : (s : List ℕ) (us : List ℤ) → start s us ≡ startOf s us)
-    (reading : List ℕ → List ℤ → List ℕ → Answer)
+    (reading : List ℕ → List ℤ → List ℕ → ReadingAnswer)
     (reads : (s : List ℕ) (us : List ℤ) (r : List ℕ) → reading s us r ≡ readingOf s us r)
     (forecast : List ℕ → List ℤ → Forecast)
     (foretells : (s : List ℕ) (us : List ℤ) → forecast s us ≡ forecastOf s us) where
@@ -32,7 +32,7 @@ module _ (check : List ℕ → CheckAnswer) (checks : (s : List ℕ) → check s
   refusing-all = refuses-all check checks start starts reading reads forecast foretells
 
 module _ (start : List ℕ → List ℤ → Answer) (starts : (s : List ℕ) (us : List ℤ) → start s us ≡ startOf s us)
-    (reading : List ℕ → List ℤ → List ℕ → Answer)
+    (reading : List ℕ → List ℤ → List ℕ → ReadingAnswer)
     (reads : (s : List ℕ) (us : List ℤ) (r : List ℕ) → reading s us r ≡ readingOf s us r) where
   saying-eleven :
       (((s : List ℕ) (us : List ℤ) → (startOf s us) .number ≡ 0 → (start s us) .number ≡ 11) → ⊥)
@@ -44,7 +44,7 @@ module _ (start : List ℕ → List ℤ → Answer) (starts : (s : List ℕ) (us
   inventing : (n : ℕ) → ((s : List ℕ) (us : List ℤ) → getD ((start s us) .table) 4 (pos 0) ≡ pos n) → ⊥
   inventing = invented-units start starts
 
-module _ (reading : List ℕ → List ℤ → List ℕ → Answer)
+module _ (reading : List ℕ → List ℤ → List ℕ → ReadingAnswer)
     (reads : (s : List ℕ) (us : List ℤ) (r : List ℕ) → reading s us r ≡ readingOf s us r) where
   live : ((s : List ℕ) (us : List ℤ) (r : List ℕ) → getD ((reading s us r) .table) 0 (pos 0) ≡ pos 1) → ⊥
   live = live-always reading reads

@@ -19,7 +19,7 @@ use Rattle.arith.proofs.Lists.{tail-put}
 use Rattle.arith.proofs.Ints.{read! }
 use Rattle.csl.specs.Run.{sameNumbers}
 use Rattle.csl.specs.Table.{padded}
-use Rattle.settling.specs.Settles.{goneOn}
+use Rattle.settling.specs.Settles.{goneOn, otherUnits}
 use Rattle.laws.proofs.Bools.{T→true, by-test, true-not-false, true→T}
 use Rattle.laws.proofs.Sameness.{same-append, same-are, same-not, same-self}
 
@@ -134,22 +134,17 @@ module _ (n : ℕ) (residue t : List ℤ) (long : length t ≡ 3080) (size : len
 
 -- ---- when the run last moved
 -- other units in use have altered, whatever their cells
-pub moved-is : (n used : ℕ) (residue t : List ℤ) → length t ≡ 3080 → length residue ≡ 24 * n → used ≤ 128
-    → {altered : Bool}
-    → altered ≡ alteredIn (not (eqb n used)) residue (take (24 * n) (drop 8 t)) → (time z : ℤ)
-    → cond altered time z ≡ cond (sameNumbers residue (take (24 * used) (drop 8 t))) z time
-moved-is n used residue t long size few {altered = altered} e time z = by-test (eqb n used)
+pub altered-is : (n used : ℕ) (residue t : List ℤ) → length t ≡ 3080 → length residue ≡ 24 * n → used ≤ 128
+    → {altered : Bool} → altered ≡ alteredIn (not (eqb n used)) residue (take (24 * n) (drop 8 t))
+    → altered ≡ otherUnits used residue t
+unfolding otherUnits
+altered-is n used residue t long size few e = by-test (eqb n used)
     (λ q. let same : n ≡ used = eqb→eq n used (true→T q) in
-    ap (λ b. cond b time z) (e ∙ ap (λ b. alteredIn (not b) residue (take (24 * n) (drop 8 t))) q
+    e ∙ ap (λ b. alteredIn (not b) residue (take (24 * n) (drop 8 t))) q
     ∙ ap (λ k. not (sameNumbers residue (take (24 * k) (drop 8 t)))) same)
-    ∙ turned (sameNumbers residue (take (24 * used) (drop 8 t))))
-    (λ q. ap (λ b. cond b time z) (e ∙ ap (λ b. alteredIn (not b) residue (take (24 * n) (drop 8 t))) q)
-    ∙ ap (λ b. cond b z time) (sym (same-not residue (take (24 * used) (drop 8 t)) (λ r. other q r))))
+    (λ q. e ∙ ap (λ b. alteredIn (not b) residue (take (24 * n) (drop 8 t))) q
+    ∙ ap not (sym (same-not residue (take (24 * used) (drop 8 t)) (λ r. other q r))))
   where
-    turned : (b : Bool) → cond (not b) time z ≡ cond b z time
-    turned true = refl
-    turned false = refl
-
     other : eqb n used ≡ false → residue ≡ take (24 * used) (drop 8 t) → ⊥
     other q r =
         let l : 24 * n ≡ 24 * used = sym size ∙ ap length r
@@ -181,16 +176,20 @@ module _ (used n : ℕ) (residue t : List ℤ) (long : length t ≡ 3080) (size 
       ) in
       zeros ∙ ap (λ k. replicate k (pos 0)) m
 
-  -- z is `time` as the program reads it
-  pub gone-on : {time z moved cell : ℤ} {altered : Bool} {left : List ℤ} → z ≡ time
-      → altered ≡ alteredIn (not (eqb n used)) residue (take (24 * n) (take (length t - 8) (drop 8 t)))
-      → moved ≡ cond altered z (getD two 5 (pos 0)) → cell ≡ pos n
-      → left ≡ (pos 1 ∷ time ∷ pos 0 ∷ pos 0 ∷ cell ∷ moved ∷ pos 0 ∷ pos 0 ∷ []) ++ drop 8 two
-      → left ≡ goneOn time used n residue t
-  unfolding goneOn padded
-  gone-on {time = time} {altered = altered} r a m c e =
-      let behind = take-all (length t - 8) (drop 8 t) (rw (length-drop 8 t) (omega arith)) in
-      let moved-too = m ∙ ap₂ (cond altered) r (whole-moved n residue t long size few u v put cleared)
-      ∙ moved-is n used residue t long size few′ (rw behind at a) time (getD t 5 (pos 0)) in
-      let rest : 3072 - 24 * n ≡ 3080 - length (replicate 8 (pos 0) ++ residue) = omega arith in
-      rw (c, moved-too, whole-units n residue t long size few u v put cleared, rest) at e
+  module _ {altered : Bool} (a : altered ≡ alteredIn (not (eqb n used)) residue
+      (take (24 * n) (take (length t - 8) (drop 8 t)))) where
+    pub gone-altered : altered ≡ otherUnits used residue t
+    gone-altered = altered-is n used residue t long size few′
+        (rw (take-all (length t - 8) (drop 8 t) (rw (length-drop 8 t) (omega arith))) at a)
+
+    -- z is `time` as the program reads it
+    pub gone-on : {time z moved cell : ℤ} {left : List ℤ} → z ≡ time
+        → moved ≡ cond altered z (getD two 5 (pos 0)) → cell ≡ pos n
+        → left ≡ (pos 1 ∷ time ∷ pos 0 ∷ pos 0 ∷ cell ∷ moved ∷ pos 0 ∷ pos 0 ∷ []) ++ drop 8 two
+        → left ≡ goneOn time used n residue t
+    unfolding goneOn padded
+    gone-on {time = time} r m c e =
+        let moved-too = m ∙ ap₂ (cond altered) r (whole-moved n residue t long size few u v put cleared)
+        ∙ ap (λ b. cond b time (getD t 5 (pos 0))) gone-altered in
+        let rest : 3072 - 24 * n ≡ 3080 - length (replicate 8 (pos 0) ++ residue) = omega arith in
+        rw (c, moved-too, whole-units n residue t long size few u v put cleared, rest) at e

@@ -8,11 +8,10 @@ ghost use lib.ListN.{length, drop, getD, take};
 ghost use Rattle.csl.specs.Run.{sameNumbers};
 ghost use Rattle.csl.specs.Table.{padded};
 ghost use Rattle.cells.specs.Across.{natOf};
-ghost use Rattle.settling.specs.Settles.{Settles, Whole, goneOn};
+ghost use Rattle.settling.specs.Settles.{Settles, Whole, goneOn, otherUnits};
 ghost use Rattle.residues.specs.Reduces.{bitsIn};
 use cells::HEAD_CELLS;
 use cells::LAST_MOVED;
-use cells::MOST_UNITS;
 use cells::UNIT_CELLS;
 use residues::Reduced;
 use residues::copy;
@@ -90,10 +89,11 @@ fn last_moved(table: &[i64], time: i64, altered: bool) -> i64
 }
 
 // The table of a run that goes on with a residue's n units where so many were in use. It has moved unless they are the
-// same; other units in use have altered without looking further.
-fn go_on(table: &mut [i64], used: usize, time: i64, residue: &[i64], n: usize)
+// same, which the answer says; other units in use have altered without looking further.
+fn go_on(table: &mut [i64], used: usize, time: i64, residue: &[i64], n: usize) -> bool
     requires { ⌜ (length (now table) ≡ 3080) × (length (now residue) ≡ 24 * n) × (n ≤ 128) × (used ≤ 128) ⌝ }
-    ensures { λ _. ⌜ now (table .exit) ≡ goneOn time used n (now (residue .entry)) (now (table .entry)) ⌝ }
+    ensures { λ r. ⌜ (now (table .exit) ≡ goneOn time used n (now (residue .entry)) (now (table .entry)))
+        × (r ≡ otherUnits used (now (residue .entry)) (now (table .entry))) ⌝ }
 {
     let altered = put_units(&mut table[HEAD_CELLS..], residue, n, n != used);
     let none = [0i64; 1];
@@ -102,13 +102,14 @@ fn go_on(table: &mut [i64], used: usize, time: i64, residue: &[i64], n: usize)
     let units = n as i64;
     let head = [1, time, 0, 0, units, moved, 0, 0];
     copy(table, &head);
+    altered
 }
 
-// Writes the table of a run at `time`, whose residue stands whole at the end of `out`, unless it has more than 128
-// units; `used` were in use before.
+// Writes the table of a run at `time`, whose residue stands whole at the end of `out`; `used` units were in use before.
+// The answer is whether a unit or the state has altered.
 pub fn settle(table: &mut [i64], used: usize, time: i64, r: Reduced, out: &[i64]) -> bool
     requires { ⌜ (length (now table) ≡ 3080) × (used ≤ 128) × Whole r (now out) × (time ≡ pos (natOf time)) × (bitsIn r < 65_536) ⌝ }
-    ensures { λ settled. ⌜ Settles (natOf time) used r (now (out .entry)) (now (table .entry)) (now (table .exit)) settled ⌝ }
+    ensures { λ altered. ⌜ Settles (natOf time) used r (now (out .entry)) (now (table .entry)) (now (table .exit)) altered ⌝ }
 {
     match r {
         Reduced::Done => {
@@ -120,12 +121,8 @@ pub fn settle(table: &mut [i64], used: usize, time: i64, r: Reduced, out: &[i64]
             true
         }
         Reduced::Running(n) => {
-            if n > MOST_UNITS {
-                return false;
-            }
             let from = out.len() - UNIT_CELLS * n;
-            go_on(table, used, time, &out[from..], n);
-            true
+            go_on(table, used, time, &out[from..], n)
         }
     }
 }

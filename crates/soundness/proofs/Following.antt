@@ -1,8 +1,8 @@
 -- Following a reading keeps residues good.
-use mathlib.Core.Bool.{_&&_, Bool, false, not, true}
+use mathlib.Core.Bool.{Bool, false, not, true}
 use mathlib.Core.List.{_++_, List, [], _∷_}
 use mathlib.Core.Logic.{inl, inr, _⊎_}
-use mathlib.Core.Option.{Option, some}
+use mathlib.Core.Option.{some}
 use mathlib.Core.Path.{ap, refl, subst, sym, _∙_, _≡_}
 use Prim.Native.Nat.{ℕ, _≤_}
 use native.Mathlib.Omega.{arith}
@@ -16,16 +16,16 @@ use Rattle.csl.specs.Syntax.{Agreement, Clause, Ty, Wait, choice, number, oblig
 use Rattle.csl.specs.Typing.{blameOk, hasType, namesOf, readingOfType, thenSight, typeClause, typeWait}
 use Rattle.csl.specs.Values.{evalBool, evalNum, who}
 use Rattle.csl.specs.Outcomes.{Outcome, Residue, Sight, both, breach, joined, orStuck, unit}
-use Rattle.csl.specs.Rules.{Reading, Step, activate, activating, blamed, during, following, late, taken, wants}
+use Rattle.csl.specs.Rules.{Reading, Step, activate, activating, blamed, during, following, taken}
 use Rattle.csl.specs.Rules.{window, withValues, across, follow}
 use Rattle.csl.specs.Places.{clauseAt}
 use Rattle.csl.specs.Table.{standFor, standsFor}
-use Rattle.laws.proofs.Bools.{both-true}
+use Rattle.laws.proofs.Bools.{true→T}
 use Rattle.laws.proofs.Options.{from-bind, from-need, some-bind, some-inj}
 use Rattle.laws.proofs.Integers.{later-from}
 use Rattle.soundness.proofs.Members.{In, Sub, in-left, in-right, stand-sub}
 use Rattle.soundness.proofs.Evaluation.{HasTy, HaveTy, HaveTy-++}
-use Rattle.soundness.proofs.Times.{later-to, remaining-range}
+use Rattle.soundness.proofs.Times.{by-timing, later-to, remaining-range}
 use Rattle.soundness.proofs.Good.{Good, Ok, Placed, SightOk, good-sub, joined-good}
 use Rattle.soundness.proofs.Walks.{Fair, StepGood, blamed-ok, bool-typed, good-bind, num-typed}
 use Rattle.soundness.proofs.Activation.{activate-good, activating-good, during-good, heads-declared}
@@ -88,18 +88,17 @@ module _ (ag : Agreement) (mains : List ℕ) (fair : Fair ag mains) (r : Reading
   abbrev W : ℕ → Type 0
   W t = (ag .start ≤ t) × (t ≤ r .time)
 
-  -- 2 and 3
+  -- 2 and 3, in an open window
   taken-good : (n : ℕ) (env : List Ty) (e : Sight) (w : Wait) (vs : List Ty) (x y : ℤ) (t : Clause) (ps P : List ℕ)
       (o : Outcome) (u₁ : Unit {0})
       → SightOk ag n env e → readingOfType (ag .readings) (w .wanted) ≡ some vs
       → hasType (ag .parties) (env ++ vs) (w .condition) truth ≡ some u₁
-      → T (inRange y) → T (not (ltZ (x +ℤ y) (pos (r .time))))
+      → T (inRange y) → T (not (ltZ (x +ℤ y) (pos (r .time)))) → T (not (ltZ (pos (r .time)) x))
       → typeClause (namesOf ag n) (thenSight env vs) t ≡ some ps → Placed ag n (thenSight env vs) t
       → Sub (standFor (e .params) ps) P → ag .start ≤ r .time → Good ag W P o
       → Good ag W P (taken (ag .templates) r e w (record { first = x; last = x +ℤ y }) t o)
-  unfolding taken wants orStuck withValues thenSight HaveTy HasTy ReadingOk
-  taken-good n env e w vs x y t ps P o u₁ ok rt tc ry nl ty pl sub st g = wanted
-      (eqb (w .wanted) (r .type) && not (ltZ (pos (r .time)) x)) refl
+  unfolding taken orStuck withValues thenSight HaveTy HasTy ReadingOk
+  taken-good n env e w vs x y t ps P o u₁ ok rt tc ry nl ne ty pl sub st g = wanted (eqb (w .wanted) (r .type)) refl
     where
       vals : T (eqb (w .wanted) (r .type)) → HaveTy (ag .parties) (env ++ vs) (e .values ++ r .values)
       vals h = HaveTy-++ (ag .parties) env vs (e .values) (r .values) (ok .values)
@@ -108,8 +107,8 @@ module _ (ag : Agreement) (mains : List ℕ) (fair : Fair ag mains) (r : Reading
       act : Outcome
       act = activate (ag .templates) t (withValues e (r .values) ((x +ℤ y) -ℤ pos (r .time))) (r .time)
 
-      held : T (eqb (w .wanted) (r .type)) → T (not (ltZ (pos (r .time)) x)) → Good ag W P act
-      held h k = good-sub ag W (standFor (e .params) ps) P act sub
+      held : T (eqb (w .wanted) (r .type)) → Good ag W P act
+      held h = good-sub ag W (standFor (e .params) ps) P act sub
           (activate-good ag mains fair W t n (thenSight env vs) (withValues e (r .values) ((x +ℤ y) -ℤ pos (r .time)))
           (r .time) ps
           (record {
@@ -117,35 +116,30 @@ module _ (ag : Agreement) (mains : List ℕ) (fair : Fair ag mains) (r : Reading
             fewParams = ok .fewParams;
             range = ok .range;
             values = HaveTy-++ (ag .parties) (env ++ vs) (number ∷ []) (e .values ++ r .values) _ (vals h)
-                (remaining-range x y (r .time) k nl ry, tt);
+                (remaining-range x y (r .time) ne nl ry, tt);
           }) (st, omega arith) ty pl)
 
-      choose : (b : Bool) → T (eqb (w .wanted) (r .type)) → T (not (ltZ (pos (r .time)) x))
+      choose : (b : Bool) → T (eqb (w .wanted) (r .type))
           → Good ag W P (orStuck (elim b [ false ↦ some o | true ↦ some act ]))
-      choose true h k = held h k
-      choose false h k = g
+      choose true h = held h
+      choose false h = g
 
-      wanted : (b : Bool) → (eqb (w .wanted) (r .type) && not (ltZ (pos (r .time)) x)) ≡ b
+      wanted : (b : Bool) → eqb (w .wanted) (r .type) ≡ b
           → Good ag W P (elim b [
             | false ↦ o
             | true ↦ orStuck
                 (evalBool (e .values ++ r .values) (w .condition) >>= λ b. elim b [ false ↦ some o | true ↦ some act ])
           ])
       wanted false q = g
-      wanted true q = both-true (eqb (w .wanted) (r .type)) (not (ltZ (pos (r .time)) x)) (subst T (sym q) tt) λ h k.
+      wanted true q = let h = true→T q in
           bool-typed (ag .parties) (env ++ vs) (e .values ++ r .values) (vals h) (w .condition) u₁ tc λ b eb.
           good-bind ag (fair .few) (heads-declared ag mains fair) W P
-          (evalBool (e .values ++ r .values) (w .condition)) _ b eb (choose b h k)
+          (evalBool (e .values ++ r .values) (w .condition)) _ b eb (choose b h)
 
   pub orNil-is : (w : Wait) (vs env : List Ty) → readingOfType (ag .readings) (w .wanted) ≡ some vs
       → thenSight env (orNil (readingOfType (ag .readings) (w .wanted))) ≡ thenSight env vs
   unfolding orNil
   orNil-is w vs env e = rw e refl
-
-  by-test : (P : List ℕ) (b : Bool) (X Y : Option Outcome) → (T b → Good ag W P (orStuck X))
-      → (T (not b) → Good ag W P (orStuck Y)) → Good ag W P (orStuck (elim b [ true ↦ X | false ↦ Y ]))
-  by-test P true X Y f g = f tt
-  by-test P false X Y f g = g tt
 
   tail-sub : (params : List ℕ) (b : ℕ) (ps bs : List ℕ) → b ∷ ps ≡ bs → Sub (standFor params ps) (standFor params bs)
   unfolding Sub In standFor
@@ -155,7 +149,7 @@ module _ (ag : Agreement) (mains : List ℕ) (fair : Fair ag mains) (r : Reading
       → SightOk ag n env e → W a → typeClause (namesOf ag n) env (obligation b w t) ≡ some bs
       → Placed ag n env (obligation b w t) → Good ag W (standFor (e .params) bs)
       ((following (ag .templates) r) .onObligation e a b w t)
-  unfolding following orStuck late typeClause Placed activating
+  unfolding following orStuck typeClause Placed activating
   following-obligation n env b w t e a bs ok wa ty pl =
       from-need (blameOk (namesOf ag n) b) _ bs ty λ bo q₁.
       from-bind (typeWait (namesOf ag n) env w) _ bs q₁ λ vs tw q₂.
@@ -165,7 +159,7 @@ module _ (ag : Agreement) (mains : List ℕ) (fair : Fair ag mains) (r : Reading
       num-typed (ag .parties) env (e .values) (ok .values) (w .within) u₃ ti λ y ey ry.
       good-bind ag (fair .few) (heads-declared ag mains fair) W (standFor (e .params) bs) (window e a w) _
       (record { first = pos a +ℤ x; last = (pos a +ℤ x) +ℤ y }) (window-is e a w x y ex ey)
-      (by-test (standFor (e .params) bs) (ltZ ((pos a +ℤ x) +ℤ y) (pos (r .time))) _ _
+      (by-timing (λ o. Good ag W (standFor (e .params) bs) (orStuck o)) _ (r .time) _ _ _
       (λ late-now. blamed-ok ag n env e ok (fair .few) b bo λ who eq st lt.
       good-bind ag (fair .few) (heads-declared ag mains fair) W (standFor (e .params) bs) (blamed (e .params) b) _ who
       eq
@@ -173,9 +167,10 @@ module _ (ag : Agreement) (mains : List ℕ) (fair : Fair ag mains) (r : Reading
         omega (arith, later-from a ((pos a +ℤ x) +ℤ y), wa .0),
         later-to a (r .time) ((pos a +ℤ x) +ℤ y) (wa .1) late-now,
       )))
-      (λ not-late. taken-good n env e w vs (pos a +ℤ x) y t ps (standFor (e .params) bs) _ u₁ ok rt tc ry not-late p
-      (subst (λ z. Placed ag n z t) (orNil-is w vs env rt) (pl .1)) (tail-sub (e .params) b ps bs (some-inj q₃))
-      (omega (arith, wa .0, wa .1))
+      (λ _ _. activating-good ag mains fair W .obligation n env b w t e a bs ok wa ty pl)
+      (λ not-late begun. taken-good n env e w vs (pos a +ℤ x) y t ps (standFor (e .params) bs) _ u₁ ok rt tc ry not-late
+      begun p (subst (λ z. Placed ag n z t) (orNil-is w vs env rt) (pl .1))
+      (tail-sub (e .params) b ps bs (some-inj q₃)) (omega (arith, wa .0, wa .1))
       (activating-good ag mains fair W .obligation n env b w t e a bs ok wa ty pl)))
 
   following-choice : (n : ℕ) (env : List Ty) (w : Wait) (t f : Clause) (e : Sight) (a : ℕ) (bs : List ℕ)
@@ -184,7 +179,7 @@ module _ (ag : Agreement) (mains : List ℕ) (fair : Fair ag mains) (r : Reading
       → ((qs : List ℕ) (u : ℕ) → typeClause (namesOf ag n) env f ≡ some qs → W u
       → Good ag W (standFor (e .params) qs) (g u))
       → Good ag W (standFor (e .params) bs) ((following (ag .templates) r) .onChoice e a w t g)
-  unfolding following orStuck late typeClause Placed activating Sub
+  unfolding following orStuck typeClause Placed activating Sub
   following-choice n env w t f e a bs g ok wa ty pl h =
       from-bind (typeWait (namesOf ag n) env w) _ bs ty λ vs tw q₂.
       from-bind (typeClause (namesOf ag n) (thenSight env vs) t) _ bs q₂ λ ps p q₃.
@@ -194,7 +189,7 @@ module _ (ag : Agreement) (mains : List ℕ) (fair : Fair ag mains) (r : Reading
       num-typed (ag .parties) env (e .values) (ok .values) (w .within) u₃ ti λ y ey ry.
       good-bind ag (fair .few) (heads-declared ag mains fair) W (standFor (e .params) bs) (window e a w) _
       (record { first = pos a +ℤ x; last = (pos a +ℤ x) +ℤ y }) (window-is e a w x y ex ey)
-      (by-test (standFor (e .params) bs) (ltZ ((pos a +ℤ x) +ℤ y) (pos (r .time))) _ _
+      (by-timing (λ o. Good ag W (standFor (e .params) bs) (orStuck o)) _ (r .time) _ _ _
       (λ late-now. good-sub ag W (standFor (e .params) qs) (standFor (e .params) bs)
       (g (laterOf a ((pos a +ℤ x) +ℤ y))) (stand-sub (e .params) qs bs
       (subst (λ l. Sub qs l) (some-inj q₄) (λ z k. in-right z ps qs k)))
@@ -202,8 +197,9 @@ module _ (ag : Agreement) (mains : List ℕ) (fair : Fair ag mains) (r : Reading
         omega (arith, later-from a ((pos a +ℤ x) +ℤ y), wa .0),
         later-to a (r .time) ((pos a +ℤ x) +ℤ y) (wa .1) late-now,
       )))
-      (λ not-late. taken-good n env e w vs (pos a +ℤ x) y t ps (standFor (e .params) bs) _ u₁ ok rt tc ry not-late p
-      (subst (λ z. Placed ag n z t) (orNil-is w vs env rt) (pl .1))
+      (λ _ _. activating-good ag mains fair W .choice n env w t f e a bs g ok wa ty pl h)
+      (λ not-late begun. taken-good n env e w vs (pos a +ℤ x) y t ps (standFor (e .params) bs) _ u₁ ok rt tc ry not-late
+      begun p (subst (λ z. Placed ag n z t) (orNil-is w vs env rt) (pl .1))
       (stand-sub (e .params) ps bs (subst (λ l. Sub ps l) (some-inj q₄) (λ z k. in-left z ps qs k)))
       (omega (arith, wa .0, wa .1))
       (activating-good ag mains fair W .choice n env w t f e a bs g ok wa ty pl h)))

@@ -1,16 +1,17 @@
 -- The forecast of a residue, paper 01, "Forecast": never stuck, of no time before its clauses are activated (`Coming`),
 -- blaming only the residue's parties (`forecast-good`, `forecast-ok`); and a mark is taken by no clause (`untaken`).
-use mathlib.Core.Bool.{_&&_, Bool, false, not, true}
+use mathlib.Core.Bool.{Bool, false, not, true}
 use mathlib.Core.List.{_++_, List, []}
 use mathlib.Core.Logic.{inl, inr, _≢_, _⊎_}
 use mathlib.Core.Option.{Option, none, some}
 use mathlib.Core.Path.{refl, subst, sym, _∙_, _≡_}
 use Prim.Native.Nat.{_<_, suc, zero, ℕ, _≤_}
 use native.Mathlib.Omega.{arith}
-use lib.Dec.{T, eqb, eqb→eq, ltb, ltb→lt, nltb→le}
+use lib.Dec.{T, eqb, ltb, ltb→lt, nltb→le}
 use lib.IntN.{_+ℤ_, negsuc, pos, ℤ}
 use lib.ListN.{length}
 use lib.Signed.{ltZ}
+use borrow.Author.Tests.{ne-eqb}
 use Rattle.csl.specs.Lists.{_>>=_, at}
 use Rattle.csl.specs.Numbers.{laterOf}
 use Rattle.csl.specs.Parties.{sameSet, subset}
@@ -20,7 +21,7 @@ use Rattle.csl.specs.Typing.{blameOk, namesOf, readingOfType, thenSight, typeCl
 use Rattle.csl.specs.Values.{Val, evalBool, evals, who}
 use Rattle.csl.specs.Outcomes.{Outcome, Residue, Sight, both, breach, done, earlier, joinBoth, joinEither, joined}
 use Rattle.csl.specs.Outcomes.{later, orStuck, running, stuck, unit}
-use Rattle.csl.specs.Rules.{Reading, Window, blamed, blamedAll, during, forecasting, taken, walk, walkIn, wants, window}
+use Rattle.csl.specs.Rules.{Reading, Window, blamed, blamedAll, during, forecasting, taken, walk, walkIn, window}
 use Rattle.csl.specs.Places.{clauseAt}
 use Rattle.csl.specs.Rules.{across, forecast}
 use Rattle.csl.specs.Table.{standFor}
@@ -226,23 +227,19 @@ later-beyond a t (pos n) h = omega (arith, nltb→le n t h)
 later-beyond a t (negsuc n) h = absurd h
 
 module _ (ag : Agreement) (r : Reading) (mark : r .type ≡ 0) where
-  unwanted : (w : Wait) (v : Window) (vs : List Ty) → readingOfType (ag .readings) (w .wanted) ≡ some vs
-      → wants w v r ≡ false
-  unfolding wants readingOfType
-  unwanted w v vs e = go (eqb (w .wanted) (r .type)) refl
+  pub unwanted : (w : Wait) (vs : List Ty) → readingOfType (ag .readings) (w .wanted) ≡ some vs
+      → eqb (w .wanted) (r .type) ≡ false
+  unfolding readingOfType
+  unwanted w vs e = ne-eqb (w .wanted) (r .type) (λ q. none-at (w .wanted) (q ∙ mark) e)
     where
       none-at : (k : ℕ) → k ≡ 0 → readingOfType (ag .readings) k ≡ some vs → ⊥
       none-at zero z p = impossible cc
       none-at (suc k) z p = omega arith
 
-      go : (b : Bool) → eqb (w .wanted) (r .type) ≡ b → (b && not (ltZ (pos (r .time)) (v .first))) ≡ false
-      go true q = absurd (none-at (w .wanted) (eqb→eq (w .wanted) (r .type) (subst T (sym q) tt) ∙ mark) e)
-      go false q = refl
-
   pub untaken : (n : ℕ) (env : List Ty) (e : Sight) (w : Wait) (v : Window) (t : Clause) (o : Outcome) (vs : List Ty)
       → typeWait (namesOf ag n) env w ≡ some vs → taken (ag .templates) r e w v t o ≡ o
   unfolding taken
-  untaken n env e w v t o vs tw = from-wait ag n env w vs tw λ u₁ u₂ u₃ rt tc ta ti. rw (unwanted w v vs rt, taken) refl
+  untaken n env e w v t o vs tw = from-wait ag n env w vs tw λ u₁ u₂ u₃ rt tc ta ti. rw (unwanted w vs rt, taken) refl
 
 -- ---- a forecast is good: never stuck, its parties some and within, its time not before the start
 module _ (ag : Agreement) (mains : List ℕ) (fair : Fair ag mains) where

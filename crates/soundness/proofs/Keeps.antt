@@ -20,15 +20,15 @@ use Rattle.csl.specs.Typing.{blameOk, hasType, namesOf, thenSight, typeClause, 
 use Rattle.csl.specs.Values.{Val, evalBool, evals}
 use Rattle.csl.specs.Outcomes.{Outcome, Residue, Sight, Sort, anObligation, aChoice, both, breach, done, earlier}
 use Rattle.csl.specs.Outcomes.{joinBoth, joinEither, joined, later, orStuck, running, stuck, unit}
-use Rattle.csl.specs.Rules.{Reading, Window, blamed, blamedAll, during, following, forecasting, late, walk, walkIn}
-use Rattle.csl.specs.Rules.{window}
+use Rattle.csl.specs.Rules.{Reading, Window, blamed, blamedAll, during, early, following, forecasting, late, onTime}
+use Rattle.csl.specs.Rules.{timing, walk, walkIn, window}
 use Rattle.csl.specs.Places.{Found, clauseAt}
 use Rattle.csl.specs.Rules.{across, follow, forecast}
 use Rattle.laws.proofs.Bools.{T-both, T-left, T-right}
 use Rattle.laws.proofs.Options.{from-bind, from-need, some-bind, some-inj}
 use Rattle.soundness.proofs.Members.{Sub, in-left, in-right, sub-both, sub-refl, sub-trans, sub→subset}
 use Rattle.soundness.proofs.Members.{subset→sub}
-use Rattle.soundness.proofs.Times.{later-to}
+use Rattle.soundness.proofs.Times.{by-timing, later-to}
 use Rattle.soundness.proofs.Good.{Ok, Placed}
 use Rattle.soundness.proofs.Walks.{Fair}
 use Rattle.soundness.proofs.Forecasts.{Coming, Done, NotBefore, both-from, coming-bind, later-beyond}
@@ -357,20 +357,19 @@ module _ (ag : Agreement) (r : Reading) (mark : r .type ≡ 0) where
   -- what is late is decided; what is not waits on
   kept-late : (a : ℕ) (v : Window) (f x : Option Outcome) (y : Outcome) (res : Residue) → y ≡ running res
       → Coming (laterOf a (v .last)) (orStuck f) → SameOrStuck (orStuck f) (forecast ag res)
-      → (T (late v r) → KeptAt (orStuck f) (orStuck x))
-      → KeptAt (orStuck f) (orStuck (elim (late v r) [ true ↦ x | false ↦ some y ]))
-  unfolding late orStuck
-  kept-late a v f x y res e c same h = go (ltZ (v .last) (pos (r .time))) refl
+      → (T (ltZ (v .last) (pos (r .time))) → KeptAt (orStuck f) (orStuck x))
+      → KeptAt (orStuck f)
+      (orStuck (elim (timing v (r .time)) [ late ↦ x | onTime ↦ some y | early ↦ some (running res) ]))
+  unfolding orStuck
+  kept-late a v f x y res e c same h = by-timing (λ o. KeptAt (orStuck f) (orStuck o)) v (r .time) x
+      (some (running res)) (some y) h (λ not-late _. on not-late) (λ not-late _. rw e (on not-late))
     where
-      go : (b : Bool) → ltZ (v .last) (pos (r .time)) ≡ b
-          → KeptAt (orStuck f) (orStuck (elim b [ true ↦ x | false ↦ some y ]))
-      go true q = h (subst T (sym q) tt)
-      go false q = subst (λ o. KeptAt (orStuck f) o) (sym e)
-          (waiting-kept (orStuck f) res (
-            not-before-mono (r .time) (laterOf a (v .last)) (orStuck f)
-                (later-beyond a (r .time) (v .last) (subst (λ b. T (not b)) (sym q) tt)) (c .0),
-            c .1,
-          ) same)
+      on : T (not (ltZ (v .last) (pos (r .time)))) → KeptAt (orStuck f) (running res)
+      on not-late = waiting-kept (orStuck f) res (
+        not-before-mono (r .time) (laterOf a (v .last)) (orStuck f)
+            (later-beyond a (r .time) (v .last) not-late) (c .0),
+        c .1,
+      ) same
 
   -- the forecast of a unit is that of the clause at its place
   unit-forecast : (k : Sort) (p a : ℕ) (e : Sight) (x : Found) → clauseAt ag p ≡ some x
@@ -406,7 +405,7 @@ module _ (ag : Agreement) (r : Reading) (mark : r .type ≡ 0) where
         (on-unit (obligation b w t) anObligation (w .place) a e _ (orStuck f) (pl .0) refl
         (ap orStuck (some-bind (window e a w) _ v ev)))
         (λ l. kept-bind ag (r .time) (blamed (e .params) b) _ _ λ p _. breaks (laterOf a (v .last)) (p ∷ []) (p ∷ [])
-        (later-to a (r .time) (v .last) le (unfold late in l)) (sub-refl (p ∷ [])) (λ _. refl))
+        (later-to a (r .time) (v .last) le l) (sub-refl (p ∷ [])) (λ _. refl))
     walk-kept (choice w t f) n env e a bs le ty pl =
         from-bind (typeWait (namesOf ag n) env w) _ bs ty λ vs tw q₂.
         from-bind (typeClause (namesOf ag n) (thenSight env vs) t) _ bs q₂ λ ps p q₃.
@@ -417,7 +416,7 @@ module _ (ag : Agreement) (r : Reading) (mark : r .type ≡ 0) where
         (untaken ag r mark n env e w v t _ vs tw) (walk-coming un uc f e u)
         (on-unit (choice w t f) aChoice (w .place) a e _ (walk forecasting un f e u) (pl .0) refl
         (ap orStuck (some-bind (window e a w) _ v ev)))
-        (λ l. walk-kept f n env e u qs (later-to a (r .time) (v .last) le (unfold late in l)) p′ (pl .2))
+        (λ l. walk-kept f n env e u qs (later-to a (r .time) (v .last) le l) p′ (pl .2))
     walk-kept (if x t f) n env e a bs le ty pl =
         from-bind (hasType (ag .parties) env x truth) _ bs ty λ u tx q₀.
         from-bind (typeClause (namesOf ag n) env t) _ bs q₀ λ ps p q.

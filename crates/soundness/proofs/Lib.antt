@@ -16,5 +16,6 @@ pub mod Moved
 pub mod Demand3
 pub mod ReadBack
 pub mod Forecasts
+pub mod Early
 pub mod Keeps
 pub mod Marks

@@ -1,7 +1,8 @@
 -- When a run last moved: what its tables before and after come to, outcome by outcome.
--- Main theorems: `moved-done`, `moved-breach`, `stays-done`, `moved-running`; `moved-yes` and `moved-no` say it of the
--- tables themselves.
-use mathlib.Core.Bool.{_&&_, Bool, cond, false, not, true}
+-- Main theorems: `altered-done`, `altered-breach` and `altered-running` of the judgement, whatever the cell for when it
+-- last moved; `moved-breach` and `stays-done` of the time; `moved-yes`, `moved-no`, `unaltered-is` and `altered-not`
+-- say it of the tables themselves.
+use mathlib.Core.Bool.{_&&_, Bool, false, not, true}
 use mathlib.Core.List.{_++_, List, [], _∷_}
 use mathlib.Core.Logic.{_↔_}
 use mathlib.Core.Path.{ap, ap₂, refl, sym, _∙_, _≡_}
@@ -35,14 +36,20 @@ abbrev judged : ℕ → ℕ → Bool → ℕ
 judged time m b = elim b [ true ↦ time | false ↦ m ]
 
 -- ---- a run that ends
+pub altered-breach : (t m : ℕ) (res : Residue) (time k u : ℕ) (ps : List ℕ)
+    → altered (tableOf (runAt t m (running res))) (tableOf (runAt time k (breach u ps))) ≡ true
+unfolding altered tableOf padded headCells natCells sameNumbers eqZ
+altered-breach t m res time k u ps = refl
+
+pub altered-done : (t m : ℕ) (res : Residue) (time k : ℕ)
+    → altered (tableOf (runAt t m (running res))) (tableOf (runAt time k done)) ≡ true
+unfolding altered tableOf padded headCells natCells sameNumbers eqZ
+altered-done t m res time k = refl
+
 pub moved-breach : (t m : ℕ) (res : Residue) (time u : ℕ) (ps : List ℕ)
     → movedTo t m (running res) time (breach u ps) ≡ time
-unfolding movedBy altered tableOf padded headCells natCells sameNumbers eqZ
-moved-breach t m res time u ps = refl
-
-pub moved-done : (t m : ℕ) (res : Residue) (time : ℕ) → movedTo t m (running res) time done ≡ time
-unfolding movedBy altered tableOf padded headCells natCells sameNumbers eqZ
-moved-done t m res time = refl
+unfolding movedBy
+moved-breach t m res time u ps = ap (judged time m) (altered-breach t m res time m u ps)
 
 -- ---- a run that goes on
 -- the cells of its units, and zeros behind them
@@ -59,20 +66,6 @@ units-behind t m res =
 state-cell : (t m : ℕ) (res : Residue) → take 1 (tableOf (runAt t m (running res))) ≡ pos 1 ∷ []
 unfolding tableOf padded headCells natCells
 state-cell t m res = refl
-
-moved-by-units : (t m : ℕ) (res : Residue) (time : ℕ) (next : Residue)
-    → movedTo t m (running res) time (running next) ≡ cond
-    (sameNumbers (withZeros (residueCells res)) (withZeros (residueCells next))) m time
-unfolding movedBy altered
-moved-by-units t m res time next =
-    ap (λ b. judged time m (not b)) (ap₂ _&&_
-    (ap₂ sameNumbers (state-cell t m res) (state-cell time m next) ∙ same-self (pos 1 ∷ []))
-    (ap₂ sameNumbers (units-behind t m res) (units-behind time m next)))
-    ∙ go (sameNumbers (withZeros (residueCells res)) (withZeros (residueCells next)))
-  where
-    go : (b : Bool) → judged time m (not (true && b)) ≡ cond b m time
-    go true = refl
-    go false = refl
 
 -- ---- each unit begins with its sort, which is not 0
 unfoldable SortAt : ℕ → List ℤ → Type 0
@@ -156,12 +149,17 @@ same-units xs ys u v few few′ = by-test (sameNumbers ys xs)
         let l : length ys ≡ length xs = omega (arith, as-many u v few few′ e, u .size, v .size) in
         sym (take-append-seam ys _) ∙ ap₂ take l (sym e) ∙ take-append-seam xs _
 
--- it moves just if the cells of its units are not the same
-pub moved-running : (res next : Residue) (t m time : ℕ) → Units (units res) (residueCells res)
-    → Units (units next) (residueCells next) → units res ≤ 128 → units next ≤ 128
-    → movedTo t m (running res) time (running next) ≡ cond (sameNumbers (residueCells next) (residueCells res)) m time
-moved-running res next t m time u v few few′ = moved-by-units t m res time next
-    ∙ ap (λ b. cond b m time) (same-units (residueCells res) (residueCells next) u v few few′)
+-- it alters just if the cells of its units are not the same
+module _ (res next : Residue) (t m time : ℕ) where
+  pub altered-running : (k : ℕ) → Units (units res) (residueCells res) → Units (units next) (residueCells next)
+      → units res ≤ 128 → units next ≤ 128
+      → altered (tableOf (runAt t m (running res))) (tableOf (runAt time k (running next)))
+      ≡ not (sameNumbers (residueCells next) (residueCells res))
+  unfolding altered
+  altered-running k u v few few′ = ap₂ (λ b c. not (b && c))
+      (ap₂ sameNumbers (state-cell t m res) (state-cell time k next) ∙ same-self (pos 1 ∷ []))
+      (ap₂ sameNumbers (units-behind t m res) (units-behind time k next)
+      ∙ same-units (residueCells res) (residueCells next) u v few few′)
 
 -- ---- of the tables themselves: what is judged does not tell when the run last moved
 same-state : (t m k : ℕ) (o : Outcome) → at (tableOf (runAt t m o)) 0 ≡ at (tableOf (runAt t k o)) 0
@@ -185,11 +183,11 @@ first-of [] (y ∷ ys) = (λ e. impossible cc, λ e. impossible cc)
 first-of (x ∷ xs) [] = (λ e. impossible cc, λ e. impossible cc)
 first-of (x ∷ xs) (y ∷ ys) = (λ e. ap (λ z. z ∷ []) (some-inj e), λ e. cc)
 
-unaltered-is : (xs ys : List ℤ) → Unaltered xs ys → altered xs ys ≡ false
+pub unaltered-is : (xs ys : List ℤ) → Unaltered xs ys → altered xs ys ≡ false
 unfolding Unaltered altered
 unaltered-is xs ys u = rw (first-of xs ys .0 (u .0), u .1, same-self (take 1 ys), same-self (drop 8 ys)) refl
 
-altered-not : (xs ys : List ℤ) → altered xs ys ≡ false → Unaltered xs ys
+pub altered-not : (xs ys : List ℤ) → altered xs ys ≡ false → Unaltered xs ys
 unfolding Unaltered altered
 altered-not xs ys e =
     let b = not-false (sameNumbers (take 1 xs) (take 1 ys) && sameNumbers (drop 8 xs) (drop 8 ys)) e in (

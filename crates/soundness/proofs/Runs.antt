@@ -20,7 +20,8 @@ use Rattle.csl.specs.Rules.{Reading, follow}
 use Rattle.csl.specs.Run.{Fit, Raw, Stepped, altered, fit, fitOf, followed, kept, movedBy, rawReading, readAt, started}
 use Rattle.csl.specs.Run.{step, tooMany, typedReading, unfit}
 use Rattle.csl.specs.Table.{Run, headCells, joinCells, natCells, padded, residueCells, runOf, tableLength, tableOf}
-use Rattle.csl.specs.Entries.{Answer, isTable, readingOf, refusal, startOf, written}
+use Rattle.csl.specs.Early.{cameEarly, markOf}
+use Rattle.csl.specs.Entries.{Answer, ReadingAnswer, isTable, marked, readingOf, refusal, startOf, written}
 use Rattle.csl.specs.Demand3.{Bytes, IsBreach, NotStuck, fitting, needed, reached}
 use Rattle.laws.proofs.Bools.{T-left, T-or, T-right}
 use Rattle.laws.proofs.Options.{some-bind}
@@ -307,6 +308,17 @@ alike-fine a now m q o r (breached t ps) ns = fit-cases a now r (λ n w f e. on 
     refusing zero (inr e) = absurd (omega arith)
     refusing (suc n) e = (refl, refl)
 
+-- no mark is of a breach
+alike-early : (a : Agreement) (now m : ℕ) (q o : Outcome) (r : List ℕ) → Alike q o
+    → cameEarly a (runAt now m q) r ≡ cameEarly a (runAt now m o) r
+unfolding cameEarly
+alike-early a now m q o r (same o′) = refl
+alike-early a now m q o r (breached t ps) = refl
+
+abbrev FineReading : Agreement → Run → List ℕ → ReadingAnswer → Type 0
+FineReading a q r x = (x .number ≡ (step a q r) .number) × (x .table ≡ tableOf ((step a q r) .run))
+    × (x .early ≡ markOf (cameEarly a q r))
+
 -- the main clause's parties are parties
 pub main-in : (a : Agreement) (mains : List ℕ) → Fair a mains → (q : ℕ) → In q mains → q < a .parties
 unfolding blameOk namesOf
@@ -321,23 +333,31 @@ module _ (bytes : List ℕ) (a : Agreement) (mains : List ℕ) (ck : checked byt
   isTable-is cells h = rw h refl
 
   pub reading-is : (cells : List ℤ) (q : Run) (r : List ℕ) → length cells ≡ 3080 → runOf a mains cells ≡ some q
-      → readingOf bytes cells r ≡ written cells (step a q r)
+      → readingOf bytes cells r ≡ marked (markOf (cameEarly a q r)) (written cells (step a q r))
   unfolding readingOf
   reading-is cells q r h e =
       ap (λ c. elim c [
-        | refused n ↦ refusal n cells
+        | refused n ↦ marked 0 (refusal n cells)
         | accepted a ps ↦ elim (isTable cells) [
-          | false ↦ refusal 6 cells
-          | true ↦ elim (runOf a ps cells)
-              [ none ↦ refusal 7 cells | some x ↦ written cells (step a x r) ]
+          | false ↦ marked 0 (refusal 6 cells)
+          | true ↦ elim (runOf a ps cells) [
+            | none ↦ marked 0 (refusal 7 cells)
+            | some x ↦ marked (markOf (cameEarly a x r)) (written cells (step a x r))
+          ]
         ]
       ]) ck
       ∙ ap (λ b. elim b [
-        | false ↦ refusal 6 cells
-        | true ↦ elim (runOf a mains cells) [ none ↦ refusal 7 cells | some x ↦ written cells (step a x r) ]
+        | false ↦ marked 0 (refusal 6 cells)
+        | true ↦ elim (runOf a mains cells) [
+          | none ↦ marked 0 (refusal 7 cells)
+          | some x ↦ marked (markOf (cameEarly a x r)) (written cells (step a x r))
+        ]
       ])
       (isTable-is cells h)
-      ∙ ap (λ o. elim o [ none ↦ refusal 7 cells | some x ↦ written cells (step a x r) ]) e
+      ∙ ap (λ o. elim o [
+        | none ↦ marked 0 (refusal 7 cells)
+        | some x ↦ marked (markOf (cameEarly a x r)) (written cells (step a x r))
+      ]) e
 
   pub start-is : (cells : List ℤ) → length cells ≡ 3080 → startOf bytes cells ≡ written cells (started a)
   unfolding startOf
@@ -360,16 +380,17 @@ module _ (bytes : List ℕ) (a : Agreement) (mains : List ℕ) (ck : checked byt
   abbrev pub InvOf : Run → Type 0
   InvOf q = Inv a mains (q .lastTime) (q .lastMoved) (q .outcome)
 
-  -- on a run's table the entry answers with the run's number and leaves the run's table
-  pub reading-fine : (q : Run) (r : List ℕ) → InvOf q
-      → Fine a (q .lastTime) (q .lastMoved) (q .outcome) (tableOf q) r (readingOf bytes (tableOf q) r)
+  -- on a run's table the entry answers with the run's number and mark, and leaves the run's table
+  pub reading-fine : (q : Run) (r : List ℕ) → InvOf q → FineReading a q r (readingOf bytes (tableOf q) r)
+  unfolding marked
   reading-fine q r i =
       let now = q .lastTime in
       let m = q .lastMoved in
       let x = reads a mains few-mains now m (q .outcome) i in
-      subst (λ z. Fine a now m (q .outcome) (tableOf q) r z)
+      let fine = alike-fine a now m (x .0) (q .outcome) r (x .2) (not-stuck a mains now (q .outcome) (i .good)) in
+      subst (FineReading a q r)
       (sym (reading-is (tableOf q) (runAt now m (x .0)) r (table-len a mains now m (q .outcome) i) (x .1)))
-      (alike-fine a now m (x .0) (q .outcome) r (x .2) (not-stuck a mains now (q .outcome) (i .good)))
+      (fine .0, fine .1, ap markOf (alike-early a now m (x .0) (q .outcome) r (x .2)))
 
   -- ---- a reading keeps the invariant
   pub reached-good : (now m : ℕ) (o : Outcome) (d : Reading) → now ≤ d .time → ReadingOk a d → (IsBreach o → ⊥)

@@ -1,4 +1,5 @@
--- Times: the later of A and last, and the remaining time, which lies in the language's range.
+-- Times: the three answers of the window test, the later of A and last, and the remaining time, which lies in the
+-- language's range.
 use mathlib.Core.Bool.{Bool, cond, false, not, true}
 use mathlib.Core.Path.{ap, refl, subst, sym, _≡_}
 use Prim.Native.Nat.{_+_, _-_, suc, zero, ℕ, _≤_}
@@ -7,7 +8,23 @@ use lib.Dec.{T, leb→le, le→leb, ltb, ltb→lt, nltb→le}
 use lib.IntN.{_+ℤ_, _-ℤ_, negsuc, pos, pos-ne-negsuc, subℕ, ℤ}
 use lib.Signed.{ltZ}
 use Rattle.csl.specs.Numbers.{inRange, laterOf, limit}
+use Rattle.csl.specs.Rules.{Timing, Window, early, late, onTime, timing}
 use Rattle.laws.proofs.Integers.{difference-below}
+
+-- late is asked first, and then too early
+pub by-timing : {A : Type 0} (P : A → Type 0) (v : Window) (t : ℕ) (x y z : A) → (T (ltZ (v .last) (pos t)) → P x)
+    → (T (not (ltZ (v .last) (pos t))) → T (ltZ (pos t) (v .first)) → P y)
+    → (T (not (ltZ (v .last) (pos t))) → T (not (ltZ (pos t) (v .first))) → P z)
+    → P (elim (timing v t) [ late ↦ x | onTime ↦ z | early ↦ y ])
+unfolding timing
+by-timing P v t x y z = go (ltZ (v .last) (pos t)) (ltZ (pos t) (v .first))
+  where
+    go : (b c : Bool) → (T b → P x) → (T (not b) → T c → P y) → (T (not b) → T (not c) → P z)
+        → P (elim (elim b as (λ _. Timing) [ true ↦ late | false ↦ elim c [ true ↦ early | false ↦ onTime ] ])
+        [ late ↦ x | onTime ↦ z | early ↦ y ])
+    go true c f g h = f tt
+    go false true f g h = g tt tt
+    go false false f g h = h tt tt
 
 pub later-to : (a t : ℕ) (l : ℤ) → a ≤ t → T (ltZ l (pos t)) → laterOf a l ≤ t
 unfolding laterOf

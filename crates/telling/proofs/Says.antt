@@ -9,7 +9,8 @@ use lib.IntN.{ℤ, pos}
 use lib.ListN.{getD}
 use Rattle.csl.specs.Numbers.{eqZ}
 use Rattle.csl.specs.Bytes.{le32}
-use Rattle.csl.specs.Entries.{Answer, Forecast, startOf, readingOf, forecastOf}
+use Rattle.csl.specs.Early.{markOf}
+use Rattle.csl.specs.Entries.{Answer, ReadingAnswer, Forecast, startOf, readingOf, forecastOf}
 use Rattle.monitor.specs.declared.Refusal.{Refusal}
 use Rattle.monitor.specs.declared.Refusal.the-variants.{AgreementLength, AgreementForm, AgreementTyping}
 use Rattle.monitor.specs.declared.Refusal.the-variants.{AgreementGuards, AgreementWidth, TableLength, TableContent}
@@ -64,6 +65,9 @@ module _ (s : List ℕ) (cells : List ℤ) {state : ℤ} (is : state ≡ getD ce
 abbrev answerOf : ℕ → List ℤ → Answer
 answerOf n cells = record { number = n; table = cells }
 
+abbrev readingAnswerOf : ℕ → ℕ → List ℤ → ReadingAnswer
+readingAnswerOf n early cells = record { number = n; early = early; table = cells }
+
 -- ---- a start's line
 start-refused-line : (s : List ℕ) (cells : List ℤ) (why : Refusal)
     → line 0 (dash ∷ refusalFields (numberOf why)) ≡ startLine s (answerOf (numberOf why) cells)
@@ -83,7 +87,7 @@ start-refused-line s cells Units = refl
 -- ---- a reading's line
 reading-refused-line : (s : List ℕ) (n : ℕ) (b : List ℕ) (cells : List ℤ) (why : Refusal)
     → line n (readingTime b (numberOf why) ∷ refusalFields (numberOf why)) ≡ readingLine s n b
-    (answerOf (numberOf why) cells)
+    (readingAnswerOf (numberOf why) 0 cells)
 unfolding readingLine readingTime timeField answerFields
 reading-refused-line s n b cells AgreementLength = refl
 reading-refused-line s n b cells AgreementForm = refl
@@ -156,8 +160,8 @@ module _ (s : List ℕ) (cells cells₂ : List ℤ) {out out₂ : List ℕ} {to 
         → Put (line n (readingTime b number ∷ refusalFields number)) out at out₂ to
         → Follows s cells cells₂ n b out at out₂ (record { go = not (eqb number 8); at = to })
     follows-refused {why} {number} is told p =
-        let a : answerOf (numberOf why) cells₂ ≡ readingOf s cells b = ap (λ x. takenAnswer x cells₂) (sym is)
-        ∙ answered in
+        let a : readingAnswerOf (numberOf why) 0 cells₂ ≡ readingOf s cells b =
+        ap (λ x. takenAnswer x cells₂) (sym is) ∙ answered in
         record {
           line = same-put (ap (λ k. line n (readingTime b k ∷ refusalFields k)) told
               ∙ reading-refused-line s n b cells₂ why ∙ ap (readingLine s n b) a) p;
@@ -166,13 +170,14 @@ module _ (s : List ℕ) (cells cells₂ : List ℤ) {out out₂ : List ℕ} {to 
           room = room;
         }
 
-    pub follows-accepted : {time mid : ℕ} {out₁ : List ℕ} → r ≡ Accepted → time ≡ le32 b 4
+    pub follows-accepted : {early : Bool} {time mid : ℕ} {out₁ : List ℕ} → r ≡ Accepted early → time ≡ le32 b 4
         → Put (decimal n ++ (space ∷ decimal time)) out at out₁ mid
         → Put (fields (verdictFields s cells₂)) out₁ mid out₂ to
         → Follows s cells cells₂ n b out at out₂ (record { go = true; at = to })
     unfolding readingLine readingTime timeField answerFields
-    follows-accepted {time} is told p q =
-        let a : answerOf 0 cells₂ ≡ readingOf s cells b = ap (λ x. takenAnswer x cells₂) (sym is) ∙ answered in
+    follows-accepted {early} {time} is told p q =
+        let a : readingAnswerOf 0 (markOf early) cells₂ ≡ readingOf s cells b =
+        ap (λ x. takenAnswer x cells₂) (sym is) ∙ answered in
         record {
           line = same-put (ap (readingLine s n b) a)
               (line-put n (decimal (le32 b 4)) (verdictFields s cells₂)

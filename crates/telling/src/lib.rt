@@ -146,7 +146,7 @@ pub fn follow(
                 go: number != 8,
             }
         }
-        Taken::Accepted => {
+        Taken::Accepted { early: _ } => {
             let a = put_time(out, at, n, unsigned32(reading, 4));
             Told {
                 go: true,

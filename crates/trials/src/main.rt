@@ -41,13 +41,6 @@ fn started_number(started: Started) -> u32 {
     }
 }
 
-fn taken_number(taken: Taken) -> u32 {
-    match taken {
-        Taken::Accepted => 0,
-        Taken::Refused(refusal) => monitor::number(refusal),
-    }
-}
-
 fn put_number(out: &mut [u8], at: usize, word: &[u8], number: u32) -> usize {
     let to = put_all(out, at, word);
     put_next(out, to, number as u64)
@@ -62,6 +55,24 @@ fn put_check(out: &mut [u8], at: usize, checked: Checked) -> usize {
         }
         Checked::Refused(refusal) => {
             let to = put_number(out, at, b"check", monitor::number(refusal));
+            put_next(out, to, 0)
+        }
+    }
+}
+
+fn mark(early: bool) -> u64 {
+    if early { 1 } else { 0 }
+}
+
+// The number, and the mark `early`.
+fn put_taken(out: &mut [u8], at: usize, taken: Taken) -> usize {
+    match taken {
+        Taken::Accepted { early } => {
+            let to = put_number(out, at, b"reading", 0);
+            put_next(out, to, mark(early))
+        }
+        Taken::Refused(refusal) => {
+            let to = put_number(out, at, b"reading", monitor::number(refusal));
             put_next(out, to, 0)
         }
     }
@@ -145,8 +156,8 @@ fn call(
         return put_table(out, at, b"start", number, table);
     }
     if what == 7 {
-        let number = taken_number(monitor::reading(agreement, table, reading));
-        return put_table(out, at, b"reading", number, table);
+        let to = put_taken(out, at, monitor::reading(agreement, table, reading));
+        return put_cells(out, to, table);
     }
     put_forecast(out, at, monitor::forecast(agreement, table))
 }

@@ -1,6 +1,6 @@
 -- Laws of waits: their windows, what a reading makes of them, and the values in sight.
-use mathlib.Core.Path.{_≡_, refl, sym, ap, _∙_}
-use mathlib.Core.Bool.{Bool, true, false}
+use mathlib.Core.Path.{_≡_, refl, sym, ap, ap₂, _∙_}
+use mathlib.Core.Bool.{Bool, true, false, cond, _&&_}
 use mathlib.Core.List.{List, [], _∷_, _++_, append-assoc}
 use Prim.Native.Nat.{ℕ, suc, _+_, _-_, _^_, _≤_, _<_, min}
 use native.Mathlib.Omega.{arith}
@@ -14,6 +14,7 @@ use borrow.Author.Tests.{eq-eqb, ne-eqb}
 use borrow.Rule.Slice.PartMut.{putMid}
 use mir.Syntax.{w64}
 use mir.Val.{Fits, SFits, toZ}
+use Rattle.laws.proofs.Timings.{timing-late, timing-early, timing-on-time}
 use Rattle.arith.specs.Near.{Near, far}
 use Rattle.arith.proofs.Ints.{seen, read, read! }
 use Rattle.arith.proofs.Numbers.{sizes, within-goal, held-fits, later-size}
@@ -23,12 +24,17 @@ use Rattle.csl.specs.Bytes.{le16, part, recordEnd}
 use Rattle.csl.specs.Syntax.{Wait}
 use Rattle.csl.specs.Decode.{expr, waitAt}
 use Rattle.cells.specs.Evaluate.{evalCells, isTrue}
-use Rattle.cells.specs.Reduce.{following, firstOf, lastOf, takes, thenValues, fate}
+use Rattle.csl.specs.Rules as rules
+use Rattle.csl.specs.Rules.{timing}
+use Rattle.cells.specs.Reduce as cells
+use Rattle.cells.specs.Reduce.{following, firstOf, lastOf, windowOf, takes, opensLater, thenValues, fate}
 use Rattle.residues.specs.Reduces.{farthest}
-use Rattle.waits.specs.Fates.{modeAt, WindowIs, FateIs, conditionOf}
+use Rattle.waits.specs.Fates.{modeAt, WindowIs, FateIs, timingIs, conditionOf}
 use Rattle.waits.specs.declared.Window.{Window}
 use Rattle.waits.specs.declared.Event.{Event}
 use Rattle.waits.specs.declared.Step.the-variants.{Activate, Forecast, Follow}
+use Rattle.waits.specs.declared.Timing.{Timing}
+use Rattle.waits.specs.declared.Timing.the-variants.{Early, OnTime, Late as tooLate}
 use Rattle.waits.specs.declared.Fate.{Fate}
 use Rattle.waits.specs.declared.Fate.the-variants.{Waits, Late, Taken}
 use Rattle.residues.proofs.Cells.{cell-of}
@@ -41,76 +47,119 @@ pub time-within : (n : ℕ) → n ≤ farthest → Near far (toZ w64 n)
 time-within n h = within-goal far (toZ w64 n) (omega (arith, time-size n h))
 
 -- ---- a window
-module _ (vs : List ℤ) (s : List ℕ) (i a d : ℕ) (h : a ≤ farthest) {b c e : ℕ} (eb : b ≡ recordEnd s (i + 1))
-    (ec : c ≡ recordEnd s b) (ee : e ≡ recordEnd s c) where
-  pub window-is : {x y r q : ℤ} → (x ≡ evalCells vs (expr d (part s b c))) × Held x
+module _ (vs : List ℤ) (s : List ℕ) (i a d : ℕ) (h : a ≤ farthest) {b c : ℕ} (eb : b ≡ recordEnd s (i + 1))
+    (ec : c ≡ recordEnd s b) where
+  pub first-is : {x r : ℤ} → (x ≡ evalCells vs (expr d (part s b c))) × Held x → mag r < 2 ^ 63
+      → r ≡ toZ w64 a +ℤ seen x → (p : ℕ) → seen r ≡ firstOf vs a (waitAt (expr d) p s i)
+  unfolding firstOf waitAt
+  first-is hx fr hr p = read! fr ∙ hr ∙ rw (cell-of a h, read (held-fits (hx .1)), hx .0, ec, eb)
+
+  pub window-is : {e : ℕ} → e ≡ recordEnd s c → {x y r q : ℤ} → (x ≡ evalCells vs (expr d (part s b c))) × Held x
       → (y ≡ evalCells vs (expr d (part s c e))) × Held y
       → mag r < 2 ^ 63 → (r ≡ toZ w64 a +ℤ seen x) × Near (natAbs (toZ w64 a) + natAbs (seen x)) r
       → mag q < 2 ^ 63 → (q ≡ seen r +ℤ seen y) × Near (natAbs (seen r) + natAbs (seen y)) q
       → (p : ℕ) → WindowIs vs a (waitAt (expr d) p s i) (record { first = seen r; last = seen q })
-  unfolding firstOf lastOf waitAt
-  window-is {x} {y} {r} {q} hx hy fr hr fq hq p =
-      let er : seen r ≡ pos a +ℤ evalCells vs
-      (expr d (part s (recordEnd s (i + 1)) (recordEnd s (recordEnd s (i + 1))))) =
-      read! fr ∙ hr .0 ∙ rw (cell-of a h, read (held-fits (hx .1)), hx .0, ec, eb) in
+  unfolding lastOf waitAt
+  window-is ee {r = r} {q = q} hx hy fr hr fq hq p =
+      let er = first-is hx fr (hr .0) p in
       let eq : seen q ≡ seen r +ℤ evalCells vs
       (expr d (part s (recordEnd s (recordEnd s (i + 1))) (recordEnd s (recordEnd s (recordEnd s (i + 1)))))) =
       read! fq ∙ hq .0 ∙ rw (read (held-fits (hy .1)), hy .0, ee, ec, eb) in
       record { first = er; last = eq ∙ rw er; near = omega (sizes, time-size a h) }
 
+-- ---- the window test, as the machine has it
+module _ (w : Window) (t : ℕ) (ht : t ≤ farthest) (fl : mag (w .last) < 2 ^ 63) where
+  abbrev seenAs : rules.Window
+  seenAs = record { first = w .first; last = w .last }
+
+  last-test : {b : Bool} → ltZ (seen (w .last)) (toZ w64 t) ≡ b → ltZ (w .last) (pos t) ≡ b
+  last-test h = rw (read! fl, cell-of t ht) at h
+
+  pub tested-late : ltZ (seen (w .last)) (toZ w64 t) ≡ true → rules.late ≡ timing seenAs t
+  tested-late h = sym (timing-late seenAs t (last-test h))
+
+  module _ (h : ltZ (seen (w .last)) (toZ w64 t) ≡ false) (ff : mag (w .first) < 2 ^ 63) where
+    first-test : {b : Bool} → ltZ (toZ w64 t) (seen (w .first)) ≡ b → ltZ (pos t) (w .first) ≡ b
+    first-test g = rw (read! ff, cell-of t ht) at g
+
+    pub tested-early : ltZ (toZ w64 t) (seen (w .first)) ≡ true → rules.early ≡ timing seenAs t
+    tested-early g = sym (timing-early seenAs t (last-test h) (first-test g))
+
+    pub tested-on-time : ltZ (toZ w64 t) (seen (w .first)) ≡ false → rules.onTime ≡ timing seenAs t
+    tested-on-time g = sym (timing-on-time seenAs t (last-test h) (first-test g))
+
 -- ---- what a reading makes of a wait
-module _ (vs rs : List ℤ) (a t k : ℕ) (ht : t ≤ farthest) (w : Wait) {r : Window} (x : WindowIs vs a w r)
-    (fl : mag (r .last) < 2 ^ 63) where
-  last-is : seen (r .last) ≡ lastOf vs a w
-  last-is = read! fl ∙ x .last
+module _ (vs rs : List ℤ) (a t k : ℕ) (w : Wait) {r : Window} (x : WindowIs vs a w r) (q : Timing)
+    (is : timingIs q ≡ timing (record { first = r .first; last = r .last }) t) where
+  abbrev byTiming : rules.Timing → cells.Fate
+  byTiming v = elim v [
+    | rules.late ↦ cells.late
+    | rules.onTime ↦ cond (takes vs w k rs) cells.taken cells.waits
+    | rules.early ↦ cells.waits
+  ]
 
-  near-is : Near (a + 2_000_000_000) (seen (r .last))
-  near-is = rw (read! fl) (x .near)
+  fated : {v : Timing} → q ≡ v → fate (following t k rs) vs a w ≡ byTiming (timingIs v)
+  unfolding fate windowOf
+  fated e = ap byTiming (sym (ap timingIs (sym e) ∙ is
+      ∙ ap₂ (λ first last. timing (record { first = first; last = last }) t) (x .first) (x .last)))
 
-  pub follow-late : ltZ (seen (r .last)) (toZ w64 t) ≡ true → FateIs (following t k rs) vs a w (Late (seen (r .last)))
-  unfolding FateIs fate
-  follow-late h = (rw (rw (last-is, cell-of t ht) at h), last-is, near-is)
+  pub follow-early : q ≡ Early → FateIs (following t k rs) vs a w Waits
+  unfolding FateIs
+  follow-early e = fated e
 
-  module _ (h : ltZ (seen (r .last)) (toZ w64 t) ≡ false) {b : ℕ} (eb : b ≡ w .wanted) where
-    pub follow-other : (b ≡ k → ⊥) → FateIs (following t k rs) vs a w Waits
-    unfolding FateIs fate takes
-    follow-other n = rw (rw (last-is, cell-of t ht) at h, ne-eqb (w .wanted) k (λ q. n (eb ∙ q)))
+  module _ (fl : mag (r .last) < 2 ^ 63) where
+    near-is : (seen (r .last) ≡ lastOf vs a w) × Near (a + 2_000_000_000) (seen (r .last))
+    near-is = (read! fl ∙ x .last, rw (read! fl) (x .near))
 
-    module _ (ek : b ≡ k) (ff : mag (r .first) < 2 ^ 63) where
-      first-is : seen (r .first) ≡ firstOf vs a w
-      first-is = read! ff ∙ x .first
+    pub follow-late : q ≡ tooLate → FateIs (following t k rs) vs a w (Late (seen (r .last)))
+    unfolding FateIs
+    follow-late e = (fated e, near-is .0, near-is .1)
 
-      pub follow-early : ltZ (toZ w64 t) (seen (r .first)) ≡ true → FateIs (following t k rs) vs a w Waits
-      unfolding FateIs fate takes
-      follow-early g = rw (
-        rw (last-is, cell-of t ht) at h,
-        eq-eqb (w .wanted) k (sym eb ∙ ek),
-        rw (first-is, cell-of t ht) at g,
-      )
+    module _ (e : q ≡ OnTime) {b : ℕ} (eb : b ≡ w .wanted) where
+      pub follow-other : (b ≡ k → ⊥) → FateIs (following t k rs) vs a w Waits
+      unfolding FateIs takes
+      follow-other n = fated e ∙ rw (ne-eqb (w .wanted) k (λ q. n (eb ∙ q))) refl
 
-      module _ (g : ltZ (toZ w64 t) (seen (r .first)) ≡ false) {u : Bool}
-          (eu : u ≡ isTrue (evalCells (vs ++ rs) (w .condition))) where
+      module _ (ek : b ≡ k) {u : Bool} (eu : u ≡ isTrue (evalCells (vs ++ rs) (w .condition))) where
         pub follow-taken : u ≡ true → FateIs (following t k rs) vs a w (Taken (seen (r .last)))
-        unfolding FateIs fate takes
+        unfolding FateIs takes
         follow-taken q = (
-          rw (
-            rw (last-is, cell-of t ht) at h,
-            eq-eqb (w .wanted) k (sym eb ∙ ek),
-            rw (first-is, cell-of t ht) at g,
-            sym eu ∙ q,
-          ),
-          last-is,
-          near-is,
+          fated e ∙ rw (eq-eqb (w .wanted) k (sym eb ∙ ek), sym eu ∙ q) refl,
+          near-is .0,
+          near-is .1,
         )
 
         pub follow-false : u ≡ false → FateIs (following t k rs) vs a w Waits
-        unfolding FateIs fate takes
-        follow-false q = rw (
-          rw (last-is, cell-of t ht) at h,
-          eq-eqb (w .wanted) k (sym eb ∙ ek),
-          rw (first-is, cell-of t ht) at g,
-          sym eu ∙ q,
-        )
+        unfolding FateIs takes
+        follow-false q = fated e ∙ rw (eq-eqb (w .wanted) k (sym eb ∙ ek), sym eu ∙ q) refl
+
+-- ---- whether a wait opens later than a reading that it wants
+and-false : (b : Bool) → (b && false) ≡ false
+and-false true = refl
+and-false false = refl
+
+and-true : (b : Bool) → (b && true) ≡ b
+and-true true = refl
+and-true false = refl
+
+module _ (vs rs : List ℤ) (a t k : ℕ) (w : Wait) {b : ℕ} (eb : b ≡ w .wanted) where
+  pub later-other : (b ≡ k → ⊥) → false ≡ opensLater vs a w t k rs
+  unfolding opensLater takes
+  later-other n = rw (ne-eqb (w .wanted) k (λ q. n (eb ∙ q))) refl
+
+  module _ (ek : b ≡ k) (ht : t ≤ farthest) {f : ℤ} (ef : f ≡ firstOf vs a w) (ff : mag f < 2 ^ 63) where
+    first-seen : {b : Bool} → ltZ (toZ w64 t) (seen f) ≡ b → ltZ (pos t) (firstOf vs a w) ≡ b
+    first-seen g = rw (read! ff, cell-of t ht, ef) at g
+
+    pub later-not : ltZ (toZ w64 t) (seen f) ≡ false → false ≡ opensLater vs a w t k rs
+    unfolding opensLater takes
+    later-not g = sym (ap (λ c. takes vs w k rs && c) (first-seen g) ∙ and-false (takes vs w k rs))
+
+    pub later-holds : ltZ (toZ w64 t) (seen f) ≡ true → {u : Bool}
+        → u ≡ isTrue (evalCells (vs ++ rs) (w .condition)) → u ≡ opensLater vs a w t k rs
+    unfolding opensLater takes
+    later-holds g {u} eu = eu ∙ sym (ap₂ (λ b c. b && isTrue (evalCells (vs ++ rs) (w .condition)) && c)
+        (eq-eqb (w .wanted) k (sym eb ∙ ek)) (first-seen g) ∙ and-true _)
 
 -- ---- by the step
 module _ (e : Event) (vs rs : List ℤ) (a : ℕ) (w : Wait) where

@@ -1,7 +1,7 @@
 -- What becomes of a wait; what the code says of a wait in the record s holds whatever the place of s is.
 use mathlib.Core.Path.{_≡_}
 use mathlib.Core.List.{List}
-use Prim.Native.Nat.{ℕ, _-_, _+_}
+use Prim.Native.Nat.{ℕ, _+_}
 use lib.IntN.{ℤ}
 use Rattle.cells.specs.Reduce.{Mode, activating, forecasting, following, fate, waits, late, taken, firstOf, lastOf}
 use Rattle.waits.specs.declared.Step.{Step}
@@ -9,12 +9,21 @@ use Rattle.waits.specs.declared.Step.the-variants.{Activate, Forecast, F
 use mathlib.Core.Bool.{Bool}
 use Rattle.csl.specs.Syntax.{Wait}
 use Rattle.csl.specs.Decode.{expr, waitAt}
+use Rattle.csl.specs.Rules as rules
 use Rattle.cells.specs.Evaluate.{isTrue, evalCells}
 use Rattle.arith.specs.Near.{Near}
 use Rattle.waits.specs.declared.Event.{Event}
 use Rattle.waits.specs.declared.Fate.{Fate}
 use Rattle.waits.specs.declared.Fate.the-variants.{Waits, Late, Taken}
 use Rattle.waits.specs.declared.Window.{Window}
+use Rattle.waits.specs.declared.Timing.{Timing}
+use Rattle.waits.specs.declared.Timing.the-variants.{Early, OnTime, Late as tooLate}
+
+-- csl's word for how a time stands to a window
+abbrev pub timingIs : Timing → rules.Timing
+timingIs Early = rules.early
+timingIs OnTime = rules.onTime
+timingIs tooLate = rules.late
 
 -- the mode that a step is, with the reading's time, type and values
 abbrev pub modeOf : Step → ℕ → ℕ → List ℤ → Mode

@@ -6,9 +6,10 @@ ghost use lib.IntN.{ℤ, pos, _-ℤ_};
 ghost use lib.ListN.{length, take, drop};
 ghost use Rattle.csl.specs.Decode.{expr, waitAt};
 ghost use Rattle.arith.specs.Near.{Near};
-ghost use Rattle.cells.specs.Reduce.{following, thenValues};
+ghost use Rattle.csl.specs.Rules.{timing};
+ghost use Rattle.cells.specs.Reduce.{firstOf, following, opensLater, thenValues};
 ghost use Rattle.residues.specs.Reduces.{farthest};
-ghost use Rattle.waits.specs.Fates.{modeAt, FateIs, WindowIs, conditionOf};
+ghost use Rattle.waits.specs.Fates.{modeAt, FateIs, WindowIs, timingIs, conditionOf};
 use arith::exact_difference;
 use arith::exact_sum;
 use arith::lesser;
@@ -40,6 +41,13 @@ pub struct Event {
 struct Window {
     first: i64,
     last: i64,
+}
+
+// How a time stands to a window. One that ends before it begins is late, never early.
+enum Timing {
+    Early,
+    OnTime,
+    Late,
 }
 
 // What becomes of a wait, with its last minute.
@@ -92,6 +100,23 @@ fn holds(s: &[u8], i: usize, values: &[i64], reading: &[i64], depth: usize) -> b
     is_true(x)
 }
 
+// The window test.
+fn timing_of(w: Window, time: usize) -> Timing
+    requires { ⌜ time ≤ farthest ⌝ }
+    ensures { λ r. ⌜ timingIs r ≡ timing (record { first = w .first; last = w .last }) time ⌝ }
+{
+    let t = time as i64;
+    let last = w.last;
+    if last < t {
+        return Timing::Late;
+    }
+    let first = w.first;
+    if t < first {
+        return Timing::Early;
+    }
+    Timing::OnTime
+}
+
 // What a reading makes of the wait at i in the record s.
 fn follow(
     time: usize,
@@ -108,22 +133,57 @@ fn follow(
         (waitAt (expr depth) p (now (s .entry)) i) r) ⌝ }
 {
     let w = window_at(s, i, values, a, depth);
-    let t = time as i64;
     let last = w.last;
-    if last < t {
-        return Fate::Late(last);
+    match timing_of(w, time) {
+        Timing::Late => Fate::Late(last),
+        Timing::Early => Fate::Waits,
+        Timing::OnTime => {
+            if byte(s, i) != tag {
+                return Fate::Waits;
+            }
+            if holds(s, i, values, reading, depth) {
+                return Fate::Taken(last);
+            }
+            Fate::Waits
+        }
     }
-    if byte(s, i) != tag {
-        return Fate::Waits;
+}
+
+// The first minute of the wait at i in the record s.
+fn first_at(s: &[u8], i: usize, values: &[i64], a: usize, depth: usize) -> i64
+    requires { ⌜ (i ≤ 5) × (a ≤ farthest) ⌝ }
+    ensures { λ r. ⌜ ((p : ℕ) → r ≡ firstOf (now (values .entry)) a (waitAt (expr depth) p (now (s .entry)) i)) ⌝ }
+{
+    let b = record_end(s, i + 1);
+    let c = record_end(s, b);
+    let after = eval(&s[b..c], values, depth);
+    exact_sum(a as i64, after)
+}
+
+// The wait at i in the record s wants the reading, its `where` is true, and its first minute is later. Only then is
+// `where` asked.
+pub fn opens_later(
+    event: Event,
+    s: &[u8],
+    i: usize,
+    values: &[i64],
+    reading: &[i64],
+    a: usize,
+    depth: usize,
+) -> bool
+    requires { ⌜ (event .time ≤ farthest) × (i ≤ 5) × (a ≤ farthest) × (length (now values) ≤ 16) × (length (now reading) ≤ 4) ⌝ }
+    ensures { λ r. ⌜ ((p : ℕ) → r ≡ opensLater (now (values .entry)) a (waitAt (expr depth) p (now (s .entry)) i)
+        (event .time) (event .tag) (now (reading .entry))) ⌝ }
+{
+    if byte(s, i) != event.tag {
+        return false;
     }
-    let first = w.first;
-    if t < first {
-        return Fate::Waits;
+    let first = first_at(s, i, values, a, depth);
+    let at = event.time as i64;
+    if at < first {
+        return holds(s, i, values, reading, depth);
     }
-    if holds(s, i, values, reading, depth) {
-        return Fate::Taken(last);
-    }
-    Fate::Waits
+    false
 }
 
 pub fn becomes(

@@ -1,3 +1,4 @@
 pub mod Trees
 pub mod Sorts
 pub mod WaitingUnits
+pub mod Opening

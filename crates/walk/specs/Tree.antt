@@ -48,3 +48,10 @@ pub record Tree (size : ℕ) (sights : List ℕ) (cs : List ℤ) (n : ℕ) : Typ
   pub count : n ≡ units residue
   pub few : n ≤ 128
   pub stands : TreeOf size residue sights cs
+
+-- the first unit, which waits or is a join
+pub record Front (size : ℕ) (sights : List ℕ) (cs : List ℤ) : Type 0 where
+  pub room : 24 ≤ length cs
+  pub seen : 2 ≤ length sights
+  pub waits : ltb (natOf (getD cs 0 (pos 0))) 20 ≡ true
+      → Waiting size (getD sights 0 0) (getD sights 1 0) (take 24 cs)

@@ -1,4 +1,6 @@
 // The rules at every unit of a table.
+pub mod later;
+
 ghost use mathlib.Core.Path.{_≡_};
 ghost use Prim.Native.Nat.{_≤_, _<_};
 ghost use lib.IntN.{pos};

@@ -9,7 +9,7 @@ use lib.IntN.{ℤ}
 use lib.ListN.{length, take, drop, length-drop}
 use lib.Seq.{take-all, drop-drop}
 use Rattle.csl.specs.Bytes.{part}
-use Rattle.csl.specs.Entries.{Answer, readingOf}
+use Rattle.csl.specs.Entries.{ReadingAnswer, readingOf}
 use Rattle.laws.proofs.Clash.{impossible}
 use Rattle.stream.specs.Records.{isWhole, recordsOf}
 use Rattle.stream.specs.Next.{nextOf}
@@ -29,7 +29,7 @@ pub rest-is : (l : List ℕ) (from : ℕ) → part l from (length l) ≡ drop fr
 rest-is l from = take-all (length l - from) (drop from l) (omega (arith, length-drop from l))
 
 -- what is left after a reading is what its number says
-left-after : (s : List ℕ) (n : ℕ) (a : Answer) (rest : List ℕ)
+left-after : (s : List ℕ) (n : ℕ) (a : ReadingAnswer) (rest : List ℕ)
     → elim (eqb (a .number) 8) [ true ↦ [] | false ↦ readingLines s (a .table) (n + 1) (recordsOf rest) ] ≡ left
     (stageAfter (not (eqb (a .number) 8))) s (a .table) (n + 1) rest
 left-after s n a rest = go (eqb (a .number) 8)

@@ -16,14 +16,14 @@ const ALTERED_THEN: &str = "stayed, altered at that time";
 /// 11 leaves cell 5; only a running table can need more units.
 pub const TOO_MANY_UNITS: &str = "running, refused with 11";
 
-/// A reading and the tables before and after it.
-pub struct Taken<'t> {
+/// What a reading does: the tables before and after it.
+pub struct Effect<'t> {
     pub before: &'t [i64],
     pub after: &'t [i64],
     pub reading: &'t Reading,
 }
 
-impl Taken<'_> {
+impl Effect<'_> {
     /// The places of the cells that are altered: "a unit cell or the state cell holds another number afterwards".
     fn altered(&self) -> Vec<usize> {
         let looked_at = iter::once(STATE).chain(HEAD..CELLS);

@@ -3,7 +3,7 @@
 
 use crate::agreement::{Agreement, Clause, Expression, Late, Operator};
 use crate::reading::Reading;
-use crate::rules::{self, evaluate, Outcome, Residue, Scope, Waiting};
+use crate::rules::{self, evaluate, Outcome, Residue, Scope, Waiting, Window};
 
 /// A dividend and its divisor.
 pub type Quotient = (i64, i64);
@@ -82,7 +82,7 @@ impl<'a> Walk<'a> {
         let wait = waiting.wait;
         self.expression(&wait.after, &waiting.scope);
         self.expression(&wait.within, &waiting.scope);
-        let (first, last) = waiting.window();
+        let Window { first, last } = waiting.window();
         if reading.time > last {
             self.late(waiting, last, reading);
         } else if reading.kind == wait.reading && reading.time >= first {

@@ -40,6 +40,8 @@ pub fn agreement(random: &mut Random) -> Vec<u8> {
         7..=10 => return crowded(random),
         11..=18 => return renewing(random),
         19..=22 => return taking_turns(random),
+        23..=29 => return opening_later(random),
+        30..=35 => return early_unaltered(random),
         _ => {}
     }
     let shape = [&PLAIN, &TINY, &WIDE, &DEEP, &CHAINED, &JOINED, &MANY][random.weighted(&[6, 3, 1, 2, 3, 4, 2])];
@@ -64,7 +66,11 @@ fn growing(random: &mut Random) -> Vec<u8> {
     let within = random.between(20, 400) as i32;
     let wait = build::Wait { then, ..build::simple(within) };
     let body = if random.chance(80) { wait.obligation(0) } else { wait.choice(&build::simple(within).obligation(0)) };
-    let main = if random.chance(50) { named.clone() } else { join(random, &named, &named) };
+    let mut main = if random.chance(50) { named.clone() } else { join(random, &named, &named) };
+    if random.chance(30) {
+        // Every reading is too early for this one, also the one that needs too many units.
+        main = build::and(&main, &opening(1_000, 60).obligation(0));
+    }
     let template = build::template(&[], 0, 1, &body);
     build::agreement(start(random), 2, &[build::reading_type(&[])], &[template], &main)
 }
@@ -72,7 +78,7 @@ fn growing(random: &mut Random) -> Vec<u8> {
 /// Many obligations joined in balance, up to the greatest width: too many units, or nearly so.
 fn crowded(random: &mut Random) -> Vec<u8> {
     let count = random.pick(&[20, 60, 64, 64, 65, 66, 100, 128]);
-    let crowd = crowd(random, count);
+    let crowd = crowd(random, count, &mut owed_soon);
     let main = match random.below(3) {
         0 => build::Wait { then: crowd, ..build::simple(100) }.obligation(0),
         1 if count < 128 => build::or(&crowd, &build::simple(30).obligation(0)),
@@ -81,12 +87,18 @@ fn crowded(random: &mut Random) -> Vec<u8> {
     build::agreement(start(random), 1, &[build::reading_type(&[]), build::reading_type(&[])], &[], &main)
 }
 
-fn crowd(random: &mut Random, count: usize) -> Vec<u8> {
+fn owed_soon(random: &mut Random) -> Vec<u8> {
+    let (reading, within) = (random.pick(&[1, 1, 2]), random.pick(&[0, 10, 60, 200]));
+    build::Wait { reading, ..build::simple(within) }.obligation(0)
+}
+
+/// So many clauses joined in balance.
+fn crowd(random: &mut Random, count: usize, clause: &mut impl FnMut(&mut Random) -> Vec<u8>) -> Vec<u8> {
     if count == 1 {
-        let (reading, within) = (random.pick(&[1, 1, 2]), random.pick(&[0, 10, 60, 200]));
-        return build::Wait { reading, ..build::simple(within) }.obligation(0);
+        return clause(random);
     }
-    let (left, right) = (crowd(random, count / 2), crowd(random, count - count / 2));
+    let left = crowd(random, count / 2, clause);
+    let right = crowd(random, count - count / 2, clause);
     if random.chance(80) {
         build::and(&left, &right)
     } else {
@@ -147,6 +159,90 @@ fn taking_turns(random: &mut Random) -> Vec<u8> {
     let turned = if random.chance(50) { both.clone() } else { either };
     let templates = [build::fulfilled(), turned].map(|then| build::template(&[], 0, 1, &owed(then)));
     build::agreement(start(random), 1, &[build::reading_type(&[])], &templates, &owed(both))
+}
+
+/// Waits for any reading of type 1 from so many minutes after its activation on for so long, then is fulfilled.
+fn opening(after: i32, within: i32) -> build::Wait {
+    build::Wait { after: build::number(after), ..build::simple(within) }
+}
+
+/// Waits joined, most of whose windows open minutes after their activation.
+fn opening_later(random: &mut Random) -> Vec<u8> {
+    let count = random.pick(&[1, 1, 2, 2, 3, 4, 8]);
+    let main = crowd(random, count, &mut |random| later(random, 0, 2));
+    let readings = [build::reading_type(&[Type::Number]), build::reading_type(&[Type::Number])];
+    // Near the end of 32 bits no reading is later.
+    let start = if random.chance(80) { random.pick(&[0, 100, 5_000_000]) } else { start(random) };
+    build::agreement(start, 1, &readings, &[], &main)
+}
+
+/// Such a wait, with so many values in sight and so many waits in its `then` or else at most.
+fn later(random: &mut Random, in_sight: u8, more: usize) -> Vec<u8> {
+    let low = build::binary(Operator::Less, &build::value(in_sight), &build::number(250));
+    let condition = match random.below(3) {
+        0 => build::truth(1),
+        1 => build::not(&low),
+        _ => low,
+    };
+    let after = random.pick(&[-5, 0, 1, 5, 10, 20, 30, 60, 60, 500, 1_000_000]);
+    let within = random.pick(&[0, 1, 5, 20, 60, 300, 300, 300, -1, -10]);
+    let then = match more {
+        1.. if random.chance(50) => later(random, in_sight + 2, more - 1),
+        _ => build::fulfilled(),
+    };
+    let reading = random.pick(&[1, 1, 2]);
+    let wait = build::Wait { reading, condition, then, ..opening(after, within) };
+    match more {
+        1.. if random.chance(40) => wait.choice(&later(random, in_sight, more - 1)),
+        _ => wait.obligation(0),
+    }
+}
+
+/// A reading in the minute of activation replaces units by equal ones, so that nothing alters, and it comes before the
+/// window of some unit opens: of one beside them, of one that is past as well, of one that an `or` drops, or only of
+/// one in an else.
+fn early_unaltered(random: &mut Random) -> Vec<u8> {
+    let named = |template| build::instance(template, &[], &[]);
+    let minutes = random.pick(&[1, 2, 5, 60, 1_000]);
+    let (open, to_open) = (opening(random.pick(&[0, 0, -5]), 300), opening(minutes, 300));
+    let past_too = opening(minutes, -1 - minutes);
+    let again = |then: &[u8]| build::Wait { then: then.to_vec(), ..opening(-2, 300) }.obligation(0);
+    let (bodies, main) = match random.below(8) {
+        0..=3 => beside_renewed(random, &to_open, again(&named(0))),
+        4 => (vec![past_too.choice(&again(&named(0)))], named(0)),
+        5 => {
+            let main = build::or(&named(0), &named(1));
+            (vec![past_too.obligation(0), again(&main)], main)
+        }
+        6 => {
+            let main = build::and(&build::or(&named(0), &named(1)), &named(2));
+            (vec![to_open.obligation(0), open.obligation(0), again(&main)], main)
+        }
+        _ => {
+            let dropped = build::or(&to_open.obligation(0), &open.obligation(0));
+            let otherwise = build::and(&dropped, &again(&named(0)));
+            (vec![build::simple(-1).choice(&otherwise)], named(0))
+        }
+    };
+    let templates: Vec<_> = bodies.iter().map(|body| build::template(&[], 0, 1, body)).collect();
+    build::agreement(start(random), 1, &[build::reading_type(&[Type::Number])], &templates, &main)
+}
+
+/// A unit to open beside template 0, which a reading replaces by its equal through its `then` or through its else; or
+/// template 0 alone.
+fn beside_renewed(random: &mut Random, to_open: &build::Wait, renewed: Vec<u8>) -> (Vec<Vec<u8>>, Vec<u8>) {
+    let named = build::instance(0, &[], &[]);
+    let past = opening(random.pick(&[0, -5, -5]), -1);
+    let body = if random.chance(40) { renewed } else { past.choice(&renewed) };
+    let beside = if random.chance(50) { to_open.obligation(0) } else { to_open.choice(&build::fulfilled()) };
+    let main = match random.below(6) {
+        0 | 1 => build::and(&beside, &named),
+        2 => build::and(&named, &beside),
+        3 => build::or(&beside, &named),
+        4 => build::or(&named, &beside),
+        _ => named,
+    };
+    (vec![body], main)
 }
 
 fn start(random: &mut Random) -> u32 {
@@ -386,7 +482,7 @@ impl<'r> Maker<'r> {
     }
 
     fn after(&mut self, sight: &[Type], depth: usize) -> Vec<u8> {
-        let literal = self.random.pick(&[0, 0, 0, 0, 1, 5, 10, 60, -1, -5, -20, -1_000_000_000]);
+        let literal = self.random.pick(&[0, 0, 0, 0, 1, 5, 10, 30, 60, -1, -5, -20, -1_000_000_000]);
         self.duration(literal, sight, depth)
     }
 

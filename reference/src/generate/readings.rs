@@ -3,15 +3,20 @@
 use super::random::Random;
 use crate::agreement::{Agreement, Expression, Type};
 use crate::build;
-use crate::rules::{evaluate, Outcome, Residue, Waiting};
+use crate::rules::{evaluate, Outcome, Residue, Waiting, Window};
 use crate::table::State;
 
 /// A reading for what a table holds: often one that some waiting unit wants, near its window.
 pub fn reading(random: &mut Random, agreement: &Agreement, state: &State) -> Vec<u8> {
-    let target = target(random, state);
-    let bytes = match target {
-        _ if random.chance(10) => idle(random, agreement, state),
-        Some(waiting) if random.chance(80) => aimed(random, agreement, state, waiting),
+    let special = match random.below(20) {
+        0 | 1 => Some(idle(random, agreement, state)),
+        2..=5 => too_soon(random, agreement, state),
+        6 => again(random, agreement, state),
+        _ => None,
+    };
+    let bytes = match (special, target(random, state)) {
+        (Some(special), _) => special,
+        (None, Some(waiting)) if random.chance(80) => aimed(random, agreement, state, waiting),
         _ => any(random, agreement, state),
     };
     if random.chance(10) {
@@ -25,7 +30,7 @@ pub fn reading(random: &mut Random, agreement: &Agreement, state: &State) -> Vec
 fn target<'s, 'a>(random: &mut Random, state: &'s State<'a>) -> Option<&'s Waiting<'a>> {
     let units = waiting_units(state);
     if random.chance(60) {
-        units.into_iter().min_by_key(|unit| unit.window().1)
+        units.into_iter().min_by_key(|unit| unit.window().last)
     } else {
         random.any(&units)
     }
@@ -72,11 +77,52 @@ pub fn again(random: &mut Random, agreement: &Agreement, state: &State) -> Optio
     Some(build::reading(state.last as u32, waiting.wait.reading, &fitting(random, agreement, waiting)))
 }
 
+/// A reading wanted by a unit whose window is still to open, if there is one: before its first minute, and before any
+/// unit is late if it may be. Now and then at its first minute, before the last reading, a mark, of another type, or
+/// with a false condition.
+fn too_soon(random: &mut Random, agreement: &Agreement, state: &State) -> Option<Vec<u8>> {
+    let mut closed = waiting_units(state);
+    closed.retain(|unit| unit.window().first > state.last);
+    let waiting = random.any(&closed)?;
+    let first = waiting.window().first;
+    let before_late = first_late(state).map_or(first - 1, |late| late.min(first - 1)).max(state.last);
+    let time = match random.below(12) {
+        0 => first,
+        1 => state.last - random.between(1, 20),
+        2 | 3 => first - 1,
+        4 | 5 => state.last,
+        6 => before_late,
+        _ => random.between(state.last, before_late.min(state.last + 20)),
+    };
+    let time = time.clamp(0, i64::from(u32::MAX)) as u32;
+    let wanted = waiting.wait.reading;
+    let kind = match random.below(20) {
+        0 => 0,
+        1 | 2 => 1 + random.below(agreement.readings.len()) as u8,
+        _ => wanted,
+    };
+    if kind != wanted {
+        return Some(build::reading(time, kind, &values(random, agreement, kind, None)));
+    }
+    let truth = random.chance(85);
+    Some(build::reading(time, kind, &values_for(random, agreement, waiting, truth)))
+}
+
+/// The last minute of the unit that is late first.
+fn first_late(state: &State) -> Option<i64> {
+    waiting_units(state).into_iter().map(|unit| unit.window().last).min()
+}
+
 /// Values of the type that a unit wants, such that its condition holds if they are found soon.
 fn fitting(random: &mut Random, agreement: &Agreement, waiting: &Waiting) -> Vec<i32> {
+    values_for(random, agreement, waiting, true)
+}
+
+/// Values of the type that a unit wants, such that its condition is true or false as asked if they are found soon.
+fn values_for(random: &mut Random, agreement: &Agreement, waiting: &Waiting, truth: bool) -> Vec<i32> {
     let mut values = self::values(random, agreement, waiting.wait.reading, Some(waiting));
     for _ in 0..8 {
-        if holds(waiting, &values) {
+        if holds(waiting, &values) == truth {
             break;
         }
         values = self::values(random, agreement, waiting.wait.reading, Some(waiting));
@@ -91,7 +137,7 @@ fn holds(waiting: &Waiting, values: &[i32]) -> bool {
 
 /// A time in the window as soon as may be, or near its first or last minute; seldom one before the
 /// last reading.
-fn near_window(random: &mut Random, last_reading: i64, (first, last): (i64, i64)) -> u32 {
+fn near_window(random: &mut Random, last_reading: i64, Window { first, last }: Window) -> u32 {
     let middle = if first < last { random.between(first, last) } else { first };
     let time = match random.below(20) {
         0..=9 => first.max(last_reading) + random.pick(&[0, 0, 1, 3]),
@@ -109,7 +155,7 @@ fn near_window(random: &mut Random, last_reading: i64, (first, last): (i64, i64)
 fn idle(random: &mut Random, agreement: &Agreement, state: &State) -> Vec<u8> {
     let units = waiting_units(state);
     let soon = (state.last + 50).min(i64::from(u32::MAX));
-    let late = units.iter().map(|unit| unit.window().1).min().unwrap_or(soon);
+    let late = first_late(state).unwrap_or(soon);
     let time = random.time(state.last, late.clamp(state.last, soon)) as u32;
     let unwanted = (0..=agreement.readings.len() as u8).filter(|kind| units.iter().all(|u| u.wait.reading != *kind));
     let kind = random.pick(&unwanted.collect::<Vec<_>>());

@@ -16,6 +16,8 @@ pub fn event(words: &Words, event: &Event) -> Json {
     members.extend([
         ("verdict", Json::text(word(&event.step.verdict))),
         ("refusal", Json::optional(refusal_of(&event.step.verdict), refusal)),
+        ("early", Json::Truth(event.step.early)),
+        ("early_for", early_for(words, event)),
         ("breach", Json::optional(breach, |breach| told(words, &breach, &event.broken))),
         ("last_moved", Json::Number(event.last_moved.into())),
         ("last_moved_date", date(words, event.last_moved.into())),
@@ -101,6 +103,12 @@ fn told(words: &Words, breach: &Breach, broken: &Told<Vec<Pending>>) -> Json {
         ("duties", Json::List(duties)),
         ("unexplained", unexplained),
     ])
+}
+
+/// The clauses that a reading was too early for; null where they cannot be told.
+fn early_for(words: &Words, event: &Event) -> Json {
+    let list = |windows: &Vec<Pending>| Json::List(windows.iter().map(|one| pending(words, one)).collect());
+    Json::optional(event.early.as_ref().ok(), list)
 }
 
 /// Null where they cannot be told.

@@ -12,6 +12,7 @@ pub fn event(words: &Words, event: &Event) -> String {
     let mut lines = vec![format!("{}  {}", words.time(event.time.into()), event.what)];
     let mut under = |line: String| lines.push(format!("    {line}"));
     changes(words, event).into_iter().for_each(&mut under);
+    early(words, event).into_iter().for_each(&mut under);
     verdict(words, event).into_iter().for_each(under);
     lines.join("\n") + "\n"
 }
@@ -22,6 +23,16 @@ fn changes(words: &Words, event: &Event) -> Vec<String> {
         (Err(why), _) => vec![format!("what it changed cannot be told: {why}")],
         (Ok(changes), _) if changes.is_empty() => vec!["nothing changes".to_string()],
         (Ok(changes), _) => changes.iter().map(|change| changed(words, change)).collect(),
+    }
+}
+
+/// Each window that a reading was too early for, where the library says that it was.
+fn early(words: &Words, event: &Event) -> Vec<String> {
+    let told = |one: &Pending| [words.too_early(one), format!("        {}", waiting(words, one))];
+    match &event.early {
+        _ if !event.step.early => Vec::new(),
+        Ok(windows) => windows.iter().flat_map(told).collect(),
+        Err(why) => vec![format!("too early: which window opens later cannot be told: {why}")],
     }
 }
 

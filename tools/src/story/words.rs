@@ -82,6 +82,11 @@ impl<'s> Words<'s> {
         window
     }
 
+    /// What is said of a reading that came before its window.
+    pub fn too_early(&self, pending: &Pending) -> String {
+        format!("too early: the window opens at {}", self.time(pending.first))
+    }
+
     /// The line of the text where the clause stands.
     pub fn line(&self, pending: &Pending) -> Option<usize> {
         self.source.place(pending.wait.place).map(|place| place.line)

@@ -32,7 +32,7 @@ pub struct Tick {
     pub time: i64,
     pub what: String,
     pub refused: bool,
-    /// The date and the verdict, for those who point at it.
+    /// The date and the verdict, and if it came too early the next window to open, for those who point at it.
     pub title: String,
 }
 
@@ -78,9 +78,17 @@ fn tick(words: &Words, event: &Event) -> Tick {
     let time = i64::from(event.time);
     Tick {
         time,
-        what: event.what.clone(),
+        what: format!("{}{}", event.what, if event.step.early { " (too early)" } else { "" }),
         refused: matches!(event.step.verdict, Verdict::Refused(_)),
-        title: format!("{} {}: {}", words.time(time), event.what, event.step.verdict),
+        title: format!("{} {}: {}{}", words.time(time), event.what, event.step.verdict, early(words, event)),
+    }
+}
+
+/// What is added to the title of a reading that the library marked.
+fn early(words: &Words, event: &Event) -> String {
+    match event.early.iter().flatten().next() {
+        Some(window) if event.step.early => format!("; {}", words.too_early(window)),
+        _ => String::new(),
     }
 }
 

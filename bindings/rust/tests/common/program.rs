@@ -13,7 +13,7 @@ pub fn watch(mut input: &[u8]) -> String {
     for line in 1.. {
         let Some(reading) = next(&mut input) else { break };
         match table.reading(&agreement, &reading) {
-            Ok(()) => written += &format!("{line} {} {}\n", time(&reading), verdict(&agreement, &table)),
+            Ok(_) => written += &format!("{line} {} {}\n", time(&reading), verdict(&agreement, &table)),
             Err(Refusal::ReadingForm) => return written + &format!("{line} - REFUSED 8\n"),
             Err(refusal) => written += &format!("{line} {} REFUSED {}\n", time(&reading), refusal.number()),
         }

@@ -1,6 +1,9 @@
 //! An agreement under way.
 
-use givuntha::{Refusal, Table};
+use givuntha::{Refusal, Table, Taken};
+
+/// The answer to a reading that is accepted and not too early.
+pub const TAKEN: Result<Taken, Refusal> = Ok(Taken { early: false });
 
 pub struct Run {
     pub agreement: Vec<u8>,
@@ -13,7 +16,7 @@ impl Run {
         Run { agreement, table }
     }
 
-    pub fn take(&mut self, record: &[u8]) -> Result<(), Refusal> {
+    pub fn take(&mut self, record: &[u8]) -> Result<Taken, Refusal> {
         self.table.reading(&self.agreement, record)
     }
 }

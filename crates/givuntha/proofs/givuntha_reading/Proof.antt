@@ -1,24 +1,36 @@
--- `givuntha_reading` gives the number of `reading`'s answer.
+-- `givuntha_reading` gives the number and the mark of `reading`'s answer.
 use borrow.Author.Needs.{needs}
 use mathlib.Core.Path.{sym, ap, _∙_}
+use Rattle.csl.specs.Early.{markOf}
+use Rattle.monitor.specs.declared.Taken.the-variants.{Accepted}
 use Rattle.monitor.specs.Answers.{takenAnswer}
-use Rattle.givuntha.proofs.Records.{tableLeft}
+use Rattle.givuntha.proofs.Records.{readingLeft}
 use Rattle.givuntha.proofs.givuntha_reading.Statement.{statement}
 use Rattle.givuntha.proofs.givuntha_reading.Tie as tie
 
 returns : tie.Need-returns
+unfolding markOf
 returns c =
-    let at-reading = c .before .before .before in
-    ap (λ r. takenAnswer r (at-reading .reading .last .1 .0)) (sym (c .enum-told .given .1)) ∙
-    at-reading .reading .ensures
+    let at-mark = c .before .before in
+    let at-reading = at-mark .before .before .before in
+    ap (λ r. takenAnswer r (at-reading .reading .last .1 .0))
+    (sym (at-mark .mark .given .1 ∙ ap Accepted (c .if1 .taken))) ∙ at-reading .reading .ensures
 
 returns-2 : tie.Need-returns-2
+unfolding markOf
 returns-2 c =
-    let at-reading = c .before .before .before .before .before in
-    ap (tableLeft (at-reading .reading .last .1 .0)) (c .number .ensures) ∙ ap
-    (λ r. takenAnswer r (at-reading .reading .last .1 .0)) (sym (c .before .before .why .given .1)) ∙
-    at-reading .reading .ensures
+    let at-mark = c .before .before in
+    let at-reading = at-mark .before .before .before in
+    ap (λ r. takenAnswer r (at-reading .reading .last .1 .0))
+    (sym (at-mark .mark .given .1 ∙ ap Accepted (c .if1 .left))) ∙ at-reading .reading .ensures
+
+returns-3 : tie.Need-returns-3
+returns-3 c =
+    let at-why = c .before .before in
+    let at-reading = at-why .before .before .before in
+    ap (readingLeft (at-reading .reading .last .1 .0) 0) (c .number .ensures) ∙ ap
+    (λ r. takenAnswer r (at-reading .reading .last .1 .0)) (sym (at-why .why .given .1)) ∙ at-reading .reading .ensures
 
 pub givuntha-reading-spec : {M : Type 1} → statement M
 givuntha-reading-spec = tie.close (tie.spec (λ c κs. search needs) (λ c. search needs) (λ c. search needs)
-    (λ c κs. search needs) (λ c. search needs) returns (λ c. search needs) returns-2)
+    (λ c κs. search needs) (λ c. search needs) returns (λ c. search needs) returns-2 (λ c. search needs) returns-3)

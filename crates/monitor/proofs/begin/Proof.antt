@@ -13,19 +13,21 @@ advance-requires c κs =
 
 returns : tie.Need-returns
 returns c =
-    let at-time = c .before .before .before .before .before .before in
+    let at-advance = c .before .before .before in
+    let at-time = at-advance .before .before .before .before in
     let at-start = at-time .before .before .before in
-    begin-no (at-start .pre .0 .1) (at-start .pre .1) _ _ (c .before .before .advance .ensures)
-    (at-time .unsigned32 .ensures .0) (c .if1 .taken)
+    begin-no (at-start .pre .0 .1) (at-start .pre .1) _ _ (at-advance .advance .ensures)
+    (at-time .unsigned32 .ensures .0) (c .enum-told .given .1)
 
 returns-2 : tie.Need-returns-2
 returns-2 c =
-    let at-time = c .before .before .before .before .before .before in
+    let at-advance = c .before .before .before in
+    let at-time = at-advance .before .before .before .before in
     let at-start = at-time .before .before .before in
-    begin-yes (at-start .pre .0 .1) (at-start .pre .1) _ _ (c .before .before .advance .ensures)
-    (at-time .unsigned32 .ensures .0) (c .if1 .left)
+    begin-yes (at-start .pre .0 .1) (at-start .pre .1) _ _ (at-advance .advance .ensures)
+    (at-time .unsigned32 .ensures .0) (c .enum-told2 .given .1)
 
 pub begin-spec : {M : Type 1} → statement M
 begin-spec = tie.close (tie.spec
-    (λ c κs. search needs) (λ c. search needs) (λ c. search needs) advance-requires (λ c. search needs) returns
-    (λ c. search needs) returns-2)
+    (λ c κs. search needs) (λ c. search needs) (λ c. search needs) advance-requires (λ c. search needs)
+    (λ c. search needs) (λ c. search needs) returns (λ c. search needs) returns-2)

@@ -25,7 +25,10 @@ settle-requires c κs =
     let due = at-start .pre .0 in (
       due .isTable,
       due .held,
-      record { room = λ h. omega (arith, at-if1 .before .units-of .ensures, at-if1 .if1 .left) },
+      record {
+        few = omega (arith, at-if1 .before .units-of .ensures, at-if1 .if1 .left, at-start .pre .1);
+        room = omega (arith, at-if1 .before .units-of .ensures, at-if1 .if1 .left);
+      },
       (time-cell (due .soon)) .0,
       reduced-few due _ _ (at-reduce .reduce .ensures),
     )
@@ -35,9 +38,9 @@ returns-2 c =
     let at-if1 = c .before .before .before .before .before in
     let at-reduce = at-if1 .before .before .before in
     let at-start = at-reduce .before .before .before .before .before .before in
-    tried-room (at-start .pre .0) _ _ (at-reduce .reduce .ensures) (search needs) (at-if1 .before .units-of .ensures)
-    (omega (arith, at-if1 .if1 .left)) (search needs) ((time-cell (at-start .pre .0 .soon)) .1)
-    (c .before .settle .ensures)
+    tried-room (at-start .pre .0) _ _ (at-reduce .reduce .ensures)
+    (omega (arith, at-if1 .before .units-of .ensures, at-if1 .if1 .left, at-start .pre .1))
+    ((time-cell (at-start .pre .0 .soon)) .1) (c .before .settle .ensures)
 
 pub reduce-into-spec : {M : Type 1} → statement M
 reduce-into-spec = tie.close (tie.spec
