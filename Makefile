@@ -1,5 +1,5 @@
 # make          proves and builds the library for C, brinewatch and the tool `agreement`
-# make test     the gate: every proof from nothing, then all tests (some 30 minutes)
+# make test     the gate: every proof from nothing, then all tests (some 40 minutes)
 # make install  header, library, pkg-config file and the two programs under PREFIX
 PREFIX ?= /usr/local
 DESTDIR ?=

@@ -6,15 +6,16 @@
  * number in which bit n stands for party n; parties count from 0 and there are at most 16.
  *
  * Answers. Every function answers GIVUNTHA_ACCEPTED (0) or the number of a refusal, the lowest that applies. A
- * refusal leaves the table as it was and sets the other results to 0. No call relies on an earlier one: whatever
- * bytes and cells are lent, each is judged anew.
+ * refusal leaves the table as it was and sets the other results to 0, all but one: the cost of a reading that is
+ * refused with GIVUNTHA_UNITS (11). No call relies on an earlier one: whatever bytes and cells are lent, each is judged
+ * anew.
  *
  * What the caller owes:
  * - No pointer is null, not even one of length 0: lend any aligned address.
  * - Each run of memory is as long as its length says; lengths are in bytes for bytes, in cells for cells.
  * - The table and the single results are aligned to 8 bytes.
- * - What is written (table, time, parties, early) overlaps nothing else that is lent, and during the call nobody else
- *   reads or writes it. What is only read may be shared, but nobody writes it during the call.
+ * - What is written (table, time, parties, early, cost) overlaps nothing else that is lent, and during the call nobody
+ *   else reads or writes it. What is only read may be shared, but nobody writes it during the call.
  * - The thread has GIVUNTHA_STACK_BYTES of stack left. Less is enough for most agreements; an overflow meets the
  *   guard page, since each page of stack is touched as it is taken.
  *
@@ -140,9 +141,12 @@ enum givuntha_unit {
 
 /*
  * Stack for a call on x86-64. bench/stack derives from the compiled code that no call takes more; the deepest that we
- * built, a reading, takes 334,751 bytes.
+ * built, a reading, runs in 347,400 bytes.
  */
 #define GIVUNTHA_STACK_BYTES 524288
+
+/* No reading costs more: it is at most 65,792 for each of GIVUNTHA_TABLE_UNITS units. */
+#define GIVUNTHA_MOST_COST 8421376
 
 /* Checks an agreement. *parties becomes the parties that it can blame. */
 uint32_t givuntha_check(const uint8_t *agreement, size_t agreement_bytes, uint64_t *parties);
@@ -158,9 +162,15 @@ uint32_t givuntha_start(const uint8_t *agreement, size_t agreement_bytes, int64_
  * table was running, no unit or state altered (as at GIVUNTHA_HEAD_LAST_MOVED), and at least one waiting unit wants
  * this type, finds `where` true, and has a window that opens later than the reading. Nothing but the last reading time
  * has changed then, and the reading does not count for that window. A refusal's early is 0.
+ *
+ * *cost becomes what the reading costs: one for each unit of the table, which is every unit in use, and one for each
+ * clause activated. An else that follows the same reading is not counted again for that; sides that are later dropped
+ * count. It is 0 on a fulfilled or breached table, and on a refusal other than GIVUNTHA_UNITS. On GIVUNTHA_UNITS it is
+ * the refused reading's, and not zero, the one result that is not zero on a refusal. It is at most 65,792 for each unit
+ * in use, so at most GIVUNTHA_MOST_COST.
  */
 uint32_t givuntha_reading(const uint8_t *agreement, size_t agreement_bytes, int64_t *table, size_t table_cells,
-                          const uint8_t *reading, size_t reading_bytes, uint64_t *early);
+                          const uint8_t *reading, size_t reading_bytes, uint64_t *early, uint64_t *cost);
 
 /*
  * Tells what a run comes to without further readings: *time becomes the breach's time, which may exceed 32 bits, and

@@ -27,6 +27,11 @@ impl Case {
         Case { name: name.to_string(), agreement, table, reading }
     }
 
+    /// 64 units at choices, given a reading of type 2 that finds all of them late.
+    fn late(name: &str, agreement: Vec<u8>, values: &[i32]) -> Case {
+        Case::after(name, agreement, &[reading(105, 1, &[])], reading(1000, 2, values))
+    }
+
     pub fn units(&self) -> i64 {
         self.table[4]
     }
@@ -38,7 +43,7 @@ pub fn all() -> Vec<Case> {
     cases.push(small_clauses(32));
     cases.push(expressions(768));
     cases.extend(unit_cases());
-    cases.push(activations(127, 128));
+    cases.push(activations(128, 128));
     cases
 }
 
@@ -100,16 +105,67 @@ fn wide() -> Case {
 
 /// 64 units at choices that a reading finds late: each activates an else of so many obligations, and each of
 /// these takes the same reading and activates so many fulfilled clauses under joins. No width allows more than
-/// 127 and 128.
+/// 128 and 128, and no else of such a width activates more.
 pub fn activations(obligations: usize, fulfilments: usize) -> Case {
     let settled = template(&[], 0, 0, &tree(fulfilments, &fulfilled()));
     let prompt = Wait { reading: 2, then: instance(0, &[], &[]), ..simple(LONG) }.obligation(0);
-    let late = template(&[], 0, 1, &simple(60).choice(&tree(obligations, &prompt)));
-    let first = Wait { then: instance(1, &[], &[]), ..simple(LONG) }.obligation(0);
-    let types = [reading_type(&[]), reading_type(&[])];
-    let bytes = agreement(100, 1, &types, &[settled, late], &tree(64, &first));
     let clauses = 64 * (2 * obligations - 1 + obligations * 2 * fulfilments);
-    Case::after(&format!("{clauses} activations"), bytes, &[reading(105, 1, &[])], reading(1000, 2, &[]))
+    let bytes = late_choices(&[settled], &[], &tree(obligations, &prompt));
+    Case::late(&format!("{clauses} activations"), bytes, &[])
+}
+
+/// Readings built to cost or to last as much as can be.
+pub fn heaviest() -> Vec<Case> {
+    vec![activations(128, 128), passed_over(), evaluations()]
+}
+
+/// Each else is fulfilled when it is activated, beside as many obligations as its width allows: these are
+/// activated, but follow nothing, and their `then`s do not count.
+fn passed_over() -> Case {
+    let settled = template(&[], 0, 0, &tree(128, &fulfilled()));
+    let prompt = Wait { reading: 2, then: instance(0, &[], &[]), ..simple(LONG) }.obligation(0);
+    let bytes = late_choices(&[settled], &[], &or(&fulfilled(), &tree(127, &prompt)));
+    Case::late("an `or` fulfilled at once", bytes, &[])
+}
+
+/// 120 obligations in each else, 64 instances in the `then` of each, and one expression that every one of these
+/// evaluates, as long as the agreement has bytes left. The else is doubled by templates: that costs it 8
+/// obligations, and leaves the expression more bytes.
+fn evaluations() -> Case {
+    let most = (1..).take_while(|pairs| evaluating(pairs + 1).len() <= 16_384).last().expect("one that fits");
+    Case::late("one expression 491520 times", evaluating(most), &[7])
+}
+
+fn evaluating(pairs: usize) -> Vec<u8> {
+    let (none, number) = (&[][..], &[Type::Number][..]);
+    let prompt = Wait { reading: 2, then: instance(2, &[value(0)], &[]), ..simple(LONG) }.obligation(0);
+    let twice = |k| and(&instance(k, &[], &[]), &instance(k, &[], &[]));
+    let templates = [
+        template(number, 0, 0, &fulfilled()),
+        template(number, 0, 0, &instance(0, &[mixed(pairs, 0)], &[])),
+        template(number, 0, 0, &tree(64, &instance(1, &[value(0)], &[]))),
+        template(none, 0, 1, &tree(15, &prompt)),
+        template(none, 0, 1, &twice(3)),
+        template(none, 0, 1, &twice(4)),
+    ];
+    late_choices(&templates, number, &twice(5))
+}
+
+/// An agreement of 64 obligations that lead to choices with this else.
+fn late_choices(templates: &[Vec<u8>], values: &[Type], otherwise: &[u8]) -> Vec<u8> {
+    let first = Wait { then: simple(60).choice(otherwise), ..simple(LONG) }.obligation(0);
+    let all = [templates, &[template(&[], 0, 1, &first)]].concat();
+    let main = tree(64, &instance(templates.len() as u8, &[], &[]));
+    agreement(100, 1, &[reading_type(&[]), reading_type(values)], &all, &main)
+}
+
+/// So many pairs of values under operators that take turns, in balance.
+fn mixed(pairs: usize, level: usize) -> Vec<u8> {
+    let operator = [Operator::Times, Operator::Minus, Operator::Plus][level % 3];
+    match pairs {
+        1 => binary(operator, &value(0), &value(0)),
+        _ => binary(operator, &mixed(pairs / 2, level + 1), &mixed(pairs - pairs / 2, level + 1)),
+    }
 }
 
 /// So many leaves joined by `and`, in balance.

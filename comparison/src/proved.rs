@@ -14,6 +14,7 @@ extern "C" {
         reading: *const u8,
         reading_bytes: usize,
         early: *mut u64,
+        cost: *mut u64,
     ) -> u32;
     fn givuntha_forecast(
         agreement: *const u8,
@@ -41,14 +42,15 @@ pub fn start(agreement: &[u8], table: &mut [i64]) -> u32 {
     unsafe { givuntha_start(agreement.as_ptr(), agreement.len(), table.as_mut_ptr(), table.len()) }
 }
 
-/// The number and the mark.
-pub fn reading(agreement: &[u8], table: &mut [i64], reading: &[u8]) -> (u32, u64) {
-    let mut early = UNWRITTEN;
+/// The number, the mark and the cost.
+pub fn reading(agreement: &[u8], table: &mut [i64], reading: &[u8]) -> (u32, u64, u64) {
+    let (mut early, mut cost) = (UNWRITTEN, UNWRITTEN);
     let (bytes, cells, reading_bytes) = (agreement.len(), table.len(), reading.len());
     let (agreement, table, reading) = (agreement.as_ptr(), table.as_mut_ptr(), reading.as_ptr());
     // SAFETY: as in `check`.
-    let number = unsafe { givuntha_reading(agreement, bytes, table, cells, reading, reading_bytes, &mut early) };
-    (number, early)
+    let number =
+        unsafe { givuntha_reading(agreement, bytes, table, cells, reading, reading_bytes, &mut early, &mut cost) };
+    (number, early, cost)
 }
 
 /// The number, the time and the parties.
@@ -75,8 +77,8 @@ pub fn answer(call: &Call) -> Answer {
             Answer::Start { number, table }
         }
         Entry::Reading { table, reading: bytes } => {
-            let ((number, early), table) = lend(table, |cells| reading(agreement, cells, bytes));
-            Answer::Reading { number, early: u32::try_from(early).unwrap_or(u32::MAX), table }
+            let ((number, early, cost), table) = lend(table, |cells| reading(agreement, cells, bytes));
+            Answer::Reading { number, early: u32::try_from(early).unwrap_or(u32::MAX), cost, table }
         }
         Entry::Forecast { table } => {
             let (number, time, parties) = forecast(agreement, table);

@@ -1,7 +1,8 @@
 """The calls of the program `trials`, cause by cause, each with what must come back: written by hand from the papers."""
 from records import *
 
-# a cause, or (entry, agreement, table, reading, number, parties or table after); behind it a reading's mark, if not 0
+# a cause, or (entry, agreement, table, reading, number, parties or table after); behind it a reading's mark, if not 0,
+# and from No. 9 on its cost: cost.py says it of the others
 CALLS = []
 
 
@@ -1419,3 +1420,302 @@ for i in (0, 1, 31, 32, 62, 63):
     early(*among([i]), level(110))
 not_early(*among([]), level(110))
 early(*among(range(64)), level(110))
+
+# paper 02, No. 9. Each cost is a sum: the units in use, then the clauses that each `then` and each else activates
+def costs(cost, data, table, r, after, mark=0): call("reading", data, table, r, 0, after, mark, cost)
+def costs_nothing(number, data, table, r): call("reading", data, table, r, number, table, 0, 0)
+def exceeds(cost, data, table, r): call("reading", data, table, r, 11, table, 0, cost)
+def idly(table, r): return altered(1, int.from_bytes(r[4:8], "little"), table)
+
+
+# three clauses, an `and` of two obligations that wait for a bell; an obligation that has them as its `then`
+TWO_BELLS, TWO_WAIT = both(BELL, LONGER), (20, BELL, LONGER)
+THEN_BELLS = then_is(TWO_BELLS)
+
+
+def lapsing(other):
+    """A choice of a bell until 105, if activated at the start."""
+    return may(2, within=lit(5), other=other)
+
+
+def belated(other):
+    """A choice that is late as soon as it is activated."""
+    return may(2, within=lit(-1), other=other)
+
+
+def wide(n, waits):
+    """The units of so many that wait, joined in balance."""
+    return spread(lambda a, b: [joining(20), *a, *b], [[waits]] * n)
+
+
+def comes_to(data, time, a, parts, sees=()):
+    """A table altered at this time: joins, by their sort, and clauses that wait since a; without any, fulfilled."""
+    waits = [joining(p) if p in (20, 21) else unit(data, p, a, sees=sees) for p in parts]
+    return running(time, waits, time) if waits else fulfilled(time, time)
+
+
+def by_then(cost, then, *parts, bodies=()):
+    """An obligation, the only unit, takes a level of 7 at 110. A template's body does not see it."""
+    data, table = alone(then_is(then), *bodies)
+    costs(cost, data, table, level(110, 7), comes_to(data, 110, 110, parts, () if bodies else (7, 50)))
+
+
+def by_else(cost, r, other, *parts, a=105, sees=(), bodies=()):
+    """A choice until 105, the only unit, is late at 106."""
+    data, table = alone(lapsing(other), *bodies)
+    costs(cost, data, table, r, comes_to(data, 106, a, parts, sees))
+
+
+MARK, LEVEL = event(106), level(106, 7)
+SEEN = dict(a=106, sees=(7, 59))  # by a `then` in an else, which was activated at 105 and has 60 minutes
+
+# "Count one for each unit of the table read, which is every unit in use"
+cause("cost: a unit that waits on: at a mark, another type, `where` false, too early; an obligation and a choice")
+OPENS_AT_120 = dict(where=below(5), **from_to(120, 160), then=TWO_BELLS)
+for clause in (owes(**OPENS_AT_120), may(**OPENS_AT_120, other=TWO_BELLS)):
+    data, table = alone(clause)
+    for r, early_mark in ((event(110), 0), (bell(125), 0), (level(125, 5), 0), (level(119, 4), 1)):
+        costs(1, data, table, r, idly(table, r), early_mark)
+cause("cost: joins are units too: three units, five, 127")
+for join, sort in JOINS:
+    data = pond(join(join(BELL, LONGER), UNMET))
+    three, five = units(data, sort, BELL, LONGER), [joining(sort), *units(data, sort, BELL, LONGER), unit(data, UNMET)]
+    costs(3, data, running(100, three), event(110), running(110, three))
+    costs(5, data, running(100, five), event(110), running(110, five))
+costs(127, *among([]), event(110), altered(1, 110, among([])[1]))
+cause("cost: a breach activates nothing: of one unit, of three")
+costs(1, *alone(THEN_BELLS), level(161), shown(161, 160, 1))
+for pair in ((SOON, BELL), (BELL, SOON)):
+    data = pond(both(*pair))
+    costs(3, data, running(100, units(data, 20, *pair)), MARK, shown(106, 105, 1))
+
+# "and one for each clause activated, in the sense of 01's activating"
+OWES_BELLS, OFFERS_BELLS = owes(wanted=2, then=TWO_BELLS), may(2, then=TWO_BELLS, other=TWO_BELLS)
+cause("cost: a `then` that is fulfilled")
+by_then(1 + 1, NIL)
+cause("cost: an obligation, without its own `then`")
+by_then(1 + 1, OWES_BELLS, OWES_BELLS)
+cause("cost: a choice, without its own `then` and else")
+by_then(1 + 1, OFFERS_BELLS, OFFERS_BELLS)
+cause("cost: an if and the side that it picks, by a truth, by the reading's value, in another if")
+by_then(1 + (1 + 3), cond(YES, TWO_BELLS, NIL), *TWO_WAIT)
+by_then(1 + (1 + 1), cond(truth(0), TWO_BELLS, NIL))
+by_then(1 + (1 + 3), cond(below(8), TWO_BELLS, NIL), *TWO_WAIT)
+by_then(1 + (1 + 1), cond(neg(neg(below(7))), TWO_BELLS, NIL))
+by_then(1 + (1 + (1 + 3)), cond(YES, cond(truth(0), NIL, TWO_BELLS), NIL), *TWO_WAIT)
+cause("cost: an `and` and both sides, a fulfilled one too")
+by_then(1 + (1 + 1 + 1), TWO_BELLS, *TWO_WAIT)
+by_then(1 + (1 + 1 + 3), both(NIL, TWO_BELLS), *TWO_WAIT)
+by_then(1 + (1 + 3 + 1), both(TWO_BELLS, NIL), *TWO_WAIT)
+by_then(1 + (1 + 1 + 1), both(NIL, NIL))
+cause("cost: an `or` and both sides, what a fulfilled one drops too")
+by_then(1 + (1 + 1 + 1), either(BELL, LONGER), 21, BELL, LONGER)
+by_then(1 + (1 + 1 + 3), either(NIL, TWO_BELLS))
+by_then(1 + (1 + 3 + 1), either(TWO_BELLS, NIL))
+by_then(1 + (1 + 1 + 1), either(NIL, NIL))
+cause("cost: an instance and its template's body, which may be another instance; values are no clauses")
+by_then(1 + (1 + 3), inst(0), *TWO_WAIT, bodies=[TWO_BELLS])
+by_then(1 + (1 + (1 + 3)), inst(1), *TWO_WAIT, bodies=[TWO_BELLS, inst(0)])
+costs(1 + (1 + 1), VALUED, valued(1, 105), event(120, 1, [2]), valued(2, 120))
+cause("cost: a choice that takes the reading; its else is not activated")
+data, table = alone(may(then=TWO_BELLS, other=NIL))
+costs(1 + 3, data, table, level(110, 7), comes_to(data, 110, 110, TWO_WAIT, (7, 50)))
+cause("cost: a `then` is not given the same reading: the next one activates what follows")
+data, table = alone(then_is(THEN_BELLS))
+one_taken = comes_to(data, 110, 110, [THEN_BELLS], (7, 50))
+costs(1 + 1, data, table, level(110, 7), one_taken)
+costs(1 + 3, data, one_taken, level(110, 8), comes_to(data, 110, 110, TWO_WAIT, (7, 50, 8, 60)))
+cause("cost: both sides of a join take the reading, or one of them")
+for join, sort in JOINS:
+    data = pond(join(then_is(BELL), then_is(LONGER)))
+    table = running(100, units(data, sort, then_is(BELL), then_is(LONGER)))
+    costs(3 + 1 + 1, data, table, level(110, 7), comes_to(data, 110, 110, (sort, BELL, LONGER), (7, 50)))
+    data = pond(join(BELL, then_is(LONGER)))
+    costs(3 + 1, data, running(100, units(data, sort, BELL, then_is(LONGER))), level(110, 7),
+          running(110, [joining(sort), unit(data, BELL), unit(data, LONGER, 110, sees=(7, 50))], 110))
+cause("cost: the unit is replaced by its equal, no cell alters: activated all the same")
+costs(1 + (1 + 1), renewed(0), renewing(0, 120), level(120), renewing(0, 120))
+
+cause("cost: an else of each kind, of which nothing takes the reading or is late")
+by_else(1 + 1, MARK, NIL)
+by_else(1 + 1, MARK, OWES_BELLS, OWES_BELLS)
+by_else(1 + 1, MARK, OFFERS_BELLS, OFFERS_BELLS)
+by_else(1 + (1 + 3), MARK, cond(YES, TWO_BELLS, NIL), *TWO_WAIT)
+by_else(1 + (1 + 1), MARK, cond(truth(0), TWO_BELLS, NIL))
+by_else(1 + (1 + 1 + 1), MARK, TWO_BELLS, *TWO_WAIT)
+by_else(1 + (1 + 1 + 1), MARK, either(BELL, LONGER), 21, BELL, LONGER)
+by_else(1 + (1 + 3), MARK, inst(0), *TWO_WAIT, bodies=[TWO_BELLS])
+cause("cost: an else that is breached by the same reading")
+MISSED = owes(wanted=2, within=lit(0))
+costs(1 + 1, *alone(lapsing(MISSED)), MARK, shown(106, 105, 1))
+
+# three choices and an obligation, each the else of the one before, ten minutes each: to 110, 120, 130, 140
+LINKS = [owes(within=lit(10))]
+for _ in range(3):
+    LINKS.insert(0, may(within=lit(10), other=LINKS[0]))
+CHAIN, UNTRIED = alone(LINKS[0])
+cause("cost: a chain of elses: as many as are late; the next one takes the reading, and is fulfilled")
+for elses, time in ((0, 110), (1, 111), (1, 120), (2, 121), (2, 130), (3, 131), (3, 140)):
+    waits = running(time, [unit(CHAIN, LINKS[elses], 100 + 10 * elses)], time if elses else 100)
+    costs(1 + elses, CHAIN, UNTRIED, event(time), waits)
+    costs(1 + elses + 1, CHAIN, UNTRIED, level(time), fulfilled(time, time))
+cause("cost: to its end, where the obligation is breached: at once and by turns")
+costs(1 + (1 + 1 + 1), CHAIN, UNTRIED, event(141), shown(141, 140, 1))
+costs(1 + (1 + 1 + 1), CHAIN, UNTRIED, level(141), shown(141, 140, 1))
+SECOND_LINK, FOURTH_LINK = comes_to(CHAIN, 111, 110, LINKS[1:2]), comes_to(CHAIN, 131, 130, LINKS[3:])
+costs(1 + 1, CHAIN, UNTRIED, event(111), SECOND_LINK)
+costs(1 + (1 + 1), CHAIN, SECOND_LINK, event(131), FOURTH_LINK)
+costs(1, CHAIN, FOURTH_LINK, event(141), shown(141, 140, 1))
+cause("cost: choices late as soon as they are activated, also as deep as records nest")
+by_else(1 + (1 + 1 + 3), MARK, belated(belated(TWO_BELLS)), *TWO_WAIT)
+by_else(1 + (21 + 1), MARK, nested(belated, 21, NIL))
+
+# "an else that follows the same reading is not counted again for that"
+cause("cost: a `then` under an else, under two of them; without the reading that it takes")
+by_else(1 + 1, MARK, THEN_BELLS, THEN_BELLS)
+by_else(1 + 1 + 3, LEVEL, THEN_BELLS, *TWO_WAIT, **SEEN)
+by_else(1 + 1 + 1 + 3, LEVEL, belated(THEN_BELLS), *TWO_WAIT, **SEEN)
+cause("cost: such a `then` is not given the same reading, be it one that would be late")
+by_else(1 + 1 + 1, LEVEL, then_is(THEN_BELLS), THEN_BELLS, **SEEN)
+by_else(1 + 1 + 1, LEVEL, then_is(belated(TWO_BELLS)), belated(TWO_BELLS), **SEEN)
+cause("cost: an else of two waits: one follows, both, by a `then` and by an else")
+by_else(1 + 3, MARK, both(then_is(BELL), LONGER), 20, then_is(BELL), LONGER)
+data, table = alone(lapsing(both(then_is(BELL), LONGER)))
+costs(1 + 3 + 1, data, table, LEVEL,
+      running(106, [joining(20), unit(data, BELL, 106, sees=(7, 59)), unit(data, LONGER, 105)], 106))
+by_else(1 + 3 + (1 + 1) + 1, LEVEL, both(belated(then_is(BELL)), then_is(LONGER)), *TWO_WAIT, **SEEN)
+by_else(1 + 3 + (1 + 1), MARK, both(belated(BELL), belated(LONGER)), *TWO_WAIT)
+cause("cost: the sides of an if in an else: the one that is picked follows")
+by_else(1 + (1 + 1) + 3, LEVEL, cond(YES, THEN_BELLS, owes()), *TWO_WAIT, **SEEN)
+by_else(1 + (1 + 1) + 1, LEVEL, cond(truth(0), THEN_BELLS, owes()))
+cause("cost: 64 late choices, each with its else, and with its `then` too")
+MANY_LAPSE = pond(many(64), lapsing(owes()))
+ALL_LAPSE = running(100, wide(64, unit(MANY_LAPSE, lapsing(owes()))))
+costs(127 + 64, MANY_LAPSE, ALL_LAPSE, MARK, running(106, wide(64, unit(MANY_LAPSE, owes(), 105)), 106))
+costs(127 + 64 * (1 + 1), MANY_LAPSE, ALL_LAPSE, LEVEL, fulfilled(106, 106))
+
+# "Sides that are later dropped count."
+cause("cost: a side that an `or` drops, the reading fulfilling the other: what its `then` or its else activated")
+for dropped in (THEN_BELLS, lapsing(TWO_BELLS)):
+    for pair in ((dropped, owes()), (owes(), dropped)):
+        data = pond(either(*pair))
+        costs(3 + 3 + 1, data, running(100, units(data, 21, *pair)), LEVEL, fulfilled(106, 106))
+cause("cost: a side that an `and` drops, the other being breached")
+for dropped in (THEN_BELLS, lapsing(TWO_BELLS)):
+    for pair in ((dropped, SOON), (SOON, dropped)):
+        data = pond(both(*pair))
+        costs(3 + 3, data, running(100, units(data, 20, *pair)), LEVEL, shown(106, 105, 1))
+cause("cost: a side that an `or` loses: its else is breached")
+for pair in ((lapsing(MISSED), BELL), (BELL, lapsing(MISSED))):
+    data = pond(either(*pair))
+    costs(3 + 1, data, running(100, units(data, 21, *pair)), MARK, running(106, [unit(data, BELL)], 106))
+cause("cost: dropped within an else: by the `or` that the reading fulfils, by the `and` that is breached")
+by_else(1 + 3 + (3 + 1), LEVEL, either(THEN_BELLS, owes()))
+by_else(1 + 3 + (1 + 3), LEVEL, either(owes(), THEN_BELLS))
+for pair in ((THEN_BELLS, MISSED), (MISSED, THEN_BELLS)):
+    costs(1 + 3 + 3, *alone(lapsing(both(*pair))), LEVEL, shown(106, 105, 1))
+
+# "Fulfilled beside `and` vanishes; fulfilled on either side of `or` fulfils it": so nothing of that `or` waits
+FOLLOWING = (THEN_BELLS, belated(TWO_BELLS))  # either would activate three more, following the level
+cause("cost: an `or` that is fulfilled when it is activated in an else: its other side follows nothing")
+for side in FOLLOWING:
+    by_else(1 + (1 + 1 + 1), LEVEL, either(NIL, side))
+    by_else(1 + (1 + 1 + 1), LEVEL, either(side, NIL))
+    by_else(1 + (1 + 1 + 1), MARK, either(NIL, side))
+    by_else(1 + (1 + 1 + 1), MARK, either(side, NIL))
+cause("cost: through an if, an instance, an `and`, another `or`")
+for fulfils, clauses in ((cond(YES, NIL, BELL), 1 + 1), (cond(truth(0), BELL, NIL), 1 + 1), (inst(0), 1 + 1),
+                         (both(NIL, NIL), 1 + 1 + 1), (either(BELL, NIL), 1 + 1 + 1)):
+    for side in FOLLOWING:
+        by_else(1 + (1 + clauses + 1), LEVEL, either(fulfils, side), bodies=[NIL])
+        by_else(1 + (1 + 1 + clauses), LEVEL, either(side, fulfils), bodies=[NIL])
+cause("cost: within the side that an if picks, within a template, under another else")
+for side in FOLLOWING:
+    by_else(1 + (1 + (1 + 1 + 1)), LEVEL, cond(YES, either(NIL, side), side))
+    by_else(1 + (1 + (1 + 1 + 1)), LEVEL, inst(0), bodies=[either(side, NIL)])
+    by_else(1 + 1 + (1 + 1 + 1), LEVEL, belated(either(NIL, side)))
+cause("cost: what stands beside such an `or` follows")
+FOLLOWS = then_is(either(UNMET, OPENING))
+for side in FOLLOWING:
+    by_else(1 + (1 + 3 + 1) + 3, LEVEL, both(either(NIL, side), FOLLOWS), 21, UNMET, OPENING, **SEEN)
+    by_else(1 + (1 + 1 + 3) + 3, LEVEL, both(FOLLOWS, either(side, NIL)), 21, UNMET, OPENING, **SEEN)
+cause("cost: an `or` that the reading fulfils in an else, by a `then` or an else: its other side has followed")
+for side in FOLLOWING:
+    by_else(1 + 3 + (1 + 3), LEVEL, either(owes(), side))
+    by_else(1 + 3 + (3 + 1), LEVEL, either(side, owes()))
+    by_else(1 + 3 + (1 + 3), LEVEL, either(belated(NIL), side))
+    by_else(1 + 3 + (3 + 1), LEVEL, either(side, belated(NIL)))
+cause("cost: an `and` with a fulfilled side in an else: the other side follows")
+for other in (both(NIL, THEN_BELLS), both(THEN_BELLS, NIL)):
+    by_else(1 + 3, MARK, other, THEN_BELLS)
+    by_else(1 + 3 + 3, LEVEL, other, *TWO_WAIT, **SEEN)
+for other in (both(NIL, belated(TWO_BELLS)), both(belated(TWO_BELLS), NIL)):
+    by_else(1 + 3 + 3, MARK, other, *TWO_WAIT)
+by_else(1 + 3, LEVEL, both(NIL, NIL))
+cause("cost: such an `and` does not fulfil an `or`: both sides of it follow")
+by_else(1 + (1 + 3 + 1) + 1, MARK, either(both(NIL, BELL), belated(LONGER)), 21, BELL, LONGER)
+by_else(1 + (1 + 1 + 3) + 1, MARK, either(belated(BELL), both(LONGER, NIL)), 21, BELL, LONGER)
+
+# "on 11 it is the refused reading's, and not zero"
+cause("cost: 11 by a `then`: 65 instances of one clause under 64 joins; 64 under 63 are accepted")
+exceeds(1 + (64 + 65 * 2), *alone(then_is(many(65)), BELL), level(110))
+data, table = alone(then_is(many(64)), BELL)
+costs(1 + (63 + 64 * 2), data, table, level(110), running(110, wide(64, unit(data, BELL, 110)), 110))
+cause("cost: 11 by an else; where each takes the reading it is accepted")
+exceeds(1 + (64 + 65 * 2), *alone(lapsing(many(65)), owes()), MARK)
+costs(1 + (64 + 65 * 2) + 65, *alone(lapsing(many(65)), owes()), LEVEL, fulfilled(106, 106))
+data, table = alone(lapsing(many(64)), BELL)
+costs(1 + (63 + 64 * 2), data, table, MARK, running(106, wide(64, unit(data, BELL, 105)), 106))
+cause("cost: 11 beside an `or` that drops a side; dropped by an `or` it is accepted")
+BESIDE_MANY = pond(both(either(THEN_BELLS, owes()), then_is(many(65))), UNMET)
+exceeds(5 + (3 + 1) + (64 + 65 * 2), BESIDE_MANY, running(100, [
+    joining(20), *units(BESIDE_MANY, 21, THEN_BELLS, owes()), unit(BESIDE_MANY, then_is(many(65)))]), level(110))
+MANY_DROPPED = pond(either(owes(), then_is(many(65))), UNMET)
+costs(3 + 1 + (64 + 65 * 2), MANY_DROPPED, running(100, units(MANY_DROPPED, 21, owes(), then_is(many(65)))),
+      level(110), fulfilled(110, 110))
+
+
+def doubled(times, a): return running(a, wide(2 ** times, waits_since(a)), a)
+
+
+# each unit that waits activates an `and`, two instances and two obligations: five clauses
+cause("cost: P15, reading by reading; the seventh is refused with 11; then marks, to the breach and after it")
+begins(TWICE, ZEROS, doubled(0, 100))
+for i, cost in enumerate((1 + 5, 3 + 10, 7 + 20, 15 + 40, 31 + 80, 63 + 160)):
+    costs(cost, TWICE, doubled(i, 100 + i), level(101 + i), doubled(i + 1, 101 + i))
+exceeds(127 + 320, TWICE, doubled(6, 106), level(107))
+costs(127, TWICE, doubled(6, 106), event(107), altered(1, 107, doubled(6, 106)))
+costs(127, TWICE, altered(1, 107, doubled(6, 106)), event(167), shown(167, 166, 1))
+costs(0, TWICE, shown(167, 166, 1), event(168), shown(167, 166, 1))
+
+# "On a fulfilled or breached table, and on a refusal other than 11, the count is 0"
+cause("cost: 0 on a fulfilled table and on a breached one")
+for r in (event(120), level(120), bell(120)):
+    costs(0, OWED, fulfilled(110), r, fulfilled(120))
+    costs(0, OWED, shown(110, 105, 1), r, shown(110, 105, 1))
+cause("cost: 0 when refused with 1 to 10; not refused the same reading is taken")
+for number, data in enumerate((cat(OWED, [0]), pond(OPENING + NIL), pond(both(OPENING, asking(ONE))),
+                               pond(OPENING, inst(0)), pond(both(OPENING, nothings(129)))), 1):
+    costs_nothing(number, data, running(100, [unit(data, OPENING)]), level(120))
+costs_nothing(6, OWED, OPENS[:3079], level(120))
+costs_nothing(7, OWED, altered(5, 99, OPENS), level(120))
+costs_nothing(8, OWED, OPENS, level(120)[:12])
+costs_nothing(9, OWED, OPENS, event(120, 1))
+costs_nothing(10, OWED, altered(1, 121, OPENS), level(120))
+costs(1 + 1, OWED, OPENS, level(120), fulfilled(120, 120))
+cause("cost: 0 when refused with 10, where it would be 11")
+exceeds(1 + (64 + 65 * 2), *alone(then_is(many(65)), BELL), level(100))
+costs_nothing(10, *alone(then_is(many(65)), BELL), level(99))
+
+# a choice of width 256: its else is 128 obligations and 127 joins, and each `then` has width 256; 33,024 and 2,113,599
+FULL = lapsing(shared(then_is(inst(0)), 128))
+cause("cost: the most of one unit: each `then` is an instance of 128 times fulfilled and 127 joins; with 11 likewise")
+costs(1 + (128 + 127) + 128 * (1 + 128 + 127), *alone(FULL, nothings(128)), LEVEL, fulfilled(106, 106))
+exceeds(1 + (128 + 127) + 128 * (1 + 128 + 127), *alone(FULL, shared(BELL, 128)), LEVEL)
+cause("cost: the most of a reading: 64 of them under 63 joins, each by a `then`")
+ALL_FULL = pond(shared(inst(1), 64), nothings(128), then_is(FULL))
+FULL_BEGUN = running(100, wide(64, unit(ALL_FULL, then_is(FULL))))
+FULL_WAITS = running(100, wide(64, unit(ALL_FULL, FULL, sees=(0, 60))))
+begins(ALL_FULL, ZEROS, FULL_BEGUN)
+costs(127 + 64, ALL_FULL, FULL_BEGUN, level(100), FULL_WAITS)
+costs(127 + 64 * ((128 + 127) + 128 * (1 + 128 + 127)), ALL_FULL, FULL_WAITS, LEVEL, fulfilled(106, 106))

@@ -3,8 +3,8 @@
 
 make.py [CALLS]: the cases of cases.py, and behind them the calls of a file with one JSON object to a line: entry,
 agreement and reading in hexadecimal, the table's cells that are not zero, and what came back from a monitor that was
-written from paper 01 alone, but for what rounded.py, moved.py and early.py say. src/main.rt says how stdin is laid
-out. `reference/tests/trials.rs` gives the same calls to the separately written monitor.
+written from paper 01 alone, but for what rounded.py, moved.py, early.py and cost.py say. src/main.rt says how stdin is
+laid out. `reference/tests/trials.rs` gives the same calls to the separately written monitor.
 """
 import json
 import os
@@ -14,6 +14,7 @@ import sys
 HERE = os.path.dirname(os.path.abspath(__file__))
 sys.path.insert(0, HERE)
 from cases import CALLS  # noqa: E402
+from cost import cost_at, costed  # noqa: E402
 from early import mark  # noqa: E402
 from moved import left_moved, lent_moved, moved, start_of  # noqa: E402
 from records import u2  # noqa: E402
@@ -26,13 +27,13 @@ def told(z): return f"~{-1 - z}" if z < 0 else str(z)
 def cells(table): return "".join(f" {i}={told(z)}" for i, z in enumerate(table) if z)
 
 
-def line(entry, number, answer, early=0):
+def line(entry, number, answer, early=0, cost=0):
     if entry == "check":
         return f"check {number} {answer}"
     if entry == "forecast":
         return f"forecast {number} " + ("none" if answer is None else f"{answer[0]} {answer[1]}")
     if entry == "reading":
-        return f"reading {number} {early}{cells(answer)}"
+        return f"reading {number} {early} {cost}{cells(answer)}"
     return f"start {number}{cells(answer)}"
 
 
@@ -76,7 +77,7 @@ def vectors(path):
             continue
         event = bytes.fromhex(d["reading"])
         after = lent if number else left_moved(lent, rounded(place, laid(d["cells"], d["after"])), event)
-        yield entry, data, lent, event, number, after, mark(place)
+        yield entry, data, lent, event, number, after, mark(place), cost_at(place, number, lent)
 
 
 def begun(place, d, data):
@@ -85,7 +86,7 @@ def begun(place, d, data):
 
 
 def main():
-    listed = list(CALLS)
+    listed = list(costed(CALLS))
     if len(sys.argv) > 1:
         listed += ["calls of a monitor written apart", *vectors(sys.argv[1])]
     given, stdin, stdout = None, [], []

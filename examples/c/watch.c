@@ -9,8 +9,9 @@
  * Each line of standard input is a reading: TIME TYPE VALUE.. in decimal. A line is written for the start and for each
  * reading: its number, its time, and LIVE, DONE, BREACH or REFUSED. LIVE and BREACH are followed by the time of the
  * breach, ahead or come, and its parties by bit, or by NONE; REFUSED by the number of the refusal. Standard error tells
- * of a reading that came too early: a window that wants it opens later, and until then it does not count. At the end it
- * tells when the agreement last moved, which an idle reading does not alter, and which clauses still wait.
+ * what each reading cost, and of one that came too early: a window that wants it opens later, and until then it does
+ * not count. At the end it tells when the agreement last moved, which an idle reading does not alter, and which clauses
+ * still wait.
  *
  * The status is 0 where the readings were followed to their end, 1 where the agreement was refused, and 2 where a file
  * or a line could not be read.
@@ -129,13 +130,15 @@ static int follow(struct run *run, unsigned long n, char *line)
     long long time;
     size_t length = make_reading(line, record, &time);
     uint32_t answer;
-    uint64_t early;
+    uint64_t early, cost;
 
     if (length == 0 || is_cut(line)) {
         fprintf(stderr, "watch: line %lu is not TIME TYPE VALUE.. with at most 4 values\n", n);
         return 0;
     }
-    answer = givuntha_reading(run->agreement, run->bytes, run->table, GIVUNTHA_TABLE_CELLS, record, length, &early);
+    answer = givuntha_reading(run->agreement, run->bytes, run->table, GIVUNTHA_TABLE_CELLS, record, length, &early,
+                              &cost);
+    fprintf(stderr, "watch: reading %lu cost %" PRIu64 "\n", n, cost);
     if (early != 0)
         fprintf(stderr, "watch: reading %lu came too early: a window that wants it opens later\n", n);
     printf("%lu %lld ", n, time);

@@ -1,6 +1,7 @@
 //! Counts what generated calls reach, and finds faults: answers that cannot be right whatever the
 //! rules say in detail.
 
+pub mod cost;
 pub mod early;
 pub mod members;
 pub mod moved;
@@ -14,6 +15,7 @@ use crate::reading::{self, Reading};
 use crate::rules::{self, evaluate, Outcome, Residue, Scope, Waiting, Window};
 use crate::table::{self, State, BREACHED, FULFILLED, MOVED, STATE, USED};
 use crate::{build, entries, Refusal};
+use cost::Costed;
 use early::Marked;
 use members::Judged;
 use moved::Effect;
@@ -37,6 +39,9 @@ const CELL_5: &str = "where cell 5 lies, nothing else wrong";
 const EARLY: &str = "what decides the mark 'early'";
 const NEAR_EARLY: &str = "one condition of 'early' fails alone";
 const EARLY_CORNERS: &str = "where 'early' is 1";
+const COSTS: &str = "what a reading costs";
+const COST_CLAUSES: &str = "clause activated by a reading";
+const COST_CORNERS: &str = "corner of the cost";
 const CAUSES_READING: &str = "cause of 7 at a reading";
 const CAUSES_FORECAST: &str = "cause of 7 at a forecast";
 const CHANGES: &str = "changed table, whatever the number";
@@ -64,7 +69,7 @@ impl Coverage {
             (ACTIVATED, joins(&["fulfilled", "running"])),
             (FOLLOWED, joins(&["fulfilled", "breached", "running"])),
             (FORECAST, forecast_joins()),
-            (UNITS, unit_deeds()),
+            (UNITS, DEEDS.map(str::to_string).to_vec()),
             (QUOTIENTS, quotients::cases()),
             (MEMBERS, members::cases()),
             (LAST_MOVED, moved::cases()),
@@ -74,6 +79,9 @@ impl Coverage {
             (EARLY, early::cases()),
             (NEAR_EARLY, early::near_misses()),
             (EARLY_CORNERS, early::corners()),
+            (COSTS, cost::cases()),
+            (COST_CLAUSES, cost::activations()),
+            (COST_CORNERS, cost::corners()),
             (CAUSES_READING, tables::Damage::CAUSES.iter().map(|cause| format!("{cause:?}")).collect()),
             (CAUSES_FORECAST, tables::Damage::CAUSES.iter().map(|cause| format!("{cause:?}")).collect()),
             (CHANGES, tables::Damage::CHANGES.iter().map(|change| format!("{change:?}")).collect()),
@@ -110,7 +118,7 @@ impl Coverage {
         self.count(NUMBERS, format!("{} {number:2}", entry_name(&call.entry)));
         self.observe_aim(call, number);
         self.untouched(call, answer);
-        self.observe_refused_mark(call, answer);
+        self.observe_refused_reading(call, answer);
         self.observe_members(call, number);
         self.observe_cell_5(call, number);
         if number > 0 && number < 8 {
@@ -124,13 +132,16 @@ impl Coverage {
                 self.observe_start(&agreement, number);
                 self.observe_start_time(call, &agreement, number, after);
             }
-            (Entry::Reading { table, reading }, Answer::Reading { early, table: after, .. }) => {
+            (Entry::Reading { table, reading }, Answer::Reading { early, cost, table: after, .. }) => {
                 if let Ok(reading) = reading::parse(reading) {
                     self.observe_reading(&accepted, table, &reading, number);
                     let effect = &Effect { before: table, after, reading: &reading };
                     self.observe_moved(call, &accepted, effect, number);
                     let bytes = &call.agreement;
                     self.observe_early(call, &Marked { bytes, accepted: &accepted, effect, number, early: *early });
+                    if number == 0 || number == Refusal::Units.number() {
+                        self.observe_cost(call, &Costed::new(&accepted, effect, number, *early, *cost));
+                    }
                 }
                 self.observe_table(call, &accepted, after);
             }
@@ -205,12 +216,30 @@ impl Coverage {
         }
     }
 
-    /// A refused reading is not early.
-    fn observe_refused_mark(&mut self, call: &Call, answer: &Answer) {
-        let Answer::Reading { number, early, .. } = answer else { return };
+    /// A refused reading is not early, and costs nothing but on 11.
+    fn observe_refused_reading(&mut self, call: &Call, answer: &Answer) {
+        let Answer::Reading { number, early, cost, .. } = answer else { return };
         if *number != 0 {
             self.fault(*early != 0, "a refusal marked early", call);
             self.count(EARLY, early::refused(*number).to_string());
+        }
+        if *number != 0 && *number != Refusal::Units.number() {
+            self.fault(*cost != 0, "a cost on a refusal other than 11", call);
+            self.count(COSTS, early::refused(*number).to_string());
+        }
+    }
+
+    /// What a reading costs that is followed, be it accepted or refused with 11.
+    fn observe_cost(&mut self, call: &Call, costed: &Costed) {
+        if let Some(fault) = costed.fault() {
+            self.fault(true, fault, call);
+        }
+        self.count(COSTS, costed.case().to_string());
+        for activated in costed.activated() {
+            self.count(COST_CLAUSES, cost::activation_name(activated));
+        }
+        for corner in costed.corners() {
+            self.count(COST_CORNERS, cost::corner_name(corner));
         }
     }
 
@@ -257,7 +286,7 @@ impl Coverage {
         let mut units = Vec::new();
         collect(&residue, &mut units);
         for unit in units {
-            let outcome = rules::follow(accepted.agreement, Residue::Waiting(unit.clone()), reading);
+            let outcome = rules::follow(accepted.agreement, Residue::Waiting(unit.clone()), reading, &mut 0);
             match (deed(unit, reading), outcome) {
                 ("then", Outcome::Fulfilled) => self.count(REPLACED, FULFILLED_BESIDE.to_string()),
                 ("then", _) => self.count(REPLACED, BY_THEN.to_string()),
@@ -321,7 +350,7 @@ impl Coverage {
             Clause::Or(..) => "or",
         };
         if let Clause::And(left, right) | Clause::Or(left, right) = clause {
-            let word = |side| outcome_name(&rules::activate(agreement, side, 0, scope));
+            let word = |side| outcome_name(&rules::activate(agreement, side, 0, scope, &mut 0));
             self.count(ACTIVATED, format!("{name} {} {}", word(left), word(right)));
             self.activation(agreement, left, scope);
             self.activation(agreement, right, scope);
@@ -347,7 +376,7 @@ impl Coverage {
 
     fn followed_joins(&mut self, agreement: &Agreement, residue: &Residue, reading: &Reading) {
         if let Residue::And(left, right) | Residue::Or(left, right) = residue {
-            let word = |side: &Residue| outcome_name(&rules::follow(agreement, side.clone(), reading));
+            let word = |side: &Residue| outcome_name(&rules::follow(agreement, side.clone(), reading, &mut 0));
             self.count(FOLLOWED, format!("{} {} {}", join_name(residue), word(left), word(right)));
             self.followed_joins(agreement, left, reading);
             self.followed_joins(agreement, right, reading);
@@ -413,7 +442,7 @@ impl fmt::Display for Coverage {
         for (title, counts) in &self.groups {
             writeln!(f, "{title}:")?;
             for (name, count) in counts {
-                writeln!(f, "  {name:50} {count:8}")?;
+                writeln!(f, "  {name:76} {count:8}")?;
             }
         }
         Ok(())
@@ -440,10 +469,9 @@ fn forecast_joins() -> Vec<String> {
     cases.iter().flat_map(|case| [format!("and {case}"), format!("or {case}")]).collect()
 }
 
-fn unit_deeds() -> Vec<String> {
-    let deeds = ["breach", "else", "then", "waits: other type", "waits: before first", "waits: where is false"];
-    deeds.map(str::to_string).to_vec()
-}
+/// What a waiting unit may do with a reading.
+const DEEDS: [&str; 6] =
+    ["breach", "else", "then", "waits: other type", "waits: before first", "waits: where is false"];
 
 const BY_THEN: &str = "by then";
 const BY_ELSE: &str = "by else";

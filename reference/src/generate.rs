@@ -3,6 +3,7 @@
 
 pub mod agreements;
 pub mod damage;
+mod eventful;
 pub mod random;
 pub mod readings;
 pub mod records;
@@ -50,7 +51,7 @@ pub enum Aim {
 pub enum Answer {
     Check(Checked),
     Start { number: u32, table: Vec<i64> },
-    Reading { number: u32, early: u32, table: Vec<i64> },
+    Reading { number: u32, early: u32, cost: u64, table: Vec<i64> },
     Forecast(Forecast),
 }
 
@@ -76,8 +77,8 @@ impl Call {
             }
             Entry::Reading { table, reading } => {
                 let mut table = table.clone();
-                let Taken { number, early } = entries::reading(&self.agreement, &mut table, reading);
-                Answer::Reading { number, early, table }
+                let Taken { number, early, cost } = entries::reading(&self.agreement, &mut table, reading);
+                Answer::Reading { number, early, cost, table }
             }
             Entry::Forecast { table } => Answer::Forecast(entries::forecast(&self.agreement, table)),
         }

@@ -211,7 +211,19 @@ fn is_true(condition: &Expression, scope: &Scope) -> bool {
 }
 
 /// Activates a clause at a time. The outcome is never a breach.
-pub fn activate<'a>(agreement: &'a Agreement, clause: &'a Clause, time: i64, scope: &Scope) -> Outcome<'a> {
+///
+/// Paper 02, No. 9: "one for each clause activated, in the sense of 01's activating". Each call
+/// activates one clause, of whatever kind, and counts it. An obligation or choice waits: its
+/// `then` and its else are not activated with it. An if activates the side that it picks. A join
+/// activates both of its sides, whatever becomes of them: "Sides that are later dropped count."
+pub fn activate<'a>(
+    agreement: &'a Agreement,
+    clause: &'a Clause,
+    time: i64,
+    scope: &Scope,
+    count: &mut u64,
+) -> Outcome<'a> {
+    *count += 1;
     match clause {
         Clause::Fulfilled => Outcome::Fulfilled,
         // "an obligation or choice waits"
@@ -219,16 +231,23 @@ pub fn activate<'a>(agreement: &'a Agreement, clause: &'a Clause, time: i64, sco
         // "An if picks its side."
         Clause::If(condition, left, right) => {
             let side = if is_true(condition, scope) { left } else { right };
-            activate(agreement, side, time, scope)
+            activate(agreement, side, time, scope, count)
         }
+        // "Fulfilled beside `and` vanishes; fulfilled on either side of `or` fulfils it."
         Clause::And(left, right) => {
-            and(activate(agreement, left, time, scope), activate(agreement, right, time, scope))
+            let left = activate(agreement, left, time, scope, count);
+            let right = activate(agreement, right, time, scope, count);
+            and(left, right)
         }
-        Clause::Or(left, right) => or(activate(agreement, left, time, scope), activate(agreement, right, time, scope)),
+        Clause::Or(left, right) => {
+            let left = activate(agreement, left, time, scope, count);
+            let right = activate(agreement, right, time, scope, count);
+            or(left, right)
+        }
         // "Activating an instance activates the template's body with the values given."
         Clause::Instance(instance) => {
             let body = &agreement.templates[instance.template].body;
-            activate(agreement, body, time, &arguments(instance, scope))
+            activate(agreement, body, time, &arguments(instance, scope), count)
         }
     }
 }
@@ -246,25 +265,39 @@ pub fn arguments(instance: &Instance, scope: &Scope) -> Scope {
 }
 
 /// "A reading at time T reaches every waiting unit, and both sides of an `and` may use the same
-/// one."
-pub fn follow<'a>(agreement: &'a Agreement, residue: Residue<'a>, reading: &Reading) -> Outcome<'a> {
+/// one." Counts the clauses that are activated, on every side, and nothing else: that a unit is read
+/// or follows is not counted here.
+pub fn follow<'a>(agreement: &'a Agreement, residue: Residue<'a>, reading: &Reading, count: &mut u64) -> Outcome<'a> {
     match residue {
-        Residue::Waiting(waiting) => follow_waiting(agreement, waiting, reading),
-        Residue::And(left, right) => and(follow(agreement, *left, reading), follow(agreement, *right, reading)),
-        Residue::Or(left, right) => or(follow(agreement, *left, reading), follow(agreement, *right, reading)),
+        Residue::Waiting(waiting) => follow_waiting(agreement, waiting, reading, count),
+        Residue::And(left, right) => {
+            let left = follow(agreement, *left, reading, count);
+            let right = follow(agreement, *right, reading, count);
+            and(left, right)
+        }
+        Residue::Or(left, right) => {
+            let left = follow(agreement, *left, reading, count);
+            let right = follow(agreement, *right, reading, count);
+            or(left, right)
+        }
     }
 }
 
 /// "For each unit, in this order: ..."
-fn follow_waiting<'a>(agreement: &'a Agreement, waiting: Waiting<'a>, reading: &Reading) -> Outcome<'a> {
+fn follow_waiting<'a>(
+    agreement: &'a Agreement,
+    waiting: Waiting<'a>,
+    reading: &Reading,
+    count: &mut u64,
+) -> Outcome<'a> {
     let window = waiting.window();
     match window.timing(reading.time) {
         // "T > last" is the first to be asked, be the time before first or not.
-        Timing::Late | Timing::EarlyAndLate => late(agreement, &waiting, window.last, reading),
+        Timing::Late | Timing::EarlyAndLate => late(agreement, &waiting, window.last, reading, count),
         // "`then` is activated at T, remaining time last − T. It does not see this reading again."
         Timing::Open if waiting.wants(reading) => {
             let scope = waiting.seen(reading).with(&[window.last - reading.time]);
-            activate(agreement, &waiting.wait.then, reading.time, &scope)
+            activate(agreement, &waiting.wait.then, reading.time, &scope, count)
         }
         // "Otherwise it waits on."
         Timing::Early | Timing::Open => Outcome::Running(Residue::Waiting(waiting)),
@@ -273,12 +306,21 @@ fn follow_waiting<'a>(agreement: &'a Agreement, waiting: Waiting<'a>, reading: &
 
 /// "T > last: an obligation is breached at the later of A and last, by its blame. A choice
 /// activates its else at that time, and the else follows this same reading."
-fn late<'a>(agreement: &'a Agreement, waiting: &Waiting<'a>, last: i64, reading: &Reading) -> Outcome<'a> {
+///
+/// The else is activated as a whole first, and each of its clauses counts. What of it waits then
+/// follows. Paper 02, No. 9: "an else that follows the same reading is not counted again for that".
+fn late<'a>(
+    agreement: &'a Agreement,
+    waiting: &Waiting<'a>,
+    last: i64,
+    reading: &Reading,
+    count: &mut u64,
+) -> Outcome<'a> {
     let time = waiting.late_time(last);
     match &waiting.wait.late {
         Late::Breach(blame) => Outcome::Breached(breach(time, *blame, &waiting.scope)),
-        Late::Else(otherwise) => match activate(agreement, otherwise, time, &waiting.scope) {
-            Outcome::Running(residue) => follow(agreement, residue, reading),
+        Late::Else(otherwise) => match activate(agreement, otherwise, time, &waiting.scope, count) {
+            Outcome::Running(residue) => follow(agreement, residue, reading, count),
             decided => decided,
         },
     }
@@ -358,11 +400,11 @@ pub fn forecast_residue<'a>(agreement: &'a Agreement, residue: &Residue<'a>) -> 
 }
 
 /// "an obligation gives its breach at the later of A and last; a choice gives what its else,
-/// activated at that time, gives"
+/// activated at that time, gives". A forecast costs nothing: what it activates is not counted.
 fn forecast_waiting<'a>(agreement: &'a Agreement, waiting: &Waiting<'a>) -> Option<Breach> {
     let time = waiting.late_time(waiting.window().last);
     match &waiting.wait.late {
         Late::Breach(blame) => Some(breach(time, *blame, &waiting.scope)),
-        Late::Else(otherwise) => forecast(agreement, &activate(agreement, otherwise, time, &waiting.scope)),
+        Late::Else(otherwise) => forecast(agreement, &activate(agreement, otherwise, time, &waiting.scope, &mut 0)),
     }
 }

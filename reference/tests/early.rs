@@ -13,11 +13,18 @@ const START: u32 = 100;
 const LEVEL: u8 = 1;
 const BELL: u8 = 2;
 
-const EARLY: Taken = Taken { number: 0, early: 1 };
-const NOT_EARLY: Taken = Taken { number: 0, early: 0 };
+/// A number and a mark.
+type Marked = (u32, u32);
 
-fn refused(number: u32) -> Taken {
-    Taken { number, early: 0 }
+const EARLY: Marked = (0, 1);
+const NOT_EARLY: Marked = (0, 0);
+
+fn refused(number: u32) -> Marked {
+    (number, 0)
+}
+
+fn marked(taken: Taken) -> Marked {
+    (taken.number, taken.early)
 }
 
 /// An agreement under way.
@@ -45,19 +52,19 @@ impl Run {
     }
 
     /// Takes any bytes as a reading.
-    fn take(&mut self, bytes: &[u8]) -> Taken {
-        reading(&self.agreement, &mut self.table, bytes)
+    fn take(&mut self, bytes: &[u8]) -> Marked {
+        marked(reading(&self.agreement, &mut self.table, bytes))
     }
 
-    fn mark(&mut self, time: u32) -> Taken {
+    fn mark(&mut self, time: u32) -> Marked {
         self.take(&reference::build::reading(time, 0, &[]))
     }
 
-    fn level(&mut self, time: u32, value: i32) -> Taken {
+    fn level(&mut self, time: u32, value: i32) -> Marked {
         self.take(&reference::build::reading(time, LEVEL, &[value]))
     }
 
-    fn bell(&mut self, time: u32) -> Taken {
+    fn bell(&mut self, time: u32) -> Marked {
         self.take(&reference::build::reading(time, BELL, &[]))
     }
 
@@ -66,7 +73,7 @@ impl Run {
     }
 
     /// A level that leaves every cell but the last reading time.
-    fn idle_level(&mut self, time: u32) -> Taken {
+    fn idle_level(&mut self, time: u32) -> Marked {
         let mut expected = self.table.clone();
         expected[LAST] = i64::from(time);
         let taken = self.level(time, 0);
@@ -269,9 +276,9 @@ fn refusals_1_to_7_are_not_early() {
     let agreements =
         [Vec::new(), pond(&record(23, &[])), pond(&not_typed), own_template, pond(&balanced(&vec![fulfilled(); 129]))];
     for (number, agreement) in (1..).zip(agreements) {
-        assert_eq!(reading(&agreement, &mut run.table.clone(), &early), refused(number));
+        assert_eq!(marked(reading(&agreement, &mut run.table.clone(), &early)), refused(number));
     }
-    assert_eq!(reading(&run.agreement, &mut run.table[1..].to_vec(), &early), refused(6));
+    assert_eq!(marked(reading(&run.agreement, &mut run.table[1..].to_vec(), &early)), refused(6));
     let mut damaged = run.clone();
     damaged.table[STATE] = 9;
     assert_eq!(damaged.take(&early), refused(7));

@@ -9,6 +9,7 @@ use reference::build::{
     self, and, binary, fulfilled, if_clause, instance, number, or, reading_type, simple, value, Wait,
 };
 use reference::check::accept;
+use reference::coverage::cost::{activation_name, corner_name, Costed};
 use reference::coverage::early::Marked;
 use reference::coverage::members::{self, Judged, Resolved};
 use reference::coverage::moved::{self, Effect, Lies};
@@ -190,9 +191,10 @@ fn alterations_are_found() {
 #[test]
 fn a_wrong_cell_5_is_a_fault() {
     let (bytes, table) = owed_twice();
-    let faults = |before: &[i64], reading: Vec<u8>, after: &[i64]| {
-        let entry = Entry::Reading { table: before.to_vec(), reading };
-        faults(&bytes, entry, Answer::Reading { number: 0, early: 0, table: after.to_vec() })
+    let faults = |before: &[i64], taken: Vec<u8>, after: &[i64]| {
+        let cost = reading(&bytes, &mut before.to_vec(), &taken).cost;
+        let entry = Entry::Reading { table: before.to_vec(), reading: taken };
+        faults(&bytes, entry, Answer::Reading { number: 0, early: 0, cost, table: after.to_vec() })
     };
     let mark = || build::reading(120, 0, &[]);
     let idle = with(&table, &[(LAST, 120)]);
@@ -254,20 +256,24 @@ fn opening(after: i32, within: i32) -> Wait {
     Wait { after: number(after), ..simple(within) }
 }
 
+/// How many faults are found in a reading whose answer is made another.
+fn faults_in(bytes: &[u8], before: &[i64], taken: Vec<u8>, wrong: &dyn Fn(Answer) -> Answer) -> usize {
+    let entry = Entry::Reading { table: before.to_vec(), reading: taken };
+    let call = Call { agreement: bytes.into(), entry, aim: Aim::Made };
+    let mut coverage = Coverage::new();
+    coverage.observe(&call, &wrong(call.answer()));
+    coverage.faults.len()
+}
+
 /// A monitor that marks the wrong readings gives such answers.
 #[test]
 fn a_wrong_mark_is_a_fault() {
     let (bytes, table) = begun(&[], &opening(20, 40).obligation(0));
-    let faults = |before: &[i64], taken: Vec<u8>, wrong: &dyn Fn(Answer) -> Answer| {
-        let entry = Entry::Reading { table: before.to_vec(), reading: taken };
-        let call = Call { agreement: bytes.as_slice().into(), entry, aim: Aim::Made };
-        let mut coverage = Coverage::new();
-        coverage.observe(&call, &wrong(call.answer()));
-        coverage.faults.len()
-    };
+    let faults =
+        |before: &[i64], taken: Vec<u8>, wrong: &dyn Fn(Answer) -> Answer| faults_in(&bytes, before, taken, wrong);
     let marked = |mark: u32| {
         move |answer: Answer| match answer {
-            Answer::Reading { number, table, .. } => Answer::Reading { number, early: mark, table },
+            Answer::Reading { number, cost, table, .. } => Answer::Reading { number, early: mark, cost, table },
             other => other,
         }
     };
@@ -364,6 +370,113 @@ fn corners_of_the_mark_are_found() {
     let choice = simple(-1).choice(&and(&dropped, &again(&named(0))));
     let expected = vec!["first is the reading's time", "only a unit of an else finds it early"];
     assert_eq!(judged(&[plain(&choice)], &named(0)), ("0: no first is later", expected, vec![]));
+}
+
+/// How many faults are found if the cost of a reading is another by so much.
+fn faults_by((bytes, table): &(Vec<u8>, Vec<i64>), taken: Vec<u8>, by: u64) -> usize {
+    faults_in(bytes, table, taken, &|answer| match answer {
+        Answer::Reading { number, early, cost, table } => {
+            Answer::Reading { number, early, cost: cost.wrapping_add(by), table }
+        }
+        other => other,
+    })
+}
+
+/// A monitor that counts wrong gives such answers: by one more or less, or by far too much.
+#[test]
+fn a_wrong_cost_is_a_fault() {
+    const LESS: u64 = u64::MAX;
+    let level = |time| build::reading(time, 1, &[0]);
+    let main = and(&simple(5).choice(&or(&fulfilled(), &simple(60).obligation(0))), &opening(20, 40).obligation(0));
+    let running = begun(&[], &main);
+    for taken in [level(103), level(106), level(120), build::reading(110, 0, &[]), level(161)] {
+        let found = [0, 1, LESS, 3 * 65_792, 1 << 32].map(|by| faults_by(&running, taken.clone(), by));
+        assert_eq!(found, [0, 1, 1, 1, 1], "{taken:?}");
+    }
+    for refused in [Vec::new(), build::reading(110, 1, &[]), level(99)] {
+        assert_eq!([0, 1].map(|by| faults_by(&running, refused.clone(), by)), [0, 1], "{refused:?}");
+    }
+    let too_many = begun(&[], &Wait { then: balanced(65, &simple(60).obligation(0)), ..simple(60) }.obligation(0));
+    let no_cost = 0u64.wrapping_sub(1 + 129);
+    assert_eq!([0, 1, no_cost].map(|by| faults_by(&too_many, level(110), by)), [0, 1, 1]);
+    for head in [[FULFILLED, 110, 0, 0, 0, 110, 0, 0], [BREACHED, 110, 105, 1, 0, 110, 0, 0]] {
+        let mut decided = (running.0.clone(), vec![0; CELLS]);
+        decided.1[..HEAD].copy_from_slice(&head);
+        assert_eq!([0, 1].map(|by| faults_by(&decided, level(115), by)), [0, 1]);
+    }
+}
+
+/// So many leaves joined by `and` in balance.
+fn balanced(leaves: usize, leaf: &[u8]) -> Vec<u8> {
+    match leaves {
+        1 => leaf.to_vec(),
+        _ => and(&balanced(leaves / 2, leaf), &balanced(leaves - leaves / 2, leaf)),
+    }
+}
+
+/// How large the cost of a level at 100 is, what is activated, and in which corners.
+fn costed((bytes, table): &(Vec<u8>, Vec<i64>)) -> (&'static str, Vec<String>, Vec<String>) {
+    let agreement = parse(bytes).expect("an agreement");
+    let accepted = accept(&agreement).expect("an accepted agreement");
+    let mut after = table.clone();
+    let taken = build::reading(100, 1, &[0]);
+    let answer = reading(bytes, &mut after, &taken);
+    let parsed = reference::reading::parse(&taken).expect("a record");
+    let effect = Effect { before: table, after: &after, reading: &parsed };
+    let costed = Costed::new(&accepted, &effect, answer.number, answer.early, answer.cost);
+    assert_eq!(costed.fault(), None);
+    let activated = costed.activated().map(activation_name).collect();
+    let mut corners: Vec<String> = costed.corners().into_iter().map(corner_name).collect();
+    corners.sort();
+    (costed.case(), activated, corners)
+}
+
+#[test]
+fn what_a_reading_activates_is_found() {
+    let owed = simple(60).obligation(0);
+    let activated = |main: &[u8]| costed(&begun(&[build::template(&[], 0, 1, &owed)], main)).1;
+    assert_eq!(activated(&opening(5, 60).obligation(0)), Vec::<String>::new());
+    let then = if_clause(&build::truth(1), &and(&instance(0, &[], &[]), &fulfilled()), &owed);
+    let kinds = ["16 by a then", "17 by a then", "19 by a then", "20 by a then", "22 by a then"];
+    assert_eq!(activated(&Wait { then: then.clone(), ..simple(60) }.obligation(0)), kinds);
+    let inner = simple(-1).choice(&Wait { then, ..simple(60) }.obligation(0));
+    let found = activated(&simple(-1).choice(&inner));
+    let in_else = ["16", "17", "19", "20", "22"].map(|kind| format!("{kind} by a then in an else"));
+    let others = ["17 by an else in an else", "18 by an else"].map(str::to_string);
+    let mut expected = [in_else.to_vec(), others.to_vec()].concat();
+    expected.sort();
+    assert_eq!(found, expected);
+}
+
+#[test]
+fn corners_of_the_cost_are_found() {
+    let owed = simple(60).obligation(0);
+    let goes_on = Wait { then: owed.clone(), ..simple(60) }.obligation(0);
+    let doomed = simple(-1).choice(&simple(-1).obligation(0));
+    let of_else = |otherwise: &[u8]| costed(&begun(&[], &simple(-1).choice(otherwise))).2;
+    let alone = costed(&begun(&[], &opening(5, 60).obligation(0)));
+    assert_eq!((alone.0, alone.2), ("1", vec!["nothing activated: one unit".to_string()]));
+    let settled = [
+        "activated: and fulfilled",
+        "an `or` settled in an else drops what would take the reading: its right side",
+        "an `or` settled in an else drops: its right side",
+        "an else is settled: when activated",
+    ];
+    assert_eq!(of_else(&or(&fulfilled(), &owed)), settled);
+    let later = opening(5, 60).obligation(0);
+    let without_more = [settled[0], "an `or` settled in an else drops: its left side", settled[3]];
+    assert_eq!(of_else(&or(&later, &fulfilled())), without_more);
+    let dropped = ["a fulfilled `or` of an else drops: its left side", "a wait of an else: then", settled[0]];
+    assert_eq!(of_else(&or(&goes_on, &owed)), dropped);
+    let found = of_else(&or(&doomed, &goes_on));
+    assert!(found.contains(&"an `or` of an else drops, as breached: its left side".to_string()), "{found:?}");
+    let found = of_else(&and(&goes_on, &doomed));
+    assert!(found.contains(&"a breached `and` of an else drops: its left side".to_string()), "{found:?}");
+    let found = costed(&begun(&[], &or(&owed, &goes_on))).2;
+    assert!(found.contains(&"a fulfilled `or` of the table drops: its right side".to_string()), "{found:?}");
+    let crowd = Wait { then: balanced(65, &owed), ..simple(60) }.obligation(0);
+    let (case, _, corners) = costed(&begun(&[], &crowd));
+    assert_eq!((case, corners), ("refused with 11: below 1,000", vec!["refused with 11: by a then".to_string()]));
 }
 
 #[test]

@@ -6,49 +6,23 @@ use reference::agreement::{Operator, Type};
 use reference::build::*;
 use reference::table::{ACTIVATED, AND, BREACHED, FULFILLED, HEAD, LAST, MOVED, OR, PARAMETERS, PLACE, RUNNING, SORT};
 use reference::table::{STATE, TIME, UNIT, USED, VALUES};
-use reference::{forecast, reading, start, CELLS};
+use reference::{forecast, start, CELLS};
 
-const START: u32 = 100;
-/// Reading types: one with a number, one without values.
-const LEVEL: u8 = 1;
-const BELL: u8 = 2;
-
-/// An agreement under way.
-#[derive(Clone)]
-struct Run {
-    agreement: Vec<u8>,
-    table: Vec<i64>,
-}
+#[path = "common/run.rs"]
+mod run;
+use run::{Run, BELL, LEVEL};
 
 impl Run {
-    fn with(templates: &[Vec<u8>], main: &[u8]) -> Run {
-        let readings = [reading_type(&[Type::Number]), reading_type(&[])];
-        let agreement = agreement(START, 2, &readings, templates, main);
-        // "Start ignores the table's earlier contents."
-        let mut table = vec![7; CELLS];
-        assert_eq!(start(&agreement, &mut table), 0);
-        Run { agreement, table }
-    }
-
-    fn of(main: &[u8]) -> Run {
-        Run::with(&[], main)
-    }
-
-    /// Takes any bytes as a reading.
-    fn take(&mut self, bytes: &[u8]) -> u32 {
-        reading(&self.agreement, &mut self.table, bytes).number
-    }
-
     fn mark(&mut self, time: u32) {
-        assert_eq!(self.take(&reference::build::reading(time, 0, &[])), 0, "mark at {time}");
+        assert_eq!(self.take(&reference::build::reading(time, 0, &[])).number, 0, "mark at {time}");
     }
 
     fn level(&mut self, time: u32, value: i32) {
-        assert_eq!(self.take(&reference::build::reading(time, LEVEL, &[value])), 0, "level at {time}");
+        assert_eq!(self.take(&reference::build::reading(time, LEVEL, &[value])).number, 0, "level at {time}");
     }
 
     fn bell(&mut self, time: u32) {
-        assert_eq!(self.take(&reference::build::reading(time, BELL, &[])), 0, "bell at {time}");
+        assert_eq!(self.take(&reference::build::reading(time, BELL, &[])).number, 0, "bell at {time}");
     }
 
     /// The state, the last reading time and the time of the last alteration.
@@ -338,7 +312,7 @@ fn refusal_11_leaves_it() {
         assert_eq!(run.head(), [RUNNING, i64::from(time), i64::from(time)]);
     }
     let before = run.table.clone();
-    assert_eq!(run.take(&reference::build::reading(120, LEVEL, &[0])), 11);
+    assert_eq!(run.take(&reference::build::reading(120, LEVEL, &[0])).number, 11);
     assert_eq!(run.table, before);
     run.mark(125);
     assert_eq!(run.head(), [RUNNING, 125, 106]);
@@ -354,7 +328,7 @@ fn refusals_8_9_and_10_leave_it() {
         ];
         for (number, bytes) in refused {
             let mut tried = run.clone();
-            assert_eq!(tried.take(&bytes), number);
+            assert_eq!(tried.take(&bytes).number, number);
             assert_eq!(tried.table, run.table);
         }
     }
@@ -400,7 +374,7 @@ fn outside_the_table_is_damaged() {
             damaged.set(MOVED, moved);
             let table = damaged.table.clone();
             for bytes in [reference::build::reading(200, 0, &[]), reference::build::reading(5, 9, &[]), Vec::new()] {
-                assert_eq!(damaged.take(&bytes), 7, "cell 5 is {moved}: {:?}", run.head());
+                assert_eq!(damaged.take(&bytes).number, 7, "cell 5 is {moved}: {:?}", run.head());
             }
             assert_eq!(damaged.table, table);
             assert_eq!(forecast(&run.agreement, &table).number, 7, "cell 5 is {moved}: {:?}", run.head());
@@ -434,7 +408,7 @@ fn only_the_start_is_inside_at_first() {
             let mut other = run.clone();
             other.set(MOVED, moved);
             assert_eq!(forecast(&other.agreement, &other.table).number, number);
-            assert_eq!(other.take(&reference::build::reading(100, 0, &[])), number);
+            assert_eq!(other.take(&reference::build::reading(100, 0, &[])).number, number);
         }
     }
 }

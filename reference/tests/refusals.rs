@@ -32,7 +32,7 @@ fn started(main: &[u8]) -> (Vec<u8>, Vec<i64>) {
 /// A table that must be refused with 7 by both entries, and left alone.
 fn refused_table(agreement: &[u8], table: &[i64]) {
     let mut lent = table.to_vec();
-    assert_eq!(reading(agreement, &mut lent, &[]), Taken { number: 7, early: 0 });
+    assert_eq!(reading(agreement, &mut lent, &[]), Taken { number: 7, early: 0, cost: 0 });
     assert_eq!(lent, table);
     assert_eq!(forecast(agreement, table).number, 7);
 }
@@ -163,7 +163,7 @@ fn refusal_6_cells() {
     for cells in [0, 3_079, 3_081] {
         let mut table = vec![7; cells];
         assert_eq!(start(&agreement, &mut table), 6);
-        assert_eq!(reading(&agreement, &mut table, &[]), Taken { number: 6, early: 0 });
+        assert_eq!(reading(&agreement, &mut table, &[]), Taken { number: 6, early: 0, cost: 0 });
         assert_eq!(forecast(&agreement, &table).number, 6);
         assert_eq!(table, vec![7; cells]);
     }

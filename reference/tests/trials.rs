@@ -27,7 +27,7 @@ impl<'a> Steps<'a> {
 
 fn reading_line(agreement: &[u8], table: &mut [i64], event: &[u8]) -> String {
     let answer = reading(agreement, table, event);
-    table_line(format!("reading {} {}", answer.number, answer.early), table)
+    table_line(format!("reading {} {} {}", answer.number, answer.early, answer.cost), table)
 }
 
 /// What was answered, and the cells that are not zero.

@@ -12,7 +12,7 @@ pub use arguments::{command, told};
 pub use follow::followed;
 pub use teller::Form;
 
-use givuntha::{Breach, Refusal, State, Table, Taken};
+use givuntha::{Breach, Refusal, Refused, State, Table, Taken};
 use std::fmt;
 
 /// What the library answered.
@@ -34,6 +34,8 @@ pub struct Step {
     pub verdict: Verdict,
     /// The library's mark: the reading came too early. Neither the start nor a refused reading has it.
     pub early: bool,
+    /// What the reading cost, by the library; the start has no cost.
+    pub cost: Option<u64>,
 }
 
 /// An agreement that was started, and its table.
@@ -51,18 +53,20 @@ impl Run {
 
     /// What is to be seen after the start.
     pub fn started(&self) -> Step {
-        Step { number: 0, time: time(&self.agreement), verdict: self.verdict(), early: false }
+        Step { number: 0, time: time(&self.agreement), verdict: self.verdict(), early: false, cost: None }
     }
 
     pub fn reading(&mut self, record: &[u8]) -> Step {
         self.readings += 1;
-        let (time, verdict, early) = match self.table.reading(&self.agreement, record) {
-            Ok(Taken { early }) => (time(record), self.verdict(), early),
+        let answer = self.table.reading(&self.agreement, record);
+        let (time, verdict, early) = match answer {
+            Ok(Taken { early, .. }) => (time(record), self.verdict(), early),
             // Refused with 8 it is no record of a reading, so it has no time.
-            Err(refusal @ Refusal::ReadingForm) => (None, Verdict::Refused(refusal), false),
-            Err(refusal) => (time(record), Verdict::Refused(refusal), false),
+            Err(Refused::Other(refusal @ Refusal::ReadingForm)) => (None, Verdict::Refused(refusal), false),
+            Err(refused) => (time(record), Verdict::Refused(refused.refusal()), false),
         };
-        Step { number: self.readings, time, verdict, early }
+        let cost = answer.map_or_else(Refused::cost, |taken| taken.cost);
+        Step { number: self.readings, time, verdict, early, cost: Some(cost) }
     }
 
     /// What the table says now.

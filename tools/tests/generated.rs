@@ -44,16 +44,16 @@ fn runs(seed: u64, calls_made: usize) -> Vec<(Vec<u8>, Vec<Reading>)> {
     runs.into_iter().collect()
 }
 
-/// By the second monitor, after the start and after each reading: when the agreement last moved, and the mark of a
-/// reading that came too early.
-fn second(agreement: &[u8], readings: &[Reading]) -> Vec<(i64, bool)> {
+/// By the second monitor, after the start and after each reading: when the agreement last moved, the mark of a reading
+/// that came too early, and its cost.
+fn second(agreement: &[u8], readings: &[Reading]) -> Vec<(i64, bool, Option<u64>)> {
     let mut table = vec![0; CELLS];
     assert_eq!(start(agreement, &mut table), 0);
-    let mut told = vec![(table[MOVED], false)];
+    let mut told = vec![(table[MOVED], false, None)];
     for given in readings {
         // A refused reading leaves the table.
         let taken = reading(agreement, &mut table, &given.record());
-        told.push((table[MOVED], taken.early == 1));
+        told.push((table[MOVED], taken.early == 1, Some(taken.cost)));
     }
     told
 }
@@ -71,8 +71,8 @@ fn every_story_is_told_and_drawn() {
         let stream = readings.iter().fold(record.clone(), |stream, reading| [stream, reading.record()].concat());
         let verdicts: String = events.iter().map(|event| format!("{}\n", event.step)).collect();
         assert_eq!(verdicts, lines(&stream));
-        let marks: Vec<_> = events.iter().map(|event| (i64::from(event.last_moved), event.step.early)).collect();
-        assert_eq!(marks, second(&record, &readings), "{verdicts}");
+        let answers = events.iter().map(|event| (i64::from(event.last_moved), event.step.early, event.step.cost));
+        assert_eq!(answers.collect::<Vec<_>>(), second(&record, &readings), "{verdicts}");
         for event in &events {
             assert!(event.changes.is_ok() && event.broken.is_ok() && event.early.is_ok(), "{verdicts}");
             let said = text::event(&words, event);

@@ -206,18 +206,20 @@ fn a_start_that_is_refused() {
 
 #[test]
 fn wrong_arguments_give_3() {
-    let wrong: [&[&str]; 7] = [
+    let wrong: [&[&str]; 9] = [
         &["run"],
         &["run", POND],
         &["run", POND, "a", "b"],
         &["run", "--follow", POND, "a"],
         &["run", "--records"],
         &["run", "--json", "--records", "a"],
+        &["run", "--cost", "--records", "a"],
         &["run", "--jsn", POND, "a"],
+        &["run", "--costs", POND, "a"],
     ];
     for arguments in wrong {
         assert!(
-            complaint(arguments, b"", 3).starts_with("usage: agreement run [--json] TEXT READINGS\n"),
+            complaint(arguments, b"", 3).starts_with("usage: agreement run [--json] [--cost] TEXT READINGS\n"),
             "{arguments:?}"
         );
     }

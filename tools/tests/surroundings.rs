@@ -11,12 +11,13 @@ const TEXT: &str = "examples/pond/agreement.csl";
 const READINGS: &str = "examples/pond/season.readings";
 
 /// Every command that writes a result.
-const COMMANDS: [&[&str]; 11] = [
+const COMMANDS: [&[&str]; 12] = [
     &["check", TEXT],
     &["assemble", TEXT],
     &["readings", "--for", TEXT, READINGS],
     &["run", TEXT, READINGS],
     &["run", "--json", TEXT, READINGS],
+    &["run", "--cost", TEXT, READINGS],
     &["run", "--follow", TEXT],
     &["run", "--records", "crates/brinewatch/stdin"],
     &["timeline", TEXT, READINGS],

@@ -9,6 +9,10 @@
 use crate::parties::Parties;
 use crate::raw;
 use crate::refusal::Refusal;
+use crate::refused::Refused;
+
+/// No reading costs more: it is at most 65,792 for each of 128 units.
+pub const MOST_COST: u64 = 8_421_376;
 
 /// A breach: its time in minutes, and who is to blame.
 #[derive(Clone, Copy, Debug, PartialEq, Eq, Hash)]
@@ -29,8 +33,9 @@ pub struct Breach {
 ///     0, 8, 0, 32, 0, 60, 0, 0, 0, 4, 0, 16, 0,
 /// ];
 /// let mut table = Table::start(&agreement)?;
-/// assert_eq!(table.reading(&agreement, &record::reading(140, 1, &[]))?, Taken { early: true });
-/// assert_eq!(table.reading(&agreement, &record::reading(200, 1, &[]))?, Taken { early: false });
+/// // One unit is read; then it is read once more, and fulfilled is activated.
+/// assert_eq!(table.reading(&agreement, &record::reading(140, 1, &[]))?, Taken { early: true, cost: 1 });
+/// assert_eq!(table.reading(&agreement, &record::reading(200, 1, &[]))?, Taken { early: false, cost: 2 });
 /// # Ok::<(), givuntha::Refusal>(())
 /// ```
 #[derive(Clone, Copy, Debug, PartialEq, Eq, Hash)]
@@ -39,6 +44,10 @@ pub struct Taken {
     /// this type, finds `where` true, and has a window that opens later than the reading. The reading does not count
     /// for that window.
     pub early: bool,
+    /// What it cost: one for each unit in use, and one for each clause activated. An else that follows the same reading
+    /// is not counted again for that; sides that are later dropped count. On a fulfilled or breached table it is 0. It
+    /// is at most 65,792 for each unit in use, so at most [`MOST_COST`].
+    pub cost: u64,
 }
 
 /// The library's version: 10,000 times its first number, 100 times its second, and its third.
@@ -76,25 +85,25 @@ pub fn start(agreement: &[u8], table: &mut [i64]) -> Result<(), Refusal> {
     Refusal::answer(answer)
 }
 
-/// Gives the run in lent cells a reading of any bytes, and answers whether it came too early. A refusal leaves the
-/// cells; once breached, so does an accepted reading.
+/// Gives the run in lent cells a reading of any bytes, and answers whether it came too early and what it cost. A
+/// refusal leaves the cells; once breached, so does an accepted reading.
 ///
 /// ```
-/// use givuntha::{reading, record, start, State, Times};
+/// use givuntha::{reading, record, start, State, Taken, Times};
 ///
 /// // Fulfilled from the start; there is one type of reading, without values.
 /// let agreement = [20, 0, 1, 0, 100, 0, 0, 0, 1, 1, 0, 5, 0, 2, 0, 0, 4, 0, 16, 0];
 /// let mut cells = vec![0; givuntha::CELLS];
 /// start(&agreement, &mut cells)?;
 /// let taken = reading(&agreement, &mut cells, &record::reading(120, 1, &[]))?;
-/// assert!(!taken.early);
+/// assert_eq!(taken, Taken { early: false, cost: 0 });
 /// assert_eq!(State::of(&cells), Some(State::Fulfilled));
 /// assert_eq!(Times::of(&cells), Some(Times { last_reading: 120, last_moved: 100 }));
 /// # Ok::<(), givuntha::Refusal>(())
 /// ```
-pub fn reading(agreement: &[u8], table: &mut [i64], reading: &[u8]) -> Result<Taken, Refusal> {
-    let mut early = 0;
-    // SAFETY: all four are borrowed for the call, `table` and `early` apart from all else; see above.
+pub fn reading(agreement: &[u8], table: &mut [i64], reading: &[u8]) -> Result<Taken, Refused> {
+    let (mut early, mut cost) = (0, 0);
+    // SAFETY: all five are borrowed for the call, `table` and the two results apart from all else; see above.
     let answer = unsafe {
         raw::givuntha_reading(
             agreement.as_ptr(),
@@ -104,10 +113,11 @@ pub fn reading(agreement: &[u8], table: &mut [i64], reading: &[u8]) -> Result<Ta
             reading.as_ptr(),
             reading.len(),
             &mut early,
+            &mut cost,
         )
     };
-    Refusal::answer(answer)?;
-    Ok(Taken { early: is_set(early) })
+    Refused::answer(answer, cost)?;
+    Ok(Taken { early: is_set(early), cost })
 }
 
 /// What the run in lent cells comes to without further readings: a breach, or none. Of a breached run it is the

@@ -15,6 +15,7 @@ extern "C" {
         reading: *const u8,
         reading_bytes: usize,
         early: *mut u64,
+        cost: *mut u64,
     ) -> u32;
 
     pub fn givuntha_forecast(

@@ -2,6 +2,7 @@
 
 use crate::entries::{self, Breach, Taken};
 use crate::refusal::Refusal;
+use crate::refused::Refused;
 use crate::state::{State, Times};
 
 /// How many cells a table has.
@@ -30,8 +31,9 @@ impl Table {
         Ok(table)
     }
 
-    /// Gives the run a reading, and answers whether it came too early; see [`reading`](crate::reading).
-    pub fn reading(&mut self, agreement: &[u8], reading: &[u8]) -> Result<Taken, Refusal> {
+    /// Gives the run a reading, and answers whether it came too early and what it cost; see
+    /// [`reading`](crate::reading).
+    pub fn reading(&mut self, agreement: &[u8], reading: &[u8]) -> Result<Taken, Refused> {
         entries::reading(agreement, self.cells_mut(), reading)
     }
 

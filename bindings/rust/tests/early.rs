@@ -5,16 +5,18 @@
 #[path = "common/run.rs"]
 mod run;
 
-use givuntha::{record, Refusal, State, Table, Taken, CELLS};
+use givuntha::{record, Refusal, Refused, State, Table, Taken};
 use reference::agreement::{Operator, Type};
 use reference::build::{
     agreement, and, binary, instance, not, number, or, reading_type, simple, template, truth, value, Wait,
 };
-use run::{Run, TAKEN};
+use run::Run;
 use std::fs;
 use std::path::Path;
 
-const EARLY: Result<Taken, Refusal> = Ok(Taken { early: true });
+/// The marks of readings that are accepted, whatever they cost.
+const TAKEN: Result<bool, Refused> = Ok(false);
+const EARLY: Result<bool, Refused> = Ok(true);
 const STATE: usize = 0;
 const LAST_READING: usize = 1;
 const HEAD: usize = 8;
@@ -45,10 +47,15 @@ fn salinity(time: u32, value: i32) -> Vec<u8> {
 }
 
 impl Run {
+    /// Takes a reading, and answers whether it came too early.
+    fn early(&mut self, record: &[u8]) -> Result<bool, Refused> {
+        self.take(record).map(|taken| taken.early)
+    }
+
     /// Takes a reading that is too early, and looks whether the last reading time is all that it alters.
     fn take_early(&mut self, record: &[u8]) {
         let mut expected = self.table.clone();
-        assert_eq!(self.take(record), EARLY);
+        assert_eq!(self.early(record), EARLY);
         expected.cells_mut()[LAST_READING] = i64::from(self.table.times().expect("its times").last_reading);
         assert_eq!(self.table, expected);
     }
@@ -61,18 +68,18 @@ fn a_reading_before_the_window() {
         run.take_early(&salinity(time, 250));
         assert_eq!(run.table.times().map(|times| (times.last_reading, times.last_moved)), Some((time, 100)));
     }
-    assert_eq!((run.take(&salinity(160, 250)), run.table.state()), (TAKEN, Some(State::Fulfilled)));
+    assert_eq!((run.early(&salinity(160, 250)), run.table.state()), (TAKEN, Some(State::Fulfilled)));
 }
 
 #[test]
 fn the_first_minute_is_not_early() {
-    assert_eq!(owed_later().take(&salinity(160, 250)), TAKEN);
+    assert_eq!(owed_later().early(&salinity(160, 250)), TAKEN);
 }
 
 #[test]
 fn late_is_not_early() {
     let mut run = owed_later();
-    assert_eq!(run.take(&salinity(221, 250)), TAKEN);
+    assert_eq!(run.early(&salinity(221, 250)), TAKEN);
     assert!(matches!(run.table.state(), Some(State::Breached(_))));
 }
 
@@ -80,7 +87,7 @@ fn late_is_not_early() {
 fn a_reading_that_nothing_waits_for() {
     for given in [salinity(110, 249), record::reading(110, 2, &[250]), record::mark(110)] {
         let mut run = owed_later();
-        assert_eq!(run.take(&given), TAKEN);
+        assert_eq!(run.early(&given), TAKEN);
         assert_eq!(run.table.state(), Some(State::Running));
     }
 }
@@ -90,7 +97,7 @@ fn a_reading_that_nothing_waits_for() {
 fn a_reading_that_does_not_fit_the_open_window() {
     let mut run = owed_later();
     for given in [salinity(170, 249), record::reading(171, 2, &[250]), record::mark(172)] {
-        assert_eq!(run.take(&given), TAKEN);
+        assert_eq!(run.early(&given), TAKEN);
     }
 }
 
@@ -98,29 +105,29 @@ fn a_reading_that_does_not_fit_the_open_window() {
 fn a_refused_reading_has_no_mark() {
     let mut run = owed_later();
     run.take_early(&salinity(110, 250));
-    assert_eq!(run.take(&salinity(109, 250)), Err(Refusal::ReadingTime));
+    assert_eq!(run.early(&salinity(109, 250)), Err(Refused::Other(Refusal::ReadingTime)));
 }
 
 #[test]
 fn a_fulfilled_table() {
     let mut run = run_of(&or(&later().obligation(0), &simple(5).obligation(0)));
-    assert_eq!((run.take(&salinity(105, 250)), run.table.state()), (TAKEN, Some(State::Fulfilled)));
-    assert_eq!(run.take(&salinity(110, 250)), TAKEN);
+    assert_eq!((run.early(&salinity(105, 250)), run.table.state()), (TAKEN, Some(State::Fulfilled)));
+    assert_eq!(run.early(&salinity(110, 250)), TAKEN);
 }
 
 #[test]
 fn a_breached_table() {
     let mut run = run_of(&and(&later().obligation(0), &simple(5).obligation(1)));
-    assert_eq!(run.take(&salinity(110, 250)), TAKEN);
+    assert_eq!(run.early(&salinity(110, 250)), TAKEN);
     assert!(matches!(run.table.state(), Some(State::Breached(_))));
     let before = run.table.clone();
-    assert_eq!((run.take(&salinity(111, 250)), run.table), (TAKEN, before));
+    assert_eq!((run.early(&salinity(111, 250)), run.table), (TAKEN, before));
 }
 
 #[test]
 fn a_reading_that_meets_another_unit() {
     let mut run = run_of(&and(&later().obligation(0), &simple(60).obligation(1)));
-    assert_eq!(run.take(&salinity(110, 250)), TAKEN);
+    assert_eq!(run.early(&salinity(110, 250)), TAKEN);
     run.take_early(&salinity(110, 250));
 }
 
@@ -131,7 +138,7 @@ fn a_reading_that_finds_another_unit_late() {
     let missed = or(&simple(5).obligation(0), &Wait { reading: 2, ..simple(90) }.obligation(0));
     for other in [choice, missed] {
         let mut run = run_of(&and(&other, &later().obligation(0)));
-        assert_eq!(run.take(&salinity(110, 250)), TAKEN);
+        assert_eq!(run.early(&salinity(110, 250)), TAKEN);
         assert_eq!(run.table.state(), Some(State::Running));
         run.take_early(&salinity(110, 250));
     }
@@ -143,9 +150,9 @@ fn a_unit_that_comes_back_as_it_was_is_not_altered() {
     let again = instance(0, &[], &[]);
     let owed_again = Wait { then: again.clone(), ..simple(60) }.obligation(1);
     let mut run = Run::of(works(&[template(&[], 0, 2, &owed_again)], &and(&later().obligation(0), &again)));
-    assert_eq!(run.take(&salinity(110, 250)), TAKEN);
+    assert_eq!(run.early(&salinity(110, 250)), TAKEN);
     run.take_early(&salinity(110, 250));
-    assert_eq!(run.take(&salinity(111, 250)), TAKEN);
+    assert_eq!(run.early(&salinity(111, 250)), TAKEN);
 }
 
 /// Its first is the reading's own minute, or before it; met or lapsed it comes back as it was, and was not early.
@@ -157,9 +164,9 @@ fn a_unit_that_comes_back_is_not_early_for_itself() {
     let open_before = Wait { after: number(-5), then: again.clone(), ..simple(60) };
     for body in [owed_again.obligation(0), open_before.obligation(0), never] {
         let mut run = Run::of(works(&[template(&[], 0, 1, &body)], &again));
-        assert_eq!(run.take(&salinity(110, 0)), TAKEN);
+        assert_eq!(run.early(&salinity(110, 0)), TAKEN);
         let before = run.table.clone();
-        assert_eq!((run.take(&salinity(110, 0)), run.table), (TAKEN, before));
+        assert_eq!((run.early(&salinity(110, 0)), run.table), (TAKEN, before));
     }
 }
 
@@ -173,7 +180,7 @@ fn every_waiting_unit_counts() {
     for main in sides.into_iter().chain([far, near, later().choice(&idle)]) {
         run_of(&main).take_early(&salinity(110, 250));
     }
-    let idle_alone = run_of(&and(&idle, &idle)).take(&salinity(110, 250));
+    let idle_alone = run_of(&and(&idle, &idle)).early(&salinity(110, 250));
     assert_eq!(idle_alone, TAKEN);
 }
 
@@ -184,7 +191,7 @@ fn no_unit_alone_is_early() {
     let other_type = Wait { reading: 2, ..later() }.obligation(0);
     let open = Wait { condition: truth(0), ..simple(90) }.obligation(0);
     let mut run = run_of(&and(&refuses, &and(&other_type, &open)));
-    assert_eq!(run.take(&salinity(110, 250)), TAKEN);
+    assert_eq!(run.early(&salinity(110, 250)), TAKEN);
 }
 
 /// The window is counted from the activation, and `after` may be worked out from what was read.
@@ -192,10 +199,10 @@ fn no_unit_alone_is_early() {
 fn a_window_after_the_activation() {
     let then = Wait { after: value(0), ..simple(60) }.obligation(0);
     let mut run = run_of(&Wait { then, ..simple(60) }.obligation(0));
-    assert_eq!(run.take(&salinity(130, 40)), TAKEN);
+    assert_eq!(run.early(&salinity(130, 40)), TAKEN);
     run.take_early(&salinity(130, 0));
     run.take_early(&salinity(169, 0));
-    assert_eq!((run.take(&salinity(170, 0)), run.table.state()), (TAKEN, Some(State::Fulfilled)));
+    assert_eq!((run.early(&salinity(170, 0)), run.table.state()), (TAKEN, Some(State::Fulfilled)));
 }
 
 /// `where` sees the values in sight at the clause and then those of this reading.
@@ -205,15 +212,15 @@ fn where_with_a_value_in_sight() {
     let body = Wait { condition, ..later() }.obligation(128);
     let main = instance(0, &[number(7)], &[1]);
     let mut run = Run::of(works(&[template(&[Type::Number], 1, 0, &body)], &main));
-    assert_eq!(run.take(&salinity(110, 8)), TAKEN);
+    assert_eq!(run.early(&salinity(110, 8)), TAKEN);
     run.take_early(&salinity(110, 7));
 }
 
 #[test]
 fn a_window_that_opened_before_the_activation() {
     let mut run = run_of(&Wait { after: number(-5), ..later() }.obligation(0));
-    assert_eq!(run.take(&salinity(100, 249)), TAKEN);
-    assert_eq!((run.take(&salinity(100, 250)), run.table.state()), (TAKEN, Some(State::Fulfilled)));
+    assert_eq!(run.early(&salinity(100, 249)), TAKEN);
+    assert_eq!((run.early(&salinity(100, 250)), run.table.state()), (TAKEN, Some(State::Fulfilled)));
 }
 
 /// From 110 to 90 is no time at all: the choice lapses, and its else takes the reading and leads back to it. In the
@@ -225,7 +232,7 @@ fn a_window_that_is_over_before_it_opens() {
     let never = Wait { after: number(10), ..simple(-20) }.choice(&otherwise);
     let mut run = Run::of(works(&[template(&[], 0, 1, &never)], &again));
     run.take_early(&salinity(100, 0));
-    assert_eq!(run.take(&salinity(101, 0)), TAKEN);
+    assert_eq!(run.early(&salinity(101, 0)), TAKEN);
     run.take_early(&salinity(101, 0));
 }
 
@@ -235,80 +242,6 @@ fn a_first_beyond_32_bits() {
     let mut run = Run::of(agreement(u32::MAX - 1, 1, &[reading_type(&[])], &[], &main));
     run.take_early(&record::reading(u32::MAX - 1, 1, &[]));
     run.take_early(&record::reading(u32::MAX, 1, &[]));
-}
-
-extern "C" {
-    fn givuntha_reading(
-        agreement: *const u8,
-        agreement_bytes: usize,
-        table: *mut i64,
-        table_cells: usize,
-        reading: *const u8,
-        reading_bytes: usize,
-        early: *mut u64,
-    ) -> u32;
-}
-
-/// The number, and what the mark holds after a call before which it held this.
-fn raw(agreement: &[u8], cells: &[i64], reading: &[u8], held: u64) -> (u32, u64) {
-    let (mut table, mut early) = (cells.to_vec(), held);
-    let (bytes, cells) = (agreement.len(), table.len());
-    let table = table.as_mut_ptr();
-    // SAFETY: the pointers come from slices and references, valid for the lengths beside them and apart.
-    let number = unsafe {
-        givuntha_reading(agreement.as_ptr(), bytes, table, cells, reading.as_ptr(), reading.len(), &mut early)
-    };
-    (number, early)
-}
-
-/// Whatever it held before; the result of a call is all 64 bits.
-fn assert_written(agreement: &[u8], cells: &[i64], reading: &[u8], expected: (u32, u64)) {
-    for held in [0, 1, 2, 0x5555_5555_5555_5555, u64::MAX] {
-        assert_eq!(raw(agreement, cells, reading, held), expected, "{held}");
-    }
-}
-
-#[test]
-fn an_accepted_reading_always_writes_the_mark() {
-    let mut run = owed_later();
-    assert_written(&run.agreement, run.table.cells(), &salinity(110, 250), (0, 1));
-    for given in [salinity(160, 250), salinity(110, 249), salinity(221, 250), record::mark(110)] {
-        assert_written(&run.agreement, run.table.cells(), &given, (0, 0));
-    }
-    for given in [salinity(160, 250), salinity(221, 250)] {
-        run.table = Table::start(&run.agreement).unwrap();
-        run.take(&given).unwrap();
-        assert_written(&run.agreement, run.table.cells(), &salinity(230, 250), (0, 0));
-    }
-}
-
-/// Each reading would be early, were it not refused.
-#[test]
-fn every_refusal_sets_the_mark_to_0() {
-    let Run { agreement, table } = owed_later();
-    let (cells, given) = (table.cells(), salinity(110, 250));
-    let untyped = works(&[], &Wait { after: truth(1), ..later() }.obligation(0));
-    let itself = instance(0, &[], &[]);
-    let unguarded = works(&[template(&[], 0, 1, &itself)], &later().obligation(0));
-    let half = (0..7).fold(later().obligation(0), |side, _| and(&side, &side));
-    let wide = works(&[], &and(&half, &later().obligation(0)));
-    for (agreement, number) in [(vec![], 1), (works(&[], &itself), 2), (untyped, 3), (unguarded, 4), (wide, 5)] {
-        assert_written(&agreement, cells, &given, (number, 0));
-    }
-    assert_written(&agreement, &cells[1..], &given, (6, 0));
-    assert_written(&agreement, &[0; CELLS], &given, (7, 0));
-    assert_written(&agreement, cells, &given[..12], (8, 0));
-    assert_written(&agreement, cells, &record::reading(110, 1, &[250, 0]), (9, 0));
-    assert_written(&agreement, cells, &salinity(99, 250), (10, 0));
-}
-
-/// One waits early, and the other's `then` needs over 128 units.
-#[test]
-fn refusal_11_sets_the_mark_to_0() {
-    let all = (0..6).fold(simple(60).obligation(0), |side, _| and(&side, &side));
-    let grows = Wait { then: and(&all, &all), ..simple(60) }.obligation(0);
-    let Run { agreement, table } = run_of(&and(&later().obligation(0), &grows));
-    assert_written(&agreement, table.cells(), &salinity(110, 250), (11, 0));
 }
 
 /// Every reading of every stream: marked only where the table was running and no unit or state altered.

@@ -1,6 +1,6 @@
 //! Generated calls, damaged ones too, given to the library and to the second monitor.
 
-use givuntha::{check, forecast, reading, start, Refusal};
+use givuntha::{check, forecast, reading, start, Refusal, Refused};
 use reference::generate::{calls, Answer, Call, Entry};
 use reference::{Checked, Forecast};
 
@@ -27,7 +27,8 @@ fn answer(call: &Call) -> Answer {
             let mut table = table.clone();
             let answer = reading(&call.agreement, &mut table, given);
             let early = answer.map_or(0, |taken| u32::from(taken.early));
-            Answer::Reading { number: number(&answer), early, table }
+            let cost = answer.map_or_else(Refused::cost, |taken| taken.cost);
+            Answer::Reading { number: number(&answer.map_err(Refusal::from)), early, cost, table }
         }
         Entry::Forecast { table } => {
             let answer = forecast(&call.agreement, table);
@@ -40,13 +41,14 @@ fn answer(call: &Call) -> Answer {
 
 #[test]
 fn both_monitors_answer_alike() {
-    let (mut reached, mut early) = ([0; 12], 0);
+    let (mut reached, mut early, mut costly) = ([0; 12], 0, 0);
     for (n, call) in calls(1).take(CALLS).enumerate() {
         let expected = call.answer();
         assert!(answer(&call) == expected, "call {n} of seed 1: {:?}", call.aim);
         reached[expected.number() as usize] += 1;
         early += usize::from(matches!(expected, Answer::Reading { early: 1, .. }));
+        costly += usize::from(matches!(expected, Answer::Reading { cost: 1000.., .. }));
     }
     assert!(reached.iter().all(|&count| count > 0), "{reached:?}");
-    assert!(early > 0, "no reading came too early");
+    assert!(early > 0 && costly > 0, "{early} readings came too early, {costly} cost 1,000 or more");
 }

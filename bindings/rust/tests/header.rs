@@ -1,6 +1,6 @@
 //! The C header says the same numbers as this crate.
 
-use givuntha::{Breach, Parties, Refusal, State, Times, CELLS, STACK};
+use givuntha::{Breach, Parties, Refusal, State, Times, CELLS, MOST_COST, STACK};
 use std::fs;
 use std::path::Path;
 
@@ -55,9 +55,10 @@ fn the_head_s_cells_are_those_of_the_header() {
 }
 
 #[test]
-fn the_table_and_the_stack_are_as_long() {
+fn table_stack_and_cost_are_those_of_the_header() {
     let header = header();
-    for line in [format!("#define GIVUNTHA_TABLE_CELLS {CELLS}"), format!("#define GIVUNTHA_STACK_BYTES {STACK}")] {
+    for (name, number) in [("TABLE_CELLS", CELLS as u64), ("STACK_BYTES", STACK as u64), ("MOST_COST", MOST_COST)] {
+        let line = format!("#define GIVUNTHA_{name} {number}");
         assert!(header.lines().any(|known| known == line), "{line}");
     }
 }
@@ -88,7 +89,7 @@ fn the_functions_are_those_of_the_header() {
     let declared = functions(&header(), "\nuint32_t ", ");", |one| one.rsplit([' ', '*']).next());
     let raw = functions(include_str!("../src/raw.rs"), "pub fn ", ") -> u32;", |one| one.split(':').next());
     assert_eq!(declared, raw);
-    let parameters = "agreement, agreement_bytes, table, table_cells, reading, reading_bytes, early";
+    let parameters = "agreement, agreement_bytes, table, table_cells, reading, reading_bytes, early, cost";
     assert!(declared.contains(&format!("givuntha_reading({parameters})")), "{declared:?}");
 }
 

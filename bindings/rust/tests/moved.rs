@@ -9,10 +9,10 @@ mod run;
 #[path = "common/sample.rs"]
 mod sample;
 
-use givuntha::{forecast, reading, record, Refusal, State, Table, Times};
+use givuntha::{forecast, reading, record, Refusal, Refused, State, Table, Times};
 use pond::pond;
 use reference::build::{and, fulfilled, instance, simple, template, Wait};
-use run::{Run, TAKEN};
+use run::Run;
 use sample::sample;
 use std::fs;
 use std::path::Path;
@@ -23,7 +23,7 @@ const HEAD: usize = 8;
 
 impl Run {
     fn accept(&mut self, record: &[u8]) {
-        assert_eq!(self.take(record), TAKEN);
+        assert_eq!(self.take(record).map(|taken| taken.early), Ok(false));
     }
 
     /// The time of the last reading, and when it last moved.
@@ -110,7 +110,7 @@ fn a_refused_reading_leaves_it() {
         (salinity(105, 250), Refusal::ReadingTime),
     ];
     for (record, refusal) in refused {
-        assert_eq!(run.take(&record), Err(refusal));
+        assert_eq!(run.take(&record), Err(Refused::Other(refusal)));
         assert_eq!(run.table, before);
     }
     assert_eq!(run.times(), (110, 100));
@@ -122,7 +122,7 @@ fn a_reading_with_too_many_units_leaves_it() {
     let doubling = Wait { then: and(&again, &again), ..simple(60) }.obligation(0);
     let mut run = Run::of(pond(&[template(&[], 0, 1, &doubling)], &again));
     (101..107).for_each(|time| run.accept(&salinity(time, 0)));
-    assert_eq!(run.take(&salinity(107, 0)), Err(Refusal::Units));
+    assert!(matches!(run.take(&salinity(107, 0)), Err(Refused::Units { .. })));
     assert_eq!(run.times(), (106, 106));
 }
 
@@ -180,7 +180,7 @@ fn elsewhere_it_is_refused_with_7() {
             let damaged = cells.clone();
             assert_eq!(forecast(&run.agreement, &cells), Err(Refusal::TableContent), "{moved}");
             let answer = reading(&run.agreement, &mut cells, &record::mark(180));
-            assert_eq!((answer, cells), (Err(Refusal::TableContent), damaged), "{moved}");
+            assert_eq!((answer, cells), (Err(Refused::Other(Refusal::TableContent)), damaged), "{moved}");
         }
     }
 }

@@ -5,7 +5,7 @@ mod pond;
 #[path = "common/sample.rs"]
 mod sample;
 
-use givuntha::{check, forecast, reading, record, start, Refusal, State, Table, Taken, CELLS};
+use givuntha::{check, forecast, reading, record, start, Refusal, Refused, State, Table, Taken, CELLS};
 use pond::pond;
 use reference::agreement::Operator;
 use reference::build::{and, binary, fulfilled, instance, number, record as made, simple, template, truth, Wait};
@@ -40,7 +40,7 @@ fn refused_reading(agreement: &[u8], cells: &[i64], given: &[u8]) -> Option<Refu
     let mut lent = cells.to_vec();
     let answer = reading(agreement, &mut lent, given);
     assert_eq!(lent, cells);
-    answer.err()
+    answer.err().map(Refused::refusal)
 }
 
 /// Starts an agreement that must be refused, and looks whether the cells are left.
@@ -116,7 +116,7 @@ fn refusal_10_a_reading_before_the_last() {
     table.reading(&sample(), &record::reading(110, 1, &[240])).unwrap();
     let past = record::reading(105, 1, &[250]);
     assert_eq!(refused_reading(&sample(), table.cells(), &past), Some(Refusal::ReadingTime));
-    assert_eq!(table.reading(&sample(), &record::mark(110)), Ok(Taken { early: false }));
+    assert_eq!(table.reading(&sample(), &record::mark(110)), Ok(Taken { early: false, cost: 1 }));
 }
 
 #[test]
@@ -150,4 +150,18 @@ fn numbers_and_words() {
     assert_eq!(Refusal::ReadingTime.to_string(), "time below the last reading time");
     assert_eq!(Refusal::Units.to_string(), "the residue by the rules needs over 128 units");
     assert!(Refusal::ALL.iter().all(|refusal| !refusal.to_string().contains("  ")));
+}
+
+/// A refused reading says what the refusal says, and has a cost on 11 alone.
+#[test]
+fn a_reading_s_refusals() {
+    let units = Refused::Units { cost: 447 };
+    assert_eq!((units.refusal(), units.number(), units.cost()), (Refusal::Units, 11, 447));
+    for refusal in Refusal::ALL.into_iter().filter(|refusal| *refusal != Refusal::Units) {
+        let refused = Refused::Other(refusal);
+        assert_eq!((refused.refusal(), refused.number(), refused.cost()), (refusal, refusal.number(), 0));
+    }
+    for refused in [units, Refused::Other(Refusal::ReadingTime)] {
+        assert_eq!(refused.to_string(), Refusal::from(refused).to_string());
+    }
 }

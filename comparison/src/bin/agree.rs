@@ -97,8 +97,8 @@ fn words(answer: &Answer) -> String {
         Answer::Check(checked) => format!("{checked:?}"),
         Answer::Forecast(forecast) => format!("{forecast:?}"),
         Answer::Start { number, table } => format!("{number}, table afterwards: {}", cells(table)),
-        Answer::Reading { number, early, table } => {
-            format!("{number}, early {early}, table afterwards: {}", cells(table))
+        Answer::Reading { number, early, cost, table } => {
+            format!("{number}, early {early}, cost {cost}, table afterwards: {}", cells(table))
         }
     }
 }

@@ -11,11 +11,15 @@ use lib.Seq.{drop-at, take-at}
 use Rattle.arith.proofs.Ints.{seen, read! }
 use Rattle.arith.proofs.Lists.{length-part}
 use Rattle.csl.specs.Bytes.{byte, part}
+use Rattle.csl.specs.Syntax.{Join}
 use Rattle.cells.specs.Reduce as cells
-use Rattle.residues.specs.Reduces.{Stands, Is, Sides, roomLeft, farthest}
+use Rattle.residues.specs.Reduces.{Stands, Is, Sides, JoinIs, roomLeft, farthest}
+use Rattle.residues.specs.Tallies.{Reckons, Makes, MakesOne, JoinTallies}
 use Rattle.activation.specs.Leads.{Ready, Fits, innerSite, weight}
 use Rattle.residues.specs.declared.Reduced.{Reduced}
 use Rattle.residues.specs.declared.Reduced.the-variants.{Done, Breach, Running}
+use Rattle.residues.specs.declared.Reckoned.{Reckoned}
+use Rattle.residues.specs.declared.Tally.{Tally}
 use Rattle.waits.specs.declared.Event.{Event}
 use Rattle.waits.specs.declared.Step.the-variants.{Activate, Follow}
 use Rattle.activation.specs.declared.Site.{Site}
@@ -104,17 +108,29 @@ module _ {places ag : List ℕ} {e : Event} {rs : List ℤ} {t : Site} {ps vs : 
   lighter-body n few = rw ew (omega arith)
 
 -- ---- what an answer within says of the whole
-pub is-as : (r : Reduced) (o : List ℤ) {x y : cells.Reduced} → x ≡ y → Is y r o → Is x r o
-is-as r o e h = rw e h
+pub reckons-as : {x y : cells.Reckoned} {r : Reckoned} {o : List ℤ} → x ≡ y → Reckons y r o → Reckons x r o
+reckons-as e h = rw e h
 
-pub is-ends : (o : List ℤ) {x : cells.Reduced} → x ≡ cells.done → Is x Done o
+pub reckons-by : (by : cells.Reckoned → cells.Reckoned) {x y : cells.Reckoned} {r a : Reckoned} {o : List ℤ}
+    → x ≡ by y → Reckons y r o → Makes by r a → Reckons x a o
+reckons-by by {y = y} {o = o} e h m = rw e (m .is y o h)
+
+-- one clause that is breached or waits
+pub reckons-broken : {t : ℤ} {b : ℕ} {a : Reckoned} → MakesOne (Breach (seen t) b) a → (o : List ℤ)
+    {x : cells.Reckoned} → mag t < 2 ^ 63 → (u : ℕ) × (x ≡ cells.reaches (cells.broken u b)) × (t ≡ pos u)
+    → Reckons x a o
+unfolding Is cells.reaches cells.broken
+reckons-broken {b = b} m o f g = rw (g .1) (m .is (cells.breach (g .0) b) o (read! f ∙ g .2, refl))
+
+pub reckons-waiting : {r : Reduced} {a : Reckoned} → MakesOne r a → (o cs : List ℤ) {x : cells.Reckoned}
+    → x ≡ cells.reaches (cells.waiting cs) → Is (cells.running cs) r o → Reckons x a o
+unfolding cells.reaches cells.waiting
+reckons-waiting m o cs e h = rw e (m .is (cells.running cs) o h)
+
+-- ---- what an outcome says
+is-ends : (o : List ℤ) {x : cells.Reduced} → x ≡ cells.done → Is x Done o
 unfolding Is
 is-ends o e = rw e tt
-
-pub is-breaks : (o : List ℤ) {x : cells.Reduced} {t : ℤ} {b : ℕ} → mag t < 2 ^ 63 → (u : ℕ) × (x ≡ cells.breach u b)
-    × (t ≡ pos u) → Is x (Breach (seen t) b) o
-unfolding Is
-is-breaks o f h = rw (h .1) (read! f ∙ h .2, refl)
 
 breach-is : (o : List ℤ) {x : cells.Reduced} {t : ℤ} {b : ℕ} → (u : ℕ) × (x ≡ cells.breach u b) × (t ≡ pos u)
     → Is x (Breach t b) o
@@ -158,6 +174,18 @@ module _ (o₁ o₂ : List ℤ) (r : Reduced) (e : ℕ) (ee : e ≡ roomLeft r (
         ∙ ap (λ n. take n (o₂ ++ drop e o₁)) (sym ee) ∙ take-at o₂ (drop e o₁) e l₂)) hx;
     of-right = right-stays y hy;
   }
+
+pub reckons-laid : (o₁ o₂ : List ℤ) {r : Reckoned} (e : ℕ) → e ≡ roomLeft (r .outcome) (length o₁) → e ≤ length o₁
+    → length o₂ ≡ e → length o₁ ≤ 3072 → {j : Join} {l : Reckoned} {a : Reduced} {t : Tally} {w : List ℤ}
+    → JoinIs j (l .outcome) (r .outcome) (o₂ ++ drop e o₁) a w → JoinTallies j (l .tally) (r .tally) t
+    → {x y : cells.Reckoned} → Reckons x l o₂ → Reckons y r o₁
+    → Reckons (cells.reaches (cells.joins j x y)) (record { outcome = a; tally = t }) w
+unfolding cells.reaches cells.joins
+reckons-laid o₁ o₂ {r} e ee he l₂ room i t {x} {y} hx hy = record {
+  outcome = i .is (x .outcome) (y .outcome)
+      (laid o₁ o₂ (r .outcome) e ee he l₂ room (x .outcome) (y .outcome) (hx .outcome) (hy .outcome));
+  tally = t .is (x .tally) (y .tally) (hx .tally) (hy .tally);
+}
 
 pub fits-body : {ag : List ℕ} {t : Site} {out : List ℤ} → Fits ag t [] out → {w : Site} {k x y a : ℕ}
     → w ≡ record { below = k; place = x; a = a; depth = 22 } → x ≤ y → y ≤ length ag → {o : List ℤ}

@@ -1,9 +1,10 @@
 -- Laws of the rules as the code knows things: what each clause leads to.
 use mathlib.Core.Path.{_≡_, refl, sym, ap, _∙_, subst}
-use mathlib.Core.Bool.{Bool, true, false, cond, not}
+use mathlib.Core.Bool.{Bool, true, false, cond, _&&_}
 use mathlib.Core.List.{List, _++_}
 use mathlib.Core.Option.{Option, none, some}
 use Prim.Native.Nat.{ℕ, zero, suc, _+_, _-_, _≤_, _<_}
+use native.Mathlib.Nat.{add-comm}
 use native.Mathlib.Omega.{arith}
 use native.Mathlib.Decide.{decLe}
 use lib.IntN.{ℤ, pos, _-ℤ_}
@@ -11,7 +12,7 @@ use lib.Dec.{eqb}
 use lib.ListN.{length, take, drop}
 use lib.Seq.{drop-at, take-append-le, take-take, length-take-le}
 use borrow.Rule.Slice.PartMut.{putMid}
-use borrow.Author.Tests.{ne-eqb, eq-eqb, not-true, not-false}
+use borrow.Author.Tests.{ne-eqb, eq-eqb}
 use Rattle.laws.proofs.Clash.{impossible}
 use Rattle.arith.specs.Near.{Near}
 use Rattle.arith.proofs.Ints.{seen, read}
@@ -28,6 +29,7 @@ use Rattle.csl.specs.Decode.{ClauseKind, clauseKind, expr, waitAt, waitEnd, cla
 use Rattle.csl.specs.Decode.{arguments, recordsEnd, ifKind, obligationKind, choiceKind, instanceKind}
 use Rattle.laws.specs.Joins.{joinOf}
 use Rattle.csl.specs.Decode.{bodyPlace, bodyOf, templateOf}
+use Rattle.csl.specs.Cost.{Tally, bothAtOnce, tallyJoin, nothingYet, oneMore}
 use Rattle.cells.specs.Evaluate.{evalCells, evalsCells, isTrue}
 use Rattle.cells.specs.Reduce as cells
 use Rattle.cells.proofs.Unfolds.{unfold-at, unfold-past}
@@ -35,7 +37,9 @@ use Rattle.cells.specs.Reduce.{Mode, activating, fate, waits, late, taken, last
 use Rattle.records.proofs.Trees.{clause-zero, clause-none, clause-at, kind-no-clause-low, kind-no-clause-high}
 use Rattle.records.proofs.Trees.{kind-fulfilled, kind-join}
 use Rattle.waits.specs.Fates.{modeOf, modeAt, FateIs}
-use Rattle.activation.specs.Leads.{Leads, Shaped, Acting, Ended, reduceAt, reduceBelow, bodyIn, templatesOf}
+use Rattle.residues.specs.Tallies.{endedBy}
+use Rattle.activation.specs.Leads.{Leads, Shaped, Outlined, Acting, Ended, reckonAt, reckonBelow, bodyIn}
+use Rattle.activation.specs.Leads.{templatesOf}
 use Rattle.waits.specs.declared.Event.{Event}
 use Rattle.activation.specs.declared.Site.{Site}
 use Rattle.waits.specs.declared.Step.{Step}
@@ -43,8 +47,13 @@ use Rattle.waits.specs.declared.Step.the-variants.{Activate, Forecast, Follow}
 use Rattle.waits.specs.declared.Fate.{Fate}
 use Rattle.waits.specs.declared.Fate.the-variants.{Waits as WaitsOn, Late, Taken}
 use Rattle.activation.specs.declared.Next.{Next}
-use Rattle.activation.specs.declared.Next.the-variants.{Ends, Breaks, Waits, Goes, Takes, Unfolds}
+use Rattle.activation.specs.declared.Next.the-variants.{Ends, Breaks, Waits, Picks, Lapses, Takes, Unfolds}
 use Rattle.activation.specs.declared.Shape.{Shape}
+
+-- a clause that is fulfilled at once is counted
+ended-once : cells.reaches cells.ended ≡ endedBy 1
+unfolding cells.reaches cells.ended oneMore nothingYet endedBy
+ended-once = refl
 
 -- ---- what a wait is known to become
 module _ (m : Mode) (vs : List ℤ) (a : ℕ) (w : Wait) {f : Fate} (h : FateIs m vs a w f) where
@@ -80,12 +89,12 @@ module _ (e : Event) (rs : List ℤ) (ag : List ℕ) (below : ℕ) (s : List ℕ
   LeadsTo k r = Leads e rs ag below s place ps vs a depth (bodyIn ag (depth - 1) place s k) written r
 
   pub obligation-waits : fate (modeAt e rs) vs a (waitOf 5) ≡ waits → LeadsTo obligationKind (Waits 17)
-  unfolding Leads reduceBelow cells.walk clauseBody waitAt
+  unfolding Leads reckonBelow cells.walk clauseBody waitAt
   obligation-waits f = (rw (f, cells.walk), omega arith)
 
   pub obligation-late : fate (modeAt e rs) vs a (waitOf 5) ≡ late → {l t : ℤ} {b : ℕ} → l ≡ lastOf vs a (waitOf 5)
       → t ≡ pos (laterOf a l) → b ≡ blameBits ps (byte s 4) → LeadsTo obligationKind (Breaks t b)
-  unfolding Leads reduceBelow cells.walk clauseBody
+  unfolding Leads reckonBelow cells.walk clauseBody
   obligation-late f {l} el et eb = (laterOf a l, rw (f, cells.walk, ← eb, ← el), et)
 
   -- a `then` at c
@@ -93,7 +102,7 @@ module _ (e : Event) (rs : List ℤ) (ag : List ℕ) (below : ℕ) (s : List ℕ
     pub obligation-taken : c ≡ waitEnd s 5 → z ≡ length s → fate (modeAt e rs) vs a (waitOf 5) ≡ taken
         → l ≡ lastOf vs a (waitOf 5) → take n written ≡ thenValues vs rs (l -ℤ pos (e .time))
         → LeadsTo obligationKind (Takes c z n)
-    unfolding Leads reduceBelow cells.walk cells.onTaken clauseBody
+    unfolding Leads reckonBelow cells.walk cells.onTaken clauseBody
     obligation-taken ec ez f el ew =
         let w = taken-follows e rs vs a (waitOf 5) f in
         record {
@@ -108,7 +117,7 @@ module _ (e : Event) (rs : List ℤ) (ag : List ℕ) (below : ℕ) (s : List ℕ
     pub choice-taken : c ≡ waitEnd s 4 → z ≡ recordEnd s c → fate (modeAt e rs) vs a (waitOf 4) ≡ taken
         → l ≡ lastOf vs a (waitOf 4) → take n written ≡ thenValues vs rs (l -ℤ pos (e .time))
         → LeadsTo choiceKind (Takes c z n)
-    unfolding Leads reduceBelow cells.walk cells.onTaken clauseBody
+    unfolding Leads reckonBelow cells.walk cells.onTaken clauseBody
     choice-taken ec ez f el ew =
         let w = taken-follows e rs vs a (waitOf 4) f in
         record {
@@ -121,14 +130,14 @@ module _ (e : Event) (rs : List ℤ) (ag : List ℕ) (below : ℕ) (s : List ℕ
         }
 
   pub choice-waits : fate (modeAt e rs) vs a (waitOf 4) ≡ waits → LeadsTo choiceKind (Waits 18)
-  unfolding Leads reduceBelow cells.walk clauseBody waitAt
+  unfolding Leads reckonBelow cells.walk clauseBody waitAt
   choice-waits f = (rw (f, cells.walk), omega arith)
 
   -- the else at z
   pub choice-late : {c z y b : ℕ} → c ≡ waitEnd s 4 → z ≡ recordEnd s c → y ≡ length s → (4 ≤ z) × (z ≤ y)
       → fate (modeAt e rs) vs a (waitOf 4) ≡ late → {l : ℤ} → l ≡ lastOf vs a (waitOf 4) → (b ≡ laterOf a l)
-      × (b ≤ a + 2_000_000_000) → LeadsTo choiceKind (Goes z y b)
-  unfolding Leads reduceBelow cells.walk clauseBody
+      × (b ≤ a + 2_000_000_000) → LeadsTo choiceKind (Lapses z y b)
+  unfolding Leads reckonBelow cells.walk clauseBody
   choice-late ec ez ey o f el eb = record {
     is = rw (f, cells.walk, ← el, ← eb .0, ey, ez, ec);
     past = o .0;
@@ -141,8 +150,8 @@ module _ (e : Event) (rs : List ℤ) (ag : List ℕ) (below : ℕ) (s : List ℕ
   -- ---- `if`
   module _ {c f : ℕ} (ec : c ≡ recordEnd s 4) (ef : f ≡ recordEnd s c) {x : ℤ}
       (ex : (x ≡ evalCells vs (expr (depth - 1) (part s 4 c))) × Held x) where
-    pub chosen-then : isTrue (seen x) ≡ true → (4 ≤ c) × (c ≤ f) × (f ≤ length s) → LeadsTo ifKind (Goes c f a)
-    unfolding Leads reduceBelow cells.walk clauseBody
+    pub chosen-then : isTrue (seen x) ≡ true → (4 ≤ c) × (c ≤ f) × (f ≤ length s) → LeadsTo ifKind (Picks c f)
+    unfolding Leads reckonBelow cells.walk clauseBody
     chosen-then t o =
         let g : isTrue (evalCells vs (expr (depth - 1) (part s 4 (recordEnd s 4)))) ≡ true = rw
         (read (held-fits (ex .1)), ex .0, ec) at t in
@@ -156,8 +165,8 @@ module _ (e : Event) (rs : List ℤ) (ag : List ℕ) (below : ℕ) (s : List ℕ
               arith;
         }
 
-    pub chosen-else : isTrue (seen x) ≡ false → (4 ≤ f) × (f ≤ length s) → LeadsTo ifKind (Goes f (length s) a)
-    unfolding Leads reduceBelow cells.walk clauseBody
+    pub chosen-else : isTrue (seen x) ≡ false → (4 ≤ f) × (f ≤ length s) → LeadsTo ifKind (Picks f (length s))
+    unfolding Leads reckonBelow cells.walk clauseBody
     chosen-else t o =
         let g : isTrue (evalCells vs (expr (depth - 1) (part s 4 (recordEnd s 4)))) ≡ false = rw
         (read (held-fits (ex .1)), ex .0, ec) at t in
@@ -187,17 +196,17 @@ module _ {places ag : List ℕ} (x : Indexed places ag) (k : ℕ) (h : k < byte 
       ∙ part-part ag t r b (r - t) (omega arith) ∙ ap (λ n. part ag (t + b) n) f)
 
   pub body-below : (m : Mode) (below : ℕ) (ps vs : List ℤ) (a : ℕ) → k < below
-      → cells.unfoldBelow m (cells.activate (templatesOf ag)) (templatesOf ag) below k ps vs a ≡ reduceBelow m ag k
+      → cells.unfoldBelow m (cells.activate (templatesOf ag)) (templatesOf ag) below k ps vs a ≡ reckonBelow m ag k
       (clause (headsOf ag) 22 (bodyFrom ag k) (part ag (bodyFrom ag k) (bodyTo ag k))) ps vs a
-  unfolding reduceBelow templateOf
+  unfolding reckonBelow templateOf
   body-below m below ps vs a l = unfold-at m (cells.activate (templatesOf ag)) (templatesOf ag) ps vs a below k l
-      (templates-at ag k h) ∙ ap (λ c. reduceBelow m ag k c ps vs a) body-is
+      (templates-at ag k h) ∙ ap (λ c. reckonBelow m ag k c ps vs a) body-is
 
 -- ---- instances
 instance-walk : (m : Mode) (ag : List ℕ) (below k : ℕ) (es : List Expr) (bs : List ℕ) (ps vs : List ℤ) (a : ℕ)
-    → reduceBelow m ag below (Clause.instance k es bs) ps vs a ≡ cells.unfoldBelow m (cells.activate (templatesOf ag))
-    (templatesOf ag) below k (blamedCells ps bs) (evalsCells vs es) a
-unfolding reduceBelow cells.walk
+    → reckonBelow m ag below (Clause.instance k es bs) ps vs a ≡ cells.reaches (cells.unfoldBelow m
+    (cells.activate (templatesOf ag)) (templatesOf ag) below k (blamedCells ps bs) (evalsCells vs es) a)
+unfolding reckonBelow cells.walk
 instance-walk m ag below k es bs ps vs a = refl
 
 module _ (e : Event) (rs : List ℤ) (ag : List ℕ) (below : ℕ) (s : List ℕ) (place : ℕ) (ps vs : List ℤ) (a d depth : ℕ)
@@ -206,18 +215,18 @@ module _ (e : Event) (rs : List ℤ) (ag : List ℕ) (below : ℕ) (s : List ℕ
   LeadsOn r = Leads e rs ag below s place ps vs a d (bodyIn ag depth place s instanceKind) written r
 
   ends-past : (o : Option Head) → below ≤ byte s 4
-      → reduceBelow (modeAt e rs) ag below (instanceOf (expr depth) s o) ps vs a ≡ cells.done
-  unfolding instanceOf reduceBelow cells.walk
-  ends-past none h = refl
+      → reckonBelow (modeAt e rs) ag below (instanceOf (expr depth) s o) ps vs a ≡ endedBy 1
+  unfolding instanceOf reckonBelow cells.walk
+  ends-past none h = ended-once
   ends-past (some hd) h = by-length (eqb (recordsEnd (length (hd .values)) s 5 + hd .params) (length s))
     where
-      by-length : (b : Bool) → reduceBelow (modeAt e rs) ag below
+      by-length : (b : Bool) → reckonBelow (modeAt e rs) ag below
           (cond b (Clause.instance (byte s 4) (arguments (expr depth) (length (hd .values)) s 5)
-          (part s (recordsEnd (length (hd .values)) s 5) (length s))) badClause) ps vs a ≡ cells.done
-      by-length true = unfold-past (modeAt e rs) (cells.activate (templatesOf ag)) (templatesOf ag)
+          (part s (recordsEnd (length (hd .values)) s 5) (length s))) badClause) ps vs a ≡ endedBy 1
+      by-length true = ap cells.reaches (unfold-past (modeAt e rs) (cells.activate (templatesOf ag)) (templatesOf ag)
           (blamedCells ps (part s (recordsEnd (length (hd .values)) s 5) (length s)))
-          (evalsCells vs (arguments (expr depth) (length (hd .values)) s 5)) a below (byte s 4) h
-      by-length false = refl
+          (evalsCells vs (arguments (expr depth) (length (hd .values)) s 5)) a below (byte s 4) h) ∙ ended-once
+      by-length false = ended-once
 
   pub instance-past : {k : ℕ} → k ≡ byte s 4 → below ≤ k → LeadsOn Ends
   unfolding Leads clauseBody
@@ -233,8 +242,8 @@ module _ (e : Event) (rs : List ℤ) (ag : List ℕ) (below : ℕ) (s : List ℕ
         rw (hk, em, ei, en, ek)
 
     pub instance-bad : (i + m ≡ length s → ⊥) → LeadsOn Ends
-    unfolding Leads clauseBody reduceBelow cells.walk
-    instance-bad f = rw (named, ne-eqb (i + m) (length s) f)
+    unfolding Leads clauseBody reckonBelow cells.walk
+    instance-bad f = rw (named, ne-eqb (i + m) (length s) f) ended-once
 
     pub instance-is : i + m ≡ length s → (g w : List ℤ) → length g ≡ 24 → n ≤ 8
         → written ≡ putMid 16 (length g - 16) g w → take n g ≡ evalsCells vs (arguments (expr depth) n s 5)
@@ -252,20 +261,20 @@ module _ (e : Event) (rs : List ℤ) (ag : List ℕ) (below : ℕ) (s : List ℕ
       where
         is : take m (drop 16 written) ≡ blamedCells ps (part s i (length s))
             → take n written ≡ evalsCells vs (arguments (expr depth) n s 5)
-            → reduceBelow (modeAt e rs) ag below (instanceOf (expr depth) s (at (headsOf ag) (byte s 4))) ps vs
-            a ≡ reduceBelow (modeAt e rs) ag k (clause (headsOf ag) 22 (bodyFrom ag k)
+            → reckonBelow (modeAt e rs) ag below (instanceOf (expr depth) s (at (headsOf ag) (byte s 4))) ps vs
+            a ≡ cells.reaches (reckonBelow (modeAt e rs) ag k (clause (headsOf ag) 22 (bodyFrom ag k)
             (part ag (bodyFrom ag k) (bodyTo ag k))) (take (headAt ag k .params) (drop 16 written))
-            (take (length (headAt ag k .values)) written) a
+            (take (length (headAt ag k .values)) written) a)
         is pw vw =
-            ap (λ c. reduceBelow (modeAt e rs) ag below c ps vs a) (named ∙ rw (eq-eqb (i + m) (length s) f))
+            ap (λ c. reckonBelow (modeAt e rs) ag below c ps vs a) (named ∙ rw (eq-eqb (i + m) (length s) f))
             ∙ instance-walk (modeAt e rs) ag below k (arguments (expr depth) n s 5) (part s i (length s)) ps vs a
-            ∙ body-below x k (omega arith) (modeAt e rs) below (blamedCells ps (part s i (length s)))
-            (evalsCells vs (arguments (expr depth) n s 5)) a h
+            ∙ ap cells.reaches (body-below x k (omega arith) (modeAt e rs) below
+            (blamedCells ps (part s i (length s))) (evalsCells vs (arguments (expr depth) n s 5)) a h)
             ∙ rw (← em, ← en, ← pw, ← vw)
 
 -- ---- what is activated takes no reading: how a `then` is activated makes no difference
-module _ (th th′ : Clause → List ℤ → List ℤ → ℕ → cells.Reduced)
-    (inst inst′ : ℕ → List ℤ → List ℤ → ℕ → cells.Reduced)
+module _ (th th′ : Clause → List ℤ → List ℤ → ℕ → cells.Reckoned)
+    (inst inst′ : ℕ → List ℤ → List ℤ → ℕ → cells.Reckoned)
     (h : (k : ℕ) (ps vs : List ℤ) (a : ℕ) → inst k ps vs a ≡ inst′ k ps vs a) where
   walk-alike : (c : Clause) (ps vs : List ℤ) (a : ℕ)
       → cells.walk activating th inst c ps vs a ≡ cells.walk activating th′ inst′ c ps vs a
@@ -273,12 +282,12 @@ module _ (th th′ : Clause → List ℤ → List ℤ → ℕ → cells.Reduced)
   walk-alike Clause.fulfilled ps vs a = refl
   walk-alike (Clause.obligation b w t) ps vs a = refl
   walk-alike (Clause.choice w t f) ps vs a = refl
-  walk-alike (Clause.if c t f) ps vs a = by-truth (isTrue (evalCells vs c)) (walk-alike t ps vs a)
-      (walk-alike f ps vs a)
+  walk-alike (Clause.if c t f) ps vs a = ap cells.reaches (by-truth (isTrue (evalCells vs c)) (walk-alike t ps vs a)
+      (walk-alike f ps vs a))
     where
       by-truth : (b : Bool) → cells.walk activating th inst t ps vs a ≡ cells.walk activating th′ inst′ t ps vs a
           → cells.walk activating th inst f ps vs a ≡ cells.walk activating th′ inst′ f ps vs a
-          → _≡_ {A = cells.Reduced} (elim b [
+          → _≡_ {A = cells.Reckoned} (elim b [
             | true ↦ cells.walk activating th inst t ps vs a
             | false ↦ cells.walk activating th inst f ps vs a
           ])
@@ -289,10 +298,10 @@ module _ (th th′ : Clause → List ℤ → List ℤ → ℕ → cells.Reduced)
       by-truth true p q = p
       by-truth false p q = q
   walk-alike (Clause.join j t f) ps vs a = rw (walk-alike t ps vs a, walk-alike f ps vs a)
-  walk-alike (Clause.instance k es bs) ps vs a = h k (blamedCells ps bs) (evalsCells vs es) a
+  walk-alike (Clause.instance k es bs) ps vs a = ap cells.reaches (h k (blamedCells ps bs) (evalsCells vs es) a)
   walk-alike Clause.badClause ps vs a = refl
 
-module _ (th th′ : Clause → List ℤ → List ℤ → ℕ → cells.Reduced) (ts : List Template) where
+module _ (th th′ : Clause → List ℤ → List ℤ → ℕ → cells.Reckoned) (ts : List Template) where
   unfold-alike : (n k : ℕ) (ps vs : List ℤ) (a : ℕ)
       → cells.unfoldBelow activating th ts n k ps vs a ≡ cells.unfoldBelow activating th′ ts n k ps vs a
   unfolding cells.unfoldBelow
@@ -305,9 +314,9 @@ module _ (th th′ : Clause → List ℤ → List ℤ → ℕ → cells.Reduced)
           → cells.unfoldBelow activating th ts n k ps vs a ≡ cells.unfoldBelow activating th′ ts n k ps vs a
           → ((c : Clause) → cells.walk activating th (cells.unfoldBelow activating th ts n) c ps vs a ≡ cells.walk
           activating th′ (cells.unfoldBelow activating th′ ts n) c ps vs a)
-          → _≡_ {A = cells.Reduced} (elim b [
+          → _≡_ {A = cells.Reckoned} (elim b [
             | true ↦ elim o [
-              | none ↦ cells.done
+              | none ↦ cells.ended
               | some t ↦ cells.walk activating th (cells.unfoldBelow activating th ts n) (t .body)
                   ps vs a
             ]
@@ -315,7 +324,7 @@ module _ (th th′ : Clause → List ℤ → List ℤ → ℕ → cells.Reduced)
           ])
           (elim b [
             | true ↦ elim o [
-              | none ↦ cells.done
+              | none ↦ cells.ended
               | some t ↦ cells.walk activating th′ (cells.unfoldBelow activating th′ ts n) (t .body) ps vs a
             ]
             | false ↦ cells.unfoldBelow activating th′ ts n k ps vs a
@@ -325,11 +334,11 @@ module _ (th th′ : Clause → List ℤ → List ℤ → ℕ → cells.Reduced)
       by-number false o p q = p
 
 pub then-is : (ag : List ℕ) (c : Clause) (ps vs : List ℤ) (a : ℕ)
-    → cells.activate (templatesOf ag) c ps vs a ≡ reduceBelow activating ag (byte ag 10) c ps vs a
-unfolding cells.activate reduceBelow
+    → cells.activate (templatesOf ag) c ps vs a ≡ reckonBelow activating ag (byte ag 10) c ps vs a
+unfolding cells.activate reckonBelow
 then-is ag c ps vs a =
     let ts = templatesOf ag in
-    let no : Clause → List ℤ → List ℤ → ℕ → cells.Reduced = λ t qs us u. cells.done in
+    let no : Clause → List ℤ → List ℤ → ℕ → cells.Reckoned = λ t qs us u. cells.ended in
     walk-alike no (cells.activate ts) (cells.unfoldBelow activating no ts (length ts))
     (cells.unfoldBelow activating (cells.activate ts) ts (length ts))
     (unfold-alike no (cells.activate ts) ts (length ts)) c ps vs a
@@ -337,63 +346,57 @@ then-is ag c ps vs a =
     vs a) (templates-length ag)
 
 -- ---- by the record's kind
+-- a record of kind m, with depths left
+pub record Told (s : List ℕ) (depth m : ℕ) : Type 0 where
+  pub deep : 1 ≤ depth
+  pub isWhole : isRecord s ≡ true
+  pub kind : m ≡ kindNumber s
+
 module _ (e : Event) (rs : List ℤ) (ag : List ℕ) (below : ℕ) (s : List ℕ) (place : ℕ) (ps vs : List ℤ) (a depth : ℕ)
   where
-    abbrev does : Clause → cells.Reduced
-    does c = reduceBelow (modeAt e rs) ag below c ps vs a
+    abbrev does : Clause → cells.Reckoned
+    does c = reckonBelow (modeAt e rs) ag below c ps vs a
 
     abbrev here : Clause
     here = clause (headsOf ag) depth place s
 
-    does-bad : cells.done ≡ does badClause
-    unfolding reduceBelow cells.walk
-    does-bad = refl
+    does-bad : endedBy 1 ≡ does badClause
+    unfolding reckonBelow cells.walk
+    does-bad = sym ended-once
 
-    pub ends-zero : depth ≡ 0 → does here ≡ cells.done
+    ends-zero : depth ≡ 0 → does here ≡ endedBy 1
     ends-zero h = sym (clause-zero does (headsOf ag) depth place s h does-bad)
 
-    pub ends-none : {b : Bool} → (depth ≡ 0 → ⊥) → b ≡ isRecord s → not b ≡ true → does here ≡ cells.done
-    ends-none n g h = sym (clause-none does (headsOf ag) depth place s n g (not-true _ h) does-bad)
+    ends-none : (depth ≡ 0 → ⊥) → isRecord s ≡ false → does here ≡ endedBy 1
+    ends-none n h = sym (clause-none does (headsOf ag) depth place s n refl h does-bad)
 
-    module _ {b : Bool} {m : ℕ} (n : depth ≡ 0 → ⊥) (g : b ≡ isRecord s) (h : not b ≡ false) (em : m ≡ kindNumber s)
-      where
-        clause-is : {k : ClauseKind} → clauseKind m ≡ k → bodyIn ag (depth - 1) place s k ≡ here
-        clause-is {k} q = clause-at (λ c. c) (headsOf ag) depth place s n g (not-false _ h) em
-            (ap (bodyIn ag (depth - 1) place s) (sym q))
+    module _ {m : ℕ} (t : Told s depth m) where
+      clause-is : {k : ClauseKind} → clauseKind m ≡ k → bodyIn ag (depth - 1) place s k ≡ here
+      clause-is {k} q = clause-at (λ c. c) (headsOf ag) depth place s (λ z. omega (arith, t .deep)) refl (t .isWhole)
+          (t .kind) (ap (bodyIn ag (depth - 1) place s) (sym q))
 
-        ends-low : m ≤ 16 → does here ≡ cells.done
-        unfolding reduceBelow cells.walk clauseBody
-        ends-low l = by-number (decLe m 15)
-          where
-            by-length : (t : Bool) → does (cond t Clause.fulfilled badClause) ≡ cells.done
-            by-length true = refl
-            by-length false = refl
+      ends-low : m ≤ 16 → does here ≡ endedBy 1
+      unfolding reckonBelow cells.walk clauseBody
+      ends-low l = by-number (decLe m 15)
+        where
+          by-length : (t : Bool) → does (cond t Clause.fulfilled badClause) ≡ endedBy 1
+          by-length true = ended-once
+          by-length false = ended-once
 
-            by-number : Dec (m ≤ 15) → does here ≡ cells.done
-            by-number (yes p) = ap does (sym (clause-is (kind-no-clause-low m (omega arith))))
-            by-number (no p) = ap does (sym (clause-is (kind-fulfilled {k = m} (omega arith))))
-                ∙ by-length (eqb (length s) 4)
+          by-number : Dec (m ≤ 15) → does here ≡ endedBy 1
+          by-number (yes p) = ap does (sym (clause-is (kind-no-clause-low m (omega arith)))) ∙ ended-once
+          by-number (no p) = ap does (sym (clause-is (kind-fulfilled {k = m} (omega arith))))
+              ∙ by-length (eqb (length s) 4)
 
-        ends-high : 23 ≤ m → does here ≡ cells.done
-        unfolding reduceBelow cells.walk clauseBody
-        ends-high l = ap does (sym (clause-is (kind-no-clause-high m l)))
-
-        pub shaped-acts : 17 ≤ m → m < 23 → (20 ≤ m → m < 22 → ⊥)
-            → Shaped e rs ag below s place ps vs a depth here Shape.Acts
-        unfolding Shaped
-        shaped-acts l u f = record {
-          deep = omega (arith, n);
-          isWhole = sym g ∙ not-false _ h;
-          from = omega arith;
-          to = omega arith;
-          single = λ x y. f (omega arith) (omega arith);
-        }
+      ends-high : 23 ≤ m → does here ≡ endedBy 1
+      unfolding reckonBelow cells.walk clauseBody
+      ends-high l = ap does (sym (clause-is (kind-no-clause-high m l))) ∙ ended-once
 
     pub leads-body : Acting depth s → {m : ℕ} → m ≡ kindNumber s → {k : ClauseKind} → clauseKind m ≡ k
         → (written : List ℤ) (r : Next) → Leads e rs ag below s place ps vs a depth (bodyIn ag (depth - 1) place s k)
         written r → Leads e rs ag below s place ps vs a depth here written r
     leads-body t em q written r x = subst (λ c. Leads e rs ag below s place ps vs a depth c written r)
-        (clause-is (λ z. omega (arith, t .deep)) (sym (t .isWhole)) refl em q) x
+        (clause-is (record { deep = t .deep; isWhole = t .isWhole; kind = em }) q) x
 
 -- the last kind of a clause that acts
 pub acting-last : {depth : ℕ} {s : List ℕ} → Acting depth s → {m : ℕ} → m ≡ kindNumber s → (m ≡ 17 → ⊥) → (m ≡ 18 → ⊥)
@@ -408,26 +411,58 @@ acting-last {s = s} t {m} em f g h = by-number (decLe m 21)
 pub ended : (s : List ℕ) {m : ℕ} → m ≡ kindNumber s → (17 ≤ m → m < 23 → ⊥) → Ended s
 ended s {m} em f = record { is = λ e rs ag t ps vs. by-depth e rs ag t ps vs (t .depth) refl }
   where
-    by-record : (e : Event) (rs : List ℤ) (ag : List ℕ) (t : Site) (ps vs : List ℤ) → (t .depth ≡ 0 → ⊥) → (b : Bool)
-        → b ≡ isRecord s → reduceAt e rs ag t s ps vs ≡ cells.done
-    by-record e rs ag t ps vs n false g = ends-none e rs ag (t .below) s (t .place) ps vs (t .a) (t .depth) n g refl
-    by-record e rs ag t ps vs n true g = by-number (decLe m 16) (decLe 23 m)
+    by-record : (e : Event) (rs : List ℤ) (ag : List ℕ) (t : Site) (ps vs : List ℤ) → 1 ≤ t .depth → (b : Bool)
+        → isRecord s ≡ b → reckonAt e rs ag t s ps vs ≡ endedBy 1
+    by-record e rs ag t ps vs d false g = ends-none e rs ag (t .below) s (t .place) ps vs (t .a) (t .depth)
+        (λ z. omega arith) g
+    by-record e rs ag t ps vs d true g = by-number (decLe m 16) (decLe 23 m)
       where
-        by-number : Dec (m ≤ 16) → Dec (23 ≤ m) → reduceAt e rs ag t s ps vs ≡ cells.done
-        by-number (yes p) q = ends-low e rs ag (t .below) s (t .place) ps vs (t .a) (t .depth) n g refl em p
-        by-number (no p) (yes q) = ends-high e rs ag (t .below) s (t .place) ps vs (t .a) (t .depth) n g refl em q
+        told : Told s (t .depth) m
+        told = record { deep = d; isWhole = g; kind = em }
+
+        by-number : Dec (m ≤ 16) → Dec (23 ≤ m) → reckonAt e rs ag t s ps vs ≡ endedBy 1
+        by-number (yes p) q = ends-low e rs ag (t .below) s (t .place) ps vs (t .a) (t .depth) told p
+        by-number (no p) (yes q) = ends-high e rs ag (t .below) s (t .place) ps vs (t .a) (t .depth) told q
         by-number (no p) (no q) = absurd (f (omega arith) (omega arith))
 
     by-depth : (e : Event) (rs : List ℤ) (ag : List ℕ) (t : Site) (ps vs : List ℤ) (d : ℕ) → t .depth ≡ d
-        → reduceAt e rs ag t s ps vs ≡ cells.done
+        → reckonAt e rs ag t s ps vs ≡ endedBy 1
     by-depth e rs ag t ps vs zero h = ends-zero e rs ag (t .below) s (t .place) ps vs (t .a) (t .depth) h
-    by-depth e rs ag t ps vs (suc d) h = by-record e rs ag t ps vs (λ z. omega arith) (isRecord s) refl
+    by-depth e rs ag t ps vs (suc d) h = by-record e rs ag t ps vs (omega arith) (isRecord s) refl
+
+-- ---- what a record shows
+module _ (s : List ℕ) (depth : ℕ) where
+  pub shows-zero : depth ≡ 0 → Outlined s depth (Shape.Ends 1)
+  unfolding Shaped
+  shows-zero h = λ e rs ag below place ps vs a. (ends-zero e rs ag below s place ps vs a depth h, omega arith)
+
+  pub shows-none : (depth ≡ 0 → ⊥) → isRecord s ≡ false → Outlined s depth (Shape.Ends 1)
+  unfolding Shaped
+  shows-none n h = λ e rs ag below place ps vs a. (ends-none e rs ag below s place ps vs a depth n h, omega arith)
+
+pub shows-idle : {s : List ℕ} {depth m : ℕ} → Told s depth m → (17 ≤ m → m < 23 → ⊥) → Outlined s depth (Shape.Ends 1)
+unfolding Shaped
+shows-idle {s} {depth} t f = λ e rs ag below place ps vs a. (
+  ended s (t .kind) f .is e rs ag (record { below = below; place = place; a = a; depth = depth }) ps vs,
+  omega arith,
+)
+
+pub shows-acts : {s : List ℕ} {depth m : ℕ} → Told s depth m → 17 ≤ m → m < 23 → (20 ≤ m → m < 22 → ⊥)
+    → Outlined s depth Shape.Acts
+unfolding Shaped
+shows-acts t l u f = λ e rs ag below place ps vs a. record {
+  deep = t .deep;
+  isWhole = t .isWhole;
+  from = omega (arith, t .kind);
+  to = omega (arith, t .kind);
+  single = λ x y. f (omega (arith, t .kind)) (omega (arith, t .kind));
+}
 
 -- ---- the two sides of a join
-join-done : (j : Join) → cells.joined j cells.done cells.done ≡ cells.done
-unfolding cells.joined cells.joinBoth cells.joinEither
-join-done and = refl
-join-done or = refl
+ended-both : (j : Join) → cells.reaches (cells.joins j (endedBy 1) (endedBy 1)) ≡ endedBy 3
+unfolding cells.reaches cells.joins cells.joined cells.joinBoth cells.joinEither oneMore tallyJoin bothAtOnce endedBy
+ended-both and = refl
+ended-both or = refl
 
 and-done : (x : cells.Reduced) → cells.joined and x cells.done ≡ x
 unfolding cells.joined cells.joinBoth
@@ -435,66 +470,86 @@ and-done cells.done = refl
 and-done (cells.breach t b) = refl
 and-done (cells.running r) = refl
 
-or-done : (x : cells.Reduced) → cells.joined or x cells.done ≡ cells.done
-unfolding cells.joined cells.joinEither
-or-done cells.done = refl
-or-done (cells.breach t b) = refl
-or-done (cells.running r) = refl
+and-tally : (x : Tally) → tallyJoin and x (endedBy 1 .tally) ≡ tallyJoin and (endedBy 1 .tally) x
+unfolding tallyJoin bothAtOnce endedBy
+and-tally x = by-once (x .atOnce) (add-comm (x .activated) 1) (add-comm (x .further) 0)
+  where
+    by-once : (b : Bool) {n m k l : ℕ} → n ≡ m → k ≡ l → _≡_ {A = Tally}
+        (record { atOnce = b && true; activated = n; further = elim (b && true) [ true ↦ 0 | false ↦ k ] })
+        (record { atOnce = true && b; activated = m; further = elim (true && b) [ true ↦ 0 | false ↦ l ] })
+    by-once true p q = rw p
+    by-once false p q = rw (p, q)
 
-module _ (e : Event) (rs : List ℤ) (ag : List ℕ) (below : ℕ) (s : List ℕ) (place : ℕ) (ps vs : List ℤ) (a depth : ℕ)
-    {b : Bool} {k f : ℕ} (n : depth ≡ 0 → ⊥) (g : b ≡ isRecord s) (h : not b ≡ false) (em : k ≡ kindNumber s)
-    (l : 20 ≤ k) (u : k < 22) (ef : f ≡ recordEnd s 4) (i : f ≤ length s) (o : 4 ≤ f) where
-  abbrev SidesAre : Shape → Type 0
-  SidesAre r = Shaped e rs ag below s place ps vs a depth (clause (headsOf ag) depth place s) r
+-- an `and` does the same whichever of its sides is ended
+and-ended : (x : cells.Reckoned) → cells.joins and x (endedBy 1) ≡ cells.joins and (endedBy 1) x
+unfolding cells.joins cells.joined cells.joinBoth endedBy
+and-ended x = rw (and-done (x .outcome), and-tally (x .tally))
 
-  abbrev sideSite : ℕ → Site
-  sideSite x = record { below = below; place = place + x; a = a; depth = depth - 1 }
+-- a clause of kind k with two sides, of which the right one begins at f
+pub record Paired (s : List ℕ) (depth k f : ℕ) : Type 0 where
+  pub told : Told s depth k
+  pub from : 20 ≤ k
+  pub to : k < 22
+  pub begins : f ≡ recordEnd s 4
+  pub order : 4 ≤ f
+  pub inside : f ≤ length s
 
-  abbrev side : ℕ → ℕ → cells.Reduced
-  side x y = reduceAt e rs ag (sideSite x) (part s x y) ps vs
+module _ {s : List ℕ} {depth k f : ℕ} (p : Paired s depth k f) where
+  module _ (e : Event) (rs : List ℤ) (ag : List ℕ) (below place : ℕ) (ps vs : List ℤ) (a : ℕ) where
+    abbrev sideSite : ℕ → Site
+    sideSite x = record { below = below; place = place + x; a = a; depth = depth - 1 }
 
-  two : reduceBelow (modeAt e rs) ag below (clause (headsOf ag) depth place s) ps vs a ≡ cells.joined (joinOf k)
-      (side 4 f) (side f (length s))
-  unfolding reduceBelow cells.walk clauseBody
-  two = ap (λ c. reduceBelow (modeAt e rs) ag below c ps vs a)
-      (sym (clause-is e rs ag below s place ps vs a depth n g h em (kind-join k l u))) ∙ rw ef
+    abbrev side : ℕ → ℕ → cells.Reckoned
+    side x y = reckonAt e rs ag (sideSite x) (part s x y) ps vs
 
-  pub sides-joined : SidesAre (Shape.Joins k f)
+    two : reckonBelow (modeAt e rs) ag below (clause (headsOf ag) depth place s) ps vs a ≡ cells.reaches
+        (cells.joins (joinOf k) (side 4 f) (side f (length s)))
+    unfolding reckonBelow cells.walk clauseBody
+    two = ap (λ c. reckonBelow (modeAt e rs) ag below c ps vs a)
+        (sym (clause-is e rs ag below s place ps vs a depth (p .told) (kind-join k (p .from) (p .to)))) ∙ rw (p .begins)
+
+  pub shows-sides : Outlined s depth (Shape.Joins k f)
   unfolding Shaped
-  sides-joined = record { is = two; from = l; to = u; order = o; inside = i; deep = omega (arith, n) }
+  shows-sides = λ e rs ag below place ps vs a. record {
+    is = two e rs ag below place ps vs a;
+    from = p .from;
+    to = p .to;
+    order = p .order;
+    inside = p .inside;
+    deep = p .told .deep;
+  }
 
-  module _ (p : Ended (part s 4 f)) where
-    pub sides-ended : Ended (part s f (length s)) → SidesAre Shape.Ends
-    unfolding Shaped
-    sides-ended q = two ∙ rw (p .is e rs ag (sideSite 4) ps vs, q .is e rs ag (sideSite f) ps vs) (join-done (joinOf k))
+  pub shows-both-ended : Ended (part s 4 f) → Ended (part s f (length s)) → Outlined s depth (Shape.Ends 3)
+  unfolding Shaped
+  shows-both-ended l r = λ e rs ag below place ps vs a. (
+    two e rs ag below place ps vs a ∙ rw (
+      l .is e rs ag (sideSite e rs ag below place ps vs a 4) ps vs,
+      r .is e rs ag (sideSite e rs ag below place ps vs a f) ps vs,
+    ) (ended-both (joinOf k)),
+    omega arith,
+  )
 
-    pub right-goes : k ≡ 20 → SidesAre (Shape.Goes f (length s))
-    unfolding Shaped joinOf cells.joined cells.joinBoth
-    right-goes x = record {
-      is = two ∙ rw (x, p .is e rs ag (sideSite 4) ps vs);
-      past = o;
-      order = i;
-      inside = omega arith;
-      deep = omega (arith, n);
-      soon = omega arith;
-    }
+  pub shows-right : Ended (part s 4 f) → k ≡ 20 → Outlined s depth (Shape.Goes f (length s))
+  unfolding Shaped joinOf
+  shows-right l x = λ e rs ag below place ps vs a. record {
+    is = two e rs ag below place ps vs a
+        ∙ rw (x, l .is e rs ag (sideSite e rs ag below place ps vs a 4) ps vs);
+    past = p .order;
+    order = p .inside;
+    inside = omega arith;
+    deep = p .told .deep;
+    soon = omega arith;
+  }
 
-    pub left-ends : (k ≡ 20 → ⊥) → SidesAre Shape.Ends
-    unfolding Shaped joinOf cells.joined cells.joinEither
-    left-ends x = two ∙ rw (ne-eqb k 20 x, p .is e rs ag (sideSite 4) ps vs)
-
-  module _ (q : Ended (part s f (length s))) where
-    pub left-goes : k ≡ 20 → SidesAre (Shape.Goes 4 f)
-    unfolding Shaped joinOf
-    left-goes x = record {
-      is = two ∙ rw (x, q .is e rs ag (sideSite f) ps vs) (and-done (side 4 f));
-      past = omega arith;
-      order = o;
-      inside = i;
-      deep = omega (arith, n);
-      soon = omega arith;
-    }
-
-    pub right-ends : (k ≡ 20 → ⊥) → SidesAre Shape.Ends
-    unfolding Shaped joinOf
-    right-ends x = two ∙ rw (ne-eqb k 20 x, q .is e rs ag (sideSite f) ps vs) (or-done (side 4 f))
+  pub shows-left : Ended (part s f (length s)) → k ≡ 20 → Outlined s depth (Shape.Goes 4 f)
+  unfolding Shaped joinOf
+  shows-left r x = λ e rs ag below place ps vs a. record {
+    is = two e rs ag below place ps vs a
+        ∙ rw (x, r .is e rs ag (sideSite e rs ag below place ps vs a f) ps vs)
+        (ap cells.reaches (and-ended (side e rs ag below place ps vs a 4 f)));
+    past = omega arith;
+    order = p .order;
+    inside = p .inside;
+    deep = p .told .deep;
+    soon = omega arith;
+  }

@@ -48,16 +48,11 @@ fn chosen(s: &[u8], values: &[i64], a: usize, depth: usize) -> Next
     let f = record_end(s, c);
     let x = eval(&s[4..c], values, depth - 1);
     if is_true(x) {
-        return Next::Goes {
-            from: c,
-            to: f,
-            at: a,
-        };
+        return Next::Picks { from: c, to: f };
     }
-    Next::Goes {
+    Next::Picks {
         from: f,
         to: s.len(),
-        at: a,
     }
 }
 
@@ -119,7 +114,7 @@ fn choice(
     let f = record_end(s, c);
     match fate {
         Fate::Waits => Next::Waits(18),
-        Fate::Late(last) => Next::Goes {
+        Fate::Late(last) => Next::Lapses {
             from: f,
             to: s.len(),
             at: moved(a, last),
@@ -175,16 +170,16 @@ fn ends(s: &[u8]) -> bool
     }
 }
 
-// What the record s shows. Beside a side with nothing to do an `and` does what its other side does, and an `or` is
-// fulfilled.
+// What the record s shows. Two sides with nothing to do are fulfilled, and beside one an `and` does what its other side
+// does. All that is skipped is counted.
 pub fn outline(s: &[u8], depth: usize) -> Shape
     ensures { λ r. ⌜ Outlined (now (s .entry)) depth r ⌝ }
 {
     if depth == 0 {
-        return Shape::Ends;
+        return Shape::Ends(1);
     }
     if !is_record(s) {
-        return Shape::Ends;
+        return Shape::Ends(1);
     }
     let k = kind(s);
     match k {
@@ -193,7 +188,7 @@ pub fn outline(s: &[u8], depth: usize) -> Shape
             let right = ends(&s[f..]);
             if ends(&s[4..f]) {
                 if right {
-                    return Shape::Ends;
+                    return Shape::Ends(3);
                 }
                 if k == AND {
                     return Shape::Goes {
@@ -201,17 +196,16 @@ pub fn outline(s: &[u8], depth: usize) -> Shape
                         to: s.len(),
                     };
                 }
-                return Shape::Ends;
+                return Shape::Joins { kind: k, right: f };
             }
             if right {
                 if k == AND {
                     return Shape::Goes { from: 4, to: f };
                 }
-                return Shape::Ends;
             }
             Shape::Joins { kind: k, right: f }
         }
         17..=22 => Shape::Acts,
-        _ => Shape::Ends,
+        _ => Shape::Ends(1),
     }
 }

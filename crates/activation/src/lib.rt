@@ -7,14 +7,11 @@ pub mod sites;
 ghost use mathlib.Core.Path.{_≡_};
 ghost use mathlib.Core.List.{[]};
 ghost use Prim.Native.Nat.{_+_, _≤_, _<_};
-ghost use lib.ListN.{length, take, drop};
+ghost use lib.ListN.{length};
 ghost use Rattle.csl.specs.Bytes.{part};
-ghost use Rattle.laws.specs.Joins.{joinOf};
-ghost use Rattle.cells.specs.Reduce.{joined};
-ghost use Rattle.residues.specs.Reduces.{Is};
-ghost use Rattle.records.specs.Index.{headAt};
-ghost use Rattle.activation.specs.Leads.{Ready, Fits, Sided, Acting, reduceAt, innerSite, sidesReduced};
-ghost use Rattle.activation.specs.Leads.{bodyReduced};
+ghost use Rattle.residues.specs.Tallies.{Reckons};
+ghost use Rattle.activation.specs.Leads.{Ready, Fits, Sided, Acting, reckonAt, innerSite, sidesReckoned};
+ghost use Rattle.activation.specs.Leads.{bodyReckoned};
 use crate::leads::leads_to;
 use crate::leads::outline;
 use crate::sites::body_site;
@@ -27,10 +24,17 @@ use records::TEMPLATES_AT;
 use records::body_span;
 use records::param_count;
 use records::value_count;
+use residues::Reckoned;
 use residues::Reduced;
 use residues::join;
 use residues::put_unit;
 use residues::room_left;
+use residues::tallies::alone;
+use residues::tallies::beside_ended;
+use residues::tallies::ended;
+use residues::tallies::ended_wait;
+use residues::tallies::join_tallies;
+use residues::tallies::reached;
 use waits::Event;
 use waits::SIGHT_CELLS;
 
@@ -43,19 +47,19 @@ pub struct Site {
     pub depth: usize,
 }
 
-// What a record shows by kinds alone: that there is nothing to do; a part of its bytes that does the same; the kind
-// of a
-// join and where its right side begins; a clause that acts.
+// What a record shows by kinds alone: that there is nothing to do, in so many clauses; an `and` whose one side has
+// nothing to do, and the part of its bytes that is the other; the kind of a join and where its right side begins; a
+// clause that acts.
 pub enum Shape {
-    Ends,
+    Ends(usize),
     Goes { from: usize, to: usize },
     Joins { kind: usize, right: usize },
     Acts,
 }
 
-// What a clause that acts leads to: an end, a breach, a waiting unit of a sort; a part of its bytes at a time; a
-// `then` in
-// a part of its bytes, with so many values; a template.
+// What a clause that acts leads to: an end, a breach, a waiting unit of a sort; of an `if` the side that is picked, in
+// a part of its bytes; of a late choice the else, in a part of its bytes at a time; a `then` in a part of its bytes,
+// with so many values; a template.
 pub enum Next {
     Ends,
     Breaks {
@@ -63,7 +67,11 @@ pub enum Next {
         by: usize,
     },
     Waits(usize),
-    Goes {
+    Picks {
+        from: usize,
+        to: usize,
+    },
+    Lapses {
         from: usize,
         to: usize,
         at: usize,
@@ -77,8 +85,7 @@ pub enum Next {
 }
 
 // What the clause in the record s becomes at a site; rs, ps and vs are the reading's values, the party parameters and
-// the
-// values in sight. A residue grows downward from the end of out.
+// the values in sight. A residue grows downward from the end of out.
 pub fn activate(
     agreement: &[u8],
     places: &[usize],
@@ -89,16 +96,17 @@ pub fn activate(
     ps: &[i64],
     vs: &[i64],
     out: &mut [i64],
-) -> Reduced
+) -> Reckoned
     requires { ⌜ Ready (now places) (now agreement) event (now rs) site (now ps) (now vs) × Fits (now agreement) site (now s) (now out) ⌝ }
-    ensures { λ r. ⌜ Is (reduceAt event (now (rs .entry)) (now (agreement .entry)) site (now (s .entry))
+    ensures { λ r. ⌜ Reckons (reckonAt event (now (rs .entry)) (now (agreement .entry)) site (now (s .entry))
         (now (ps .entry)) (now (vs .entry))) r (now (out .exit)) ⌝ }
 {
     match outline(s, site.depth) {
-        Shape::Ends => Reduced::Done,
+        Shape::Ends(n) => ended(n),
         Shape::Goes { from: x, to: y } => {
             let a = site.a;
-            inside(agreement, places, event, rs, site, s, x, y, a, ps, vs, out)
+            let side = inside(agreement, places, event, rs, site, s, x, y, a, ps, vs, out);
+            beside_ended(side)
         }
         Shape::Joins { kind: k, right: f } => {
             both(agreement, places, event, rs, site, s, k, f, ps, vs, out)
@@ -118,33 +126,31 @@ fn act(
     ps: &[i64],
     vs: &[i64],
     out: &mut [i64],
-) -> Reduced
+) -> Reckoned
     requires { ⌜ Ready (now places) (now agreement) event (now rs) site (now ps) (now vs)
         × Fits (now agreement) site (now s) (now out) × Acting (site .depth) (now s) ⌝ }
-    ensures { λ r. ⌜ Is (reduceAt event (now (rs .entry)) (now (agreement .entry)) site (now (s .entry))
+    ensures { λ r. ⌜ Reckons (reckonAt event (now (rs .entry)) (now (agreement .entry)) site (now (s .entry))
         (now (ps .entry)) (now (vs .entry))) r (now (out .exit)) ⌝ }
 {
     let mut cells = [0i64; SIGHT_CELLS];
     match leads_to(agreement, places, event, rs, site, s, ps, vs, &mut cells) {
-        Next::Ends => Reduced::Done,
-        Next::Breaks { at: t, by: b } => Reduced::Breach { at: t, by: b },
-        Next::Waits(sort) => put_unit(out, sort, site.place, site.a, ps, vs),
-        Next::Goes {
-            from: x,
-            to: y,
-            at: a,
-        } => { inside(agreement, places, event, rs, site, s, x, y, a, ps, vs, out) }
-        Next::Takes {
-            from: x,
-            to: y,
-            values: n,
-        } => {
-            let first = then_event(event);
-            let then = then_site(site, x, event.time, byte(agreement, TEMPLATES_AT));
-            let us = &cells[..n];
-            activate(agreement, places, first, rs, then, &s[x..y], ps, us, out)
+        Next::Ends => ended(1),
+        Next::Breaks { at: t, by: b } => alone(Reduced::Breach { at: t, by: b }),
+        Next::Waits(sort) => alone(put_unit(out, sort, site.place, site.a, ps, vs)),
+        Next::Picks { from: x, to: y } => {
+            let a = site.a;
+            reached(inside(agreement, places, event, rs, site, s, x, y, a, ps, vs, out))
         }
-        Next::Unfolds(k) => unfold(agreement, places, event, rs, site, k, &cells, out),
+        Next::Takes { from, to, values } => {
+            let first = then_event(event);
+            let at = then_site(site, from, event.time, byte(agreement, TEMPLATES_AT));
+            let us = &cells[..values];
+            ended_wait(activate(agreement, places, first, rs, at, &s[from..to], ps, us, out))
+        }
+        Next::Lapses { from: x, to, at: a } => {
+            ended_wait(inside(agreement, places, event, rs, site, s, x, to, a, ps, vs, out))
+        }
+        Next::Unfolds(k) => reached(unfold(agreement, places, event, rs, site, k, &cells, out)),
     }
 }
 
@@ -163,11 +169,11 @@ fn inside(
     ps: &[i64],
     vs: &[i64],
     out: &mut [i64],
-) -> Reduced
+) -> Reckoned
     requires { ⌜ Ready (now places) (now agreement) event (now rs) site (now ps) (now vs)
         × Fits (now agreement) site (now s) (now out) × (1 ≤ site .depth)
         × (from ≤ to) × (to ≤ length (now s)) × (a ≤ site .a + 2_000_000_000) ⌝ }
-    ensures { λ r. ⌜ Is (reduceAt event (now (rs .entry)) (now (agreement .entry)) (innerSite site from a)
+    ensures { λ r. ⌜ Reckons (reckonAt event (now (rs .entry)) (now (agreement .entry)) (innerSite site from a)
         (part (now (s .entry)) from to) (now (ps .entry)) (now (vs .entry))) r (now (out .exit)) ⌝ }
 {
     let inner = inner_site(site, from, a);
@@ -189,28 +195,34 @@ fn both(
     ps: &[i64],
     vs: &[i64],
     out: &mut [i64],
-) -> Reduced
+) -> Reckoned
     requires { ⌜ Ready (now places) (now agreement) event (now rs) site (now ps) (now vs)
         × Fits (now agreement) site (now s) (now out) × Sided (site .depth) (length (now s)) kind f ⌝ }
-    ensures { λ r. ⌜ Is (sidesReduced event (now (rs .entry)) (now (agreement .entry)) site (now (s .entry)) kind f
+    ensures { λ r. ⌜ Reckons (sidesReckoned event (now (rs .entry)) (now (agreement .entry)) site (now (s .entry)) kind f
         (now (ps .entry)) (now (vs .entry))) r (now (out .exit)) ⌝ }
 {
-    let right = inner_site(site, f, site.a);
-    let r = activate(agreement, places, event, rs, right, &s[f..], ps, vs, out);
-    let e = room_left(r, out.len());
-    let left = inner_site(site, 4, site.a);
+    let at_right = inner_site(site, f, site.a);
+    let r = activate(agreement, places, event, rs, at_right, &s[f..], ps, vs, out);
+    let right = r.outcome;
+    let e = room_left(right, out.len());
+    let at_left = inner_site(site, 4, site.a);
     let l = activate(
         agreement,
         places,
         event,
         rs,
-        left,
+        at_left,
         &s[4..f],
         ps,
         vs,
         &mut out[..e],
     );
-    join(kind, l, r, out)
+    let left = l.outcome;
+    let tally = join_tallies(kind, l.tally, r.tally);
+    Reckoned {
+        outcome: join(kind, left, right, out),
+        tally,
+    }
 }
 
 // The body of template k, its values at the front of cells and its parties from cell 16 on.
@@ -223,10 +235,10 @@ fn unfold(
     k: usize,
     cells: &[i64],
     out: &mut [i64],
-) -> Reduced
+) -> Reckoned
     requires { ⌜ Ready (now places) (now agreement) event (now rs) site [] []
         × Fits (now agreement) site [] (now out) × (k < site .below) × (length (now cells) ≡ 24) ⌝ }
-    ensures { λ r. ⌜ Is (bodyReduced event (now (rs .entry)) (now (agreement .entry)) site k (now (cells .entry))) r (now (out .exit)) ⌝ }
+    ensures { λ r. ⌜ Reckons (bodyReckoned event (now (rs .entry)) (now (agreement .entry)) site k (now (cells .entry))) r (now (out .exit)) ⌝ }
 {
     let b = body_span(agreement, places, k);
     let from = b.from;

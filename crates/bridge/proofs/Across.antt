@@ -1,42 +1,42 @@
--- At every unit of a table the rules on cells show what csl's rules give for the residue.
--- Main theorems: `across-shows` for any step and mode, `follow-across` and `forecast-across` for whole tables.
+-- At every unit of a table the rules on cells show what csl's rules reckon of the residue, whatever is reckoned.
+-- Main theorems: `across-shows` for any step and mode, `follow-across` and `forecast-across` for whole tables, and
+-- `follow-costs` for what a reading costs.
 use mathlib.Core.Bool.{cond}
 use mathlib.Core.List.{List, [], _∷_, _++_, append-assoc}
 use mathlib.Core.Option.{Option, none, some}
 use mathlib.Core.Path.{ap, ap₂, refl, sym, _∙_, _≡_}
-use Prim.Native.Nat.{_+_, _-_, suc, ℕ, _≤_}
+use Prim.Native.Nat.{_+_, _-_, suc, ℕ}
 use native.Mathlib.Omega.{arith}
 use lib.Dec.{ltb}
 use lib.IntN.{pos, ℤ}
 use lib.ListN.{drop, getD, length, replicate, take, List·getD-append}
 use lib.Seq.{drop-at, take-at}
 use Rattle.csl.specs.Bytes.{part, recordEnd}
-use Rattle.csl.specs.Syntax.{Agreement, Clause, Join, Ty, and, or}
+use Rattle.csl.specs.Syntax.{Agreement, Clause, Join, and, or}
 use Rattle.csl.specs.Decode.{agreementOf, clause, headsOf}
 use Rattle.laws.specs.Joins.{joinOf}
-use Rattle.csl.specs.Typing.{namesOf, typeClause}
-use Rattle.csl.specs.Outcomes.{Residue, Sight, Sort, aChoice, anObligation, both, joined, orStuck, running, unit, units}
-use Rattle.csl.specs.Rules.{Reading, Step, during, following, forecasting}
+use Rattle.csl.specs.Outcomes.{Residue, Sight, Sort, aChoice, anObligation, both, running, unit, units}
 use Rattle.csl.specs.Places.{Found, clauseAt}
-use Rattle.csl.specs.Rules.{across}
+use Rattle.csl.specs.Windows.{Reading}
+use Rattle.csl.specs.Reckoning as Open
+use Rattle.csl.specs.Reckoning.{Reckoning, StepOf}
+use Rattle.csl.specs.Cost.{followCost, total}
 use Rattle.csl.specs.Table.{cellsOf, joinCells, joinNumber, natCells, padded, residueCells, runOf}
 use Rattle.csl.specs.Table.{sortNumber, tableOf, unitCells}
 use Rattle.laws.proofs.Cells.{length-join, length-padded}
-use Rattle.soundness.proofs.Good.{Good, Ok, OkUnit, Placed, SightOk, good-moves}
-use Rattle.soundness.proofs.Walks.{Fair, StepGood}
-use Rattle.soundness.proofs.Activation.{heads-declared}
-use Rattle.soundness.proofs.Following.{ReadingOk, across-good, following-good}
-use Rattle.soundness.proofs.Forecasts.{forecasting-good}
+use Rattle.soundness.proofs.Good.{Good, Ok, OkUnit}
+use Rattle.soundness.proofs.Walks.{Fair}
+use Rattle.soundness.proofs.Following.{ReadingOk}
 use Rattle.soundness.proofs.RoundTrip.{len-cells, len-nats, len-typed, units-length}
 use Rattle.soundness.proofs.Runs.{Inv, Since, runAt}
 use Rattle.soundness.proofs.Moved.{units-behind, withZeros}
 use Rattle.soundness.proofs.ReadBack.{runOf-good, table-back}
-use Rattle.cells.specs.Reduce.{Mode, Reduced}
+use Rattle.cells.specs.Reduce.{Mode, Reckoned}
 use Rattle.cells.specs.Reduce as cells
 use Rattle.cells.specs.Across as table
-use Rattle.cells.specs.Across.{natOf, unitReduced}
-use Rattle.bridge.proofs.Shows.{Shows, joined-shows, shows-bind}
-use Rattle.bridge.proofs.Reduce.{follow-shows, forecast-shows}
+use Rattle.cells.specs.Across.{natOf, unitReckoned}
+use Rattle.bridge.proofs.Shows.{Matches, match-bind, tallies-match}
+use Rattle.bridge.proofs.Reduce.{Shown, follow-shows, forecast-shows}
 
 -- ---- the numbers of party parameters and of values in sight, unit by unit; a join has the number of its left side's
 -- units and 0
@@ -152,8 +152,8 @@ unit-values f s found W k p a e ps ok = rw (← (found p (ok .found) (ok .isAt))
         (len-cells (e .values) ∙ len-typed _ (ok .found .sight) (e .values) (ok .sight .values))
 
 -- ---- what becomes of the first unit by a mode
-abbrev acrossBy : Mode → List ℕ → ℕ → ℕ → ℕ → List ℤ → List Reduced → List Reduced
-acrossBy m s i params values us rs = cond (ltb i 20) (unitReduced m s params values us ∷ rs)
+abbrev acrossBy : Mode → List ℕ → ℕ → ℕ → ℕ → List ℤ → List Reckoned → List Reckoned
+acrossBy m s i params values us rs = cond (ltb i 20) (unitReckoned m s params values us ∷ rs)
     (table.joinFirst (joinOf i) rs)
 
 across-steps : (m : Mode) (s : List ℕ) (n : ℕ) (sights : List ℕ) (cs : List ℤ)
@@ -162,55 +162,56 @@ across-steps : (m : Mode) (s : List ℕ) (n : ℕ) (sights : List ℕ) (cs : Lis
 unfolding table.across
 across-steps m s n sights cs = refl
 
--- what the units of a residue, in front of others, give by a mode; it shows what csl's step gives for the residue
-pub record Gives (m : Mode) (s : List ℕ) (st : Step) (res : Residue) (n : ℕ) (sights : List ℕ) (rest : List ℤ) : Type
-    0 where
-  pub given : Reduced
+-- a step, whatever is reckoned
+abbrev StepFor : Type 1
+StepFor = (A : Type 0) → Reckoning A → StepOf A
+
+-- what the units of a residue, in front of others, give by a mode; it shows what is reckoned of the residue in csl
+pub record Gives (m : Mode) (s : List ℕ) (st : StepFor) (res : Residue) (n : ℕ) (sights : List ℕ) (rest : List ℤ) : Type
+    1 where
+  pub given : Reckoned
   pub first : table.across m s (units res + n) (sightsOf (agreementOf s) res ++ sights)
       (residueCells res ++ rest) ≡ given ∷ table.across m s n sights rest
-  pub shown : Shows (across st (agreementOf s) res) given
+  pub shown : {A : Type 0} {g : Reckoning A} {R : A → Reckoned → Type 0} → Matches g R
+      → R (Open.across g (st A g) (agreementOf s) res) given
 
 -- the same of all the units of a table us
-pub record Whole (m : Mode) (s : List ℕ) (st : Step) (res : Residue) (sights : List ℕ) (us : List ℤ) : Type 0 where
-  pub given : Reduced
+pub record Whole (m : Mode) (s : List ℕ) (st : StepFor) (res : Residue) (sights : List ℕ) (us : List ℤ) : Type 1 where
+  pub given : Reckoned
   pub only : table.across m s (units res) (sightsOf (agreementOf s) res ++ sights) (drop 8 us) ≡ given ∷ []
-  pub shown : Shows (across st (agreementOf s) res) given
+  pub shown : {A : Type 0} {g : Reckoning A} {R : A → Reckoned → Type 0} → Matches g R
+      → R (Open.across g (st A g) (agreementOf s) res) given
 
 module _ (s mains : List ℕ) (fair : Fair (agreementOf s) mains) (found : FoundIs s) where
   abbrev ag : Agreement
   ag = agreementOf s
 
-  -- ---- any step and mode: W says at what times the step may be taken, Q since when a unit waits
-  module _ (Q W : ℕ → Type 0) (since : (t : ℕ) → Q t → W t) (st : Step)
-      (good : StepGood ag (fair .few) (heads-declared ag mains fair) W st) (m : Mode)
-      (shows : (c : Clause) (n : ℕ) (env : List Ty) (e : Sight) (a : ℕ) (bs : List ℕ) → SightOk ag n env e → W a
-      → typeClause (namesOf ag n) env c ≡ some bs → Placed ag n env c
-      → Shows (during st (ag .templates) c e a)
-      (cells.reduce m (ag .templates) c (natCells (e .params)) (cellsOf (e .values)) a)) where
+  -- ---- any step and mode: Q says since when a unit waits
+  module _ (Q : ℕ → Type 0) (st : StepFor) (m : Mode)
+      (shows : (A : Type 0) (g : Reckoning A) (R : A → Reckoned → Type 0) → Matches g R
+      → Shown g R ag (st A g) (cells.reduce m (ag .templates))) where
     pub across-shows : (res : Residue) (ps : List ℕ) (n : ℕ) (sights : List ℕ) (rest : List ℤ) → Ok ag Q res ps
         → Gives m s st res n sights rest
-    unfolding Ok units sightsOf residueCells across orStuck unitReduced table.joinFirst
+    unfolding Ok units sightsOf residueCells Open.across Open.orStops unitReckoned table.joinFirst
     across-shows (unit k p a e) ps n sights rest ok = record {
       given = cells.reduce m (ag .templates) (ok .found .clause) (natCells (e .params)) (cellsOf (e .values)) a;
       first = unit-first (table.across m s) (acrossBy m s) (across-steps m s) ag Q k p a e ps ok n sights rest
           ∙ by-sort k _ _
           ∙ ap (λ x. x ∷ table.across m s n sights rest)
           (unit-values (cells.reduce m (ag .templates)) s found Q k p a e ps ok);
-      shown = shows-bind (clauseAt ag p) _ (ok .found) _ (ok .isAt)
-          (shows (ok .found .clause) (ok .found .params) (ok .found .sight) e a (ok .blames) (ok .sight)
-          (since a (ok .when)) (ok .typed) (ok .placed));
+      shown = λ {A} {g} {R} z. match-bind g R (clauseAt ag p) _ (ok .found) _ (ok .isAt)
+          (shows A g R z (ok .found .clause) (ok .found .params) (ok .found .sight) e a (ok .blames) (ok .sight)
+          (ok .typed) (ok .placed));
     }
     across-shows (both j l r) ps n sights rest ok =
         let right = across-shows r (ok .1) n sights rest (ok .3) in
         let left = across-shows l (ok .0) (units r + n) (sightsOf ag r ++ sights) (residueCells r ++ rest) (ok .2) in
         record {
-          given = cells.joined j (left .given) (right .given);
+          given = cells.reaches (cells.joins j (left .given) (right .given));
           first = join-first (table.across m s) (acrossBy m s) (across-steps m s) ag j l r n sights rest
               ∙ by-join j _ _
               ∙ ap₂ table.joinFirst (join-is j) (left .first ∙ ap (λ o. left .given ∷ o) (right .first));
-          shown = joined-shows j (across st ag l) (across st ag r) (left .given) (right .given)
-              (good-moves ag W ps (across st ag (both j l r))
-              (across-good ag mains fair Q W since st good (both j l r) ps ok)) (left .shown) (right .shown);
+          shown = λ z. z .reaches _ _ (z .joins j _ _ _ _ (left .shown z) (right .shown z));
         }
 
     -- all units of a running run's table, whatever sights stand behind theirs
@@ -231,20 +232,26 @@ module _ (s mains : List ℕ) (fair : Fair (agreementOf s) mains) (found : Found
     inv : Inv ag mains now moved (running res)
     inv = runOf-good ag mains us (runAt now moved (running res)) fair is
 
-    pub follow-across : (d : Reading) → ReadingOk ag d → now ≤ d .time
-        → Whole (cells.following (d .time) (d .type) (cellsOf (d .values))) s (following (ag .templates) d) res sights
-        us
+    pub follow-across : (d : Reading) → ReadingOk ag d
+        → Whole (cells.following (d .time) (d .type) (cellsOf (d .values))) s
+        (λ A g. Open.following g (ag .templates) d) res sights us
     unfolding Good
-    follow-across d rok le =
-        whole-shows (Since ag now) (Since ag (d .time)) (λ t h. (h .0, omega (arith, h .1)))
-        (following (ag .templates) d) (following-good ag mains fair d rok) _ (follow-shows ag mains fair d rok)
+    follow-across d rok =
+        whole-shows (Since ag now) (λ A g. Open.following g (ag .templates) d) _
+        (λ A g R z. follow-shows z ag mains fair d rok)
         now moved res (inv .good .0) sights us (inv .good .1)
         (table-back ag mains us (runAt now moved (running res)) is l)
 
-    pub forecast-across : Whole cells.forecasting s forecasting res sights us
+    -- what is counted on cells is what the reading costs
+    pub follow-costs : (d : Reading) (rok : ReadingOk ag d)
+        → total ((follow-across d rok) .given .tally) ≡ followCost ag d res
+    unfolding followCost Open.follow
+    follow-costs d rok = ap total (sym ((follow-across d rok) .shown tallies-match))
+
+    pub forecast-across : Whole cells.forecasting s (λ A g. Open.forecasting g) res sights us
     unfolding Good
     forecast-across =
-        whole-shows (Since ag now) (λ t. ag .start ≤ t) (λ t h. h .0) forecasting (forecasting-good ag mains fair)
-        cells.forecasting (forecast-shows ag mains fair)
+        whole-shows (Since ag now) (λ A g. Open.forecasting g) cells.forecasting
+        (λ A g R z. forecast-shows z ag mains fair)
         now moved res (inv .good .0) sights us (inv .good .1)
         (table-back ag mains us (runAt now moved (running res)) is l)

@@ -21,8 +21,9 @@ use Rattle.csl.specs.Run.{Raw, Stepped, altered, fit, fitOf, followed, kept, ra
 use Rattle.csl.specs.Run.{typedReading, unfit}
 use Rattle.csl.specs.Table.{Run, cellsOf, headCells, natCells, runOf, standFor, tableOf}
 use Rattle.csl.specs.Early.{cameEarly, idle, markOf, someTooEarly}
+use Rattle.csl.specs.Cost.{costFrom, costOf, total}
 use Rattle.csl.specs.Entries.{Answer, Forecast, breachAt, forecastOf, forecastRun, noBreach, noForecast, readingOf}
-use Rattle.csl.specs.Entries.{marked, refusal, shown, startOf, written}
+use Rattle.csl.specs.Entries.{answered, refusal, shown, startOf, written}
 use Rattle.csl.specs.Demand3.{fitting, needed}
 use Rattle.laws.proofs.Bools.{by}
 use Rattle.laws.proofs.Clash.{impossible}
@@ -39,12 +40,12 @@ use Rattle.soundness.proofs.Runs.{start-is, stepped}
 use Rattle.soundness.proofs.Moved.{stays-done}
 use Rattle.soundness.proofs.Early.{mark-not-early}
 use Rattle.soundness.proofs.ReadBack.{runOf-good, table-back}
-use Rattle.cells.specs.Reduce.{Reduced}
+use Rattle.cells.specs.Reduce.{Reckoned, Reduced}
 use Rattle.cells.specs.Reduce as cells
 use Rattle.cells.specs.Across as table
-use Rattle.bridge.proofs.Shows.{Shows}
+use Rattle.bridge.proofs.Shows.{Shows, outcomes-match}
 use Rattle.bridge.proofs.Reduce.{activate-shows}
-use Rattle.bridge.proofs.Across.{FoundIs, follow-across, forecast-across, sightsOf}
+use Rattle.bridge.proofs.Across.{FoundIs, follow-across, follow-costs, forecast-across, sightsOf}
 use Rattle.bridge.proofs.Refusals.{answer, forecast-on, unread}
 use Rattle.cells.specs.Tables.{alters, headOf, movedCell, reducedTable, steppedTable}
 use Rattle.bridge.proofs.Tables.{needed-shows, table-shows, tooMany-shows, unitsIn}
@@ -107,7 +108,7 @@ foretold-shows ag mains (breach t ps) x f h = rw h (refl, λ us e. impossible cc
 foretold-shows ag mains (running r) x f h = absurd f
 foretold-shows ag mains stuck x f h = absurd f
 
-same-one : {x y : Reduced} → x ∷ [] ≡ y ∷ [] → x ≡ y
+same-one : {x y : Reckoned} → x ∷ [] ≡ y ∷ [] → x ≡ y
 same-one e = cc
 
 -- ---- a reading that fits, or not
@@ -166,17 +167,17 @@ module _ (s mains : List ℕ) (ck : checked s ≡ accepted (agreementOf s) mains
 
   pub start-reduce : (us : List ℤ) → length us ≡ 3080
       → startOf s us ≡ keptCells (ag .start) 0 us
-      (cells.reduce cells.activating (ag .templates) (mainOf s) [] [] (ag .start))
+      ((cells.reduce cells.activating (ag .templates) (mainOf s) [] [] (ag .start)) .outcome)
   unfolding agreementOf natCells cellsOf activate
-  start-reduce us l = start-shows us _ l (activate-shows ag mains fair (ag .main) 0 []
+  start-reduce us l = start-shows us _ l (activate-shows outcomes-match ag mains fair (ag .main) 0 []
       (record { params = []; values = [] }) (ag .start) mains no-sight (fair .main) (fair .mainPlaced))
 
   module _ (us : List ℤ) (l : length us ≡ 3080) where
     -- ---- a reading that does not fit, or comes before the last
     module _ (q : Run) (is : runOf ag mains us ≡ some q) (r : List ℕ) where
-      unfits : (n : ℕ) → fitOf ag (q .lastTime) r ≡ unfit n → readingOf s us r ≡ marked 0 (written us (stepped n q))
-      unfolding cameEarly markOf step
-      unfits n e = reading-is s ag mains ck us q r l is ∙ rw (e, cameEarly, step) refl
+      unfits : (n : ℕ) → fitOf ag (q .lastTime) r ≡ unfit n → readingOf s us r ≡ answered 0 0 (written us (stepped n q))
+      unfolding cameEarly markOf costOf step
+      unfits n e = reading-is s ag mains ck us q r l is ∙ rw (e, cameEarly, costOf, step) refl
 
       pub reading-eight : rawReading r ≡ none → readingOf s us r ≡ unread 8 us
       unfolding written refusal
@@ -193,19 +194,19 @@ module _ (s mains : List ℕ) (ck : checked s ≡ accepted (agreementOf s) mains
     -- ---- one that fits and does not come before the last
     module _ (now m : ℕ) (r : List ℕ) (d : Reading) (f : fitting ag r ≡ some d) (le : now ≤ d .time) where
       pub reading-done : runOf ag mains us ≡ some (runAt now m done)
-          → readingOf s us r ≡ marked 0 (answer 0 (reducedTable (d .time) (pos m) cells.done))
-      unfolding cameEarly markOf step written followed readAt
+          → readingOf s us r ≡ answered 0 0 (answer 0 (reducedTable (d .time) (pos m) cells.done))
+      unfolding cameEarly markOf costOf costFrom step written followed readAt
       reading-done is = reading-is s ag mains ck us (runAt now m done) r l is
-          ∙ rw ((fit-on ag now r d f le) .1, cameEarly, step) refl
-          ∙ ap (λ k. marked 0 (answer 0 (tableOf (runAt (d .time) k done)))) (stays-done now m (d .time))
-          ∙ ap (λ t. marked 0 (answer 0 t)) (unfold tableOf reducedTable headOf headCells natCells in refl)
+          ∙ rw ((fit-on ag now r d f le) .1, cameEarly, costOf, step) refl
+          ∙ ap (λ k. answered 0 0 (answer 0 (tableOf (runAt (d .time) k done)))) (stays-done now m (d .time))
+          ∙ ap (λ t. answered 0 0 (answer 0 t)) (unfold tableOf reducedTable headOf headCells natCells in refl)
 
       pub reading-breach : (t : ℕ) (ps : List ℕ) → runOf ag mains us ≡ some (runAt now m (breach t ps))
-          → readingOf s us r ≡ marked 0 (answer 0 us)
-      unfolding cameEarly markOf step written followed
+          → readingOf s us r ≡ answered 0 0 (answer 0 us)
+      unfolding cameEarly markOf costOf costFrom step written followed
       reading-breach t ps is = reading-is s ag mains ck us (runAt now m (breach t ps)) r l is
-          ∙ rw ((fit-on ag now r d f le) .1, cameEarly, step) refl
-          ∙ ap (λ t. marked 0 (answer 0 t)) (table-back ag mains us (runAt now m (breach t ps)) is l)
+          ∙ rw ((fit-on ag now r d f le) .1, cameEarly, costOf, step) refl
+          ∙ ap (λ t. answered 0 0 (answer 0 t)) (table-back ag mains us (runAt now m (breach t ps)) is l)
 
       module _ (found : FoundIs s) (res : Residue) (sights : List ℕ) where
         -- some unit of the table opens later
@@ -214,12 +215,12 @@ module _ (s mains : List ℕ) (ck : checked s ≡ accepted (agreementOf s) mains
             (drop 8 us)
 
         -- x is what the rules on cells give for all units of the table
-        pub reading-running : (x : Reduced) → runOf ag mains us ≡ some (runAt now m (running res))
+        pub reading-running : (x : Reckoned) → runOf ag mains us ≡ some (runAt now m (running res))
             → table.across (cells.following (d .time) (d .type) (cellsOf (d .values))) s (units res)
             (sightsOf ag res ++ sights) (drop 8 us) ≡ x ∷ []
-            → readingOf s us r ≡ marked (markOf (earlyCells (units res) us x later))
-            (keptCells (d .time) (units res) us x)
-        unfolding cameEarly step followed Good follow readAt
+            → readingOf s us r ≡ answered (markOf (earlyCells (units res) us (x .outcome) later)) (total (x .tally))
+            (keptCells (d .time) (units res) us (x .outcome))
+        unfolding cameEarly costOf costFrom step followed Good follow readAt
         reading-running x is e =
             let q = runAt now m (running res) in
             let o = follow ag d res in
@@ -227,18 +228,21 @@ module _ (s mains : List ℕ) (ck : checked s ≡ accepted (agreementOf s) mains
             let moved = movedTo now m (running res) (d .time) o in
             let st = fit-on ag now r d f le in
             let g = (runOf-good ag mains us q fair is) .good in
-            let w = follow-across s mains fair found now m res us l is sights d (st .0) le in
+            let w = follow-across s mains fair found now m res us l is sights d (st .0) in
+            let same = same-one (sym (w .only) ∙ e) in
             let good = follow-good ag mains fair d (st .0) now le res (g .0) (g .1) in
-            let shows = subst (Shows o) (same-one (sym (w .only) ∙ e)) (w .shown) in
-            reading-is s ag mains ck us q r l is ∙ rw (st .1, cameEarly, step) refl
-            ∙ ap₂ (λ b y. marked (markOf b) y)
-            (early-shows ag W (g .0) q us (d .time) moved (units res) o x good shows
-            (alters-shows ag mains fair now m res us l is W (g .0) (d .time) moved o x good shows)
+            let shows = subst (λ y. Shows o (y .outcome)) same (w .shown outcomes-match) in
+            let cost = sym (follow-costs s mains fair found now m res us l is sights d (st .0))
+            ∙ ap (λ y. total (y .tally)) same in
+            reading-is s ag mains ck us q r l is ∙ rw (st .1, cameEarly, costOf, step, cost) refl
+            ∙ ap₂ (λ b y. answered (markOf b) (total (x .tally)) y)
+            (early-shows ag W (g .0) q us (d .time) moved (units res) o (x .outcome) good shows
+            (alters-shows ag mains fair now m res us l is W (g .0) (d .time) moved o (x .outcome) good shows)
             (someTooEarly ag d res)
-            ∙ ap (earlyCells (units res) us x)
+            ∙ ap (earlyCells (units res) us (x .outcome))
             (sym (whole-opens-later s mains fair found d (st .0) now m res us l is sights)))
-            (kept-shows ag W (g .0) q us (d .time) moved (units res) o x good shows
-            (moved-shows ag mains fair now m res us l is W (g .0) (d .time) o x good shows))
+            (kept-shows ag W (g .0) q us (d .time) moved (units res) o (x .outcome) good shows
+            (moved-shows ag mains fair now m res us l is W (g .0) (d .time) o (x .outcome) good shows))
 
         -- no unit waits for a time mark
         pub marks-later : runOf ag mains us ≡ some (runAt now m (running res)) → d .type ≡ 0 → later ≡ false
@@ -259,14 +263,15 @@ module _ (s mains : List ℕ) (ck : checked s ≡ accepted (agreementOf s) mains
     unfolding forecastRun shown
     forecast-breach now m t ps is = forecast-on us s ag mains ck l (some (runAt now m (breach t ps))) is
 
-    pub forecast-running : FoundIs s → (now m : ℕ) (res : Residue) (sights : List ℕ) (x : Reduced)
+    pub forecast-running : FoundIs s → (now m : ℕ) (res : Residue) (sights : List ℕ) (x : Reckoned)
         → runOf ag mains us ≡ some (runAt now m (running res))
         → table.across cells.forecasting s (units res) (sightsOf ag res ++ sights) (drop 8 us) ≡ x ∷ []
-        → (forecastOf s us ≡ foretold x) × ((vs : List ℤ) → x ≡ cells.running vs → ⊥)
+        → (forecastOf s us ≡ foretold (x .outcome)) × ((vs : List ℤ) → x .outcome ≡ cells.running vs → ⊥)
     unfolding Good forecast forecastRun
     forecast-running found now m res sights x is e =
         let g = (runOf-good ag mains us (runAt now m (running res)) fair is) .good in
         let w = forecast-across s mains fair found now m res us l is sights in
-        let t = foretold-shows ag mains (forecast ag res) x (forecast-ok ag mains fair now res (g .0) (g .1) (g .2))
-        (subst (Shows (forecast ag res)) (same-one (sym (w .only) ∙ e)) (w .shown)) in
+        let t = foretold-shows ag mains (forecast ag res) (x .outcome)
+        (forecast-ok ag mains fair now res (g .0) (g .1) (g .2))
+        (subst (λ y. Shows (forecast ag res) (y .outcome)) (same-one (sym (w .only) ∙ e)) (w .shown outcomes-match)) in
         (forecast-on us s ag mains ck l (some (runAt now m (running res))) is ∙ t .0, t .1)

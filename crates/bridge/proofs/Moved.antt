@@ -48,7 +48,7 @@ moved-first ag W P now us (breach t ps) x g h = rw h refl
 moved-first ag W P now us (running res) x g h = rw h (ap (λ b. cond (not b) (pos now) (getD us 5 (pos 0)))
     (sym (same-not (residueCells res) [] (λ e. let z : length (residueCells res) ≡ 0 = ap length e in
     omega (arith, cells-len ag W res (g .0) (g .1), some-unit res)))))
-moved-first ag W P now us stuck x g h = absurd h
+moved-first ag W P now us stuck x g h = absurd g
 
 -- ---- a reading, on a running run's table
 module _ (ag : Agreement) (mains : List ℕ) (fair : Fair ag mains) (now m : ℕ) (res : Residue) (us : List ℤ)
@@ -81,7 +81,7 @@ module _ (ag : Agreement) (mains : List ℕ) (fair : Fair ag mains) (now m : ℕ
   alters-shows W P time k (running next) x g h few = rw (h, units-there) (altered-running res next now m time k
       (residue-units ag (Since ag now) res (inv .good .0) (inv .good .1))
       (residue-units ag W next (g .0) (g .1)) (inv .small) few)
-  alters-shows W P time k stuck x g h few = absurd h
+  alters-shows W P time k stuck x g h few = absurd g
 
   pub moved-shows : (W : ℕ → Type 0) (P : List ℕ) (time : ℕ) (o : Outcome) (x : Reduced) → Good ag W P o → Shows o x
       → needed o ≤ 128 → pos (movedTo now m (running res) time o) ≡ movedCell time (units res) us x

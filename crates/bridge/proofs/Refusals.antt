@@ -3,7 +3,7 @@ use mathlib.Core.Bool.{Bool, false, true}
 use mathlib.Core.List.{List}
 use mathlib.Core.Option.{Option, none, some}
 use mathlib.Core.Path.{ap, refl, subst, sym, _∙_, _≡_}
-use Prim.Native.Nat.{_<_, ℕ}
+use Prim.Native.Nat.{_<_, _≤_, ℕ}
 use native.Mathlib.Omega.{arith}
 use lib.Dec.{T, eqb, eqb→eq}
 use lib.IntN.{ℤ}
@@ -18,7 +18,8 @@ use Rattle.csl.specs.Check.{CheckResult, accepted, answerFor, checkDecoded, che
 use Rattle.csl.specs.Run.{started, step}
 use Rattle.csl.specs.Table.{Run, runOf}
 use Rattle.csl.specs.Early.{cameEarly, markOf}
-use Rattle.csl.specs.Entries.{Answer, Forecast, ReadingAnswer, forecastOf, forecastRun, isTable, marked, readingOf}
+use Rattle.csl.specs.Cost.{costOf}
+use Rattle.csl.specs.Entries.{Answer, Forecast, ReadingAnswer, answered, forecastOf, forecastRun, isTable, readingOf}
 use Rattle.csl.specs.Entries.{refusal, refusedForecast, shown, startOf, written}
 use Rattle.soundness.proofs.Decoding.{decode-is}
 use Rattle.soundness.proofs.Checked.{passed}
@@ -29,12 +30,12 @@ answer n us = record { number = n; table = us }
 
 -- a refused reading's
 abbrev pub unread : ℕ → List ℤ → ReadingAnswer
-unread n us = marked 0 (answer n us)
+unread n us = answered 0 0 (answer n us)
 
 -- ---- what check says
--- a refusal has a number
+-- a refusal has a number, from 1 to 5
 Numbered : CheckResult → Type 0
-Numbered (refused n) = 0 < n
+Numbered (refused n) = (0 < n) × (n ≤ 5)
 Numbered (accepted a ps) = Unit {0}
 
 numbered : (s : List ℕ) → Numbered (checked s)
@@ -66,6 +67,10 @@ numbered s = by-size (sized s)
     by-size true = by-form (decode s)
     by-size false = omega arith
 
+pub check-few : (s : List ℕ) (n : ℕ) → checked s ≡ refused n → n ≤ 5
+unfolding Numbered
+check-few s n e = (subst Numbered e (numbered s)) .1
+
 -- refused with a number, or accepted, and then the agreement is what the bytes decode to
 pub from-check : {C : Type 0} (s : List ℕ)
     → ((n : ℕ) → 0 < n → checked s ≡ refused n → checkOf s ≡ record { number = n; parties = 0 } → C)
@@ -75,7 +80,7 @@ unfolding checkOf answerFor Numbered
 from-check {C = C} s k₁ k₂ = go (checked s) refl (numbered s)
   where
     go : (c : CheckResult) → checked s ≡ c → Numbered (checked s) → C
-    go (refused n) e h = k₁ n (subst Numbered e h) e (ap answerFor e)
+    go (refused n) e h = k₁ n ((subst Numbered e h) .0) e (ap answerFor e)
     go (accepted a ps) e h = decode-is s a ((passed s a ps e) .decodes) λ w same. k₂ ps
         (e ∙ ap (λ a. accepted a ps) (sym same)) (ap answerFor e)
 
@@ -103,7 +108,10 @@ module _ (us : List ℤ) where
   onStart a ps = written us (started a)
 
   abbrev readBy : List ℕ → Agreement → Option Run → ReadingAnswer
-  readBy r a o = elim o [ none ↦ unread 7 us | some q ↦ marked (markOf (cameEarly a q r)) (written us (step a q r)) ]
+  readBy r a o = elim o [
+    | none ↦ unread 7 us
+    | some q ↦ answered (markOf (cameEarly a q r)) (costOf a q r) (written us (step a q r))
+  ]
 
   onReading : List ℕ → Agreement → List ℕ → ReadingAnswer
   onReading r a ps = readBy r a (runOf a ps us)

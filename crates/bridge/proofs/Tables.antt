@@ -40,14 +40,14 @@ module _ (ag : Agreement) (W : ℕ → Type 0) where
     table-shows now m (breach t ps) x g h = rw h refl
     table-shows now m (running res) x g h = rw h
         (ap (λ n. padded 3080 (headCells 1 now 0 0 n m ++ residueCells res)) (units-are res (g .0) (g .1)))
-    table-shows now m stuck x g h = absurd h
+    table-shows now m stuck x g h = absurd g
 
     pub needed-shows : (o : Outcome) (x : Reduced) → Good ag W P o → Shows o x → needed o ≡ unitsIn x
     unfolding Good Shows needed unitsIn
     needed-shows done x g h = rw h refl
     needed-shows (breach t ps) x g h = rw h refl
     needed-shows (running res) x g h = rw h (units-are res (g .0) (g .1))
-    needed-shows stuck x g h = absurd h
+    needed-shows stuck x g h = absurd g
 
     pub tooMany-shows : (o : Outcome) (x : Reduced) → Good ag W P o → Shows o x → tooMany o ≡ ltb 128 (unitsIn x)
     tooMany-shows o x g h = tooMany-is o ∙ ap (ltb 128) (needed-shows o x g h)

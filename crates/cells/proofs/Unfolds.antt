@@ -14,7 +14,7 @@ use Rattle.csl.specs.Syntax.{Clause, Template}
 use Rattle.cells.specs.Reduce as cells
 use Rattle.cells.specs.Reduce.{Mode}
 
-module _ (m : Mode) (th : Clause → List ℤ → List ℤ → ℕ → cells.Reduced) (ts : List Template) (ps vs : List ℤ)
+module _ (m : Mode) (th : Clause → List ℤ → List ℤ → ℕ → cells.Reckoned) (ts : List Template) (ps vs : List ℤ)
     (a : ℕ) where
   pub unfold-at : (n k : ℕ) {t : Template} → k < n → at ts k ≡ some t
       → cells.unfoldBelow m th ts n k ps vs a ≡ cells.walk m th (cells.unfoldBelow m th ts k) (t .body) ps vs a
@@ -31,7 +31,7 @@ module _ (m : Mode) (th : Clause → List ℤ → List ℤ → ℕ → cells.Red
           (sym r))
       by-number false q ih = let r = eqb-false k n q in rw (q, cells.unfoldBelow) (ih (omega arith))
 
-  pub unfold-past : (n k : ℕ) → n ≤ k → cells.unfoldBelow m th ts n k ps vs a ≡ cells.done
+  pub unfold-past : (n k : ℕ) → n ≤ k → cells.unfoldBelow m th ts n k ps vs a ≡ cells.ended
   unfolding cells.unfoldBelow
   unfold-past zero k h = refl
   unfold-past (suc n) k h = rw (ne-eqb k n (λ e. omega arith), cells.unfoldBelow) (unfold-past n k (omega arith))

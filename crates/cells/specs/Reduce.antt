@@ -1,5 +1,5 @@
 -- The rules on cells: activating, following and forecasting a clause, the residue being the cells that the table
--- holds for it.
+-- holds for it, with what is counted on the way.
 -- Total, with no stuck outcome; on a typed clause it is csl's rules: `bridge` proves it (proofs/Reduce).
 use mathlib.Core.Bool.{Bool, true, false, cond, _&&_}
 use mathlib.Core.List.{List, [], _∷_, _++_}
@@ -18,6 +18,7 @@ use Rattle.csl.specs.Syntax.{badClause, Template}
 use Rattle.csl.specs.Rules as csl
 use Rattle.csl.specs.Rules.{Window, timing}
 use Rattle.csl.specs.Table.{padded, joinCells}
+use Rattle.csl.specs.Cost.{Tally, tallyJoin, nothingYet, oneMore, allFurther}
 use Rattle.cells.specs.Evaluate.{evalCells, evalsCells, isTrue}
 
 -- fulfilled; a breach's time and its parties by bit; a residue's cells, unit by unit in prefix order
@@ -54,6 +55,34 @@ joinEither (running l) (running r) = running (joinCells or ++ (l ++ r))
 unfoldable pub joined : Join → Reduced → Reduced → Reduced
 joined and l r = joinBoth l r
 joined or l r = joinEither l r
+
+-- ---- a clause's outcome, with what csl's `tallies` counts of it
+pub record Reckoned : Type 0 where
+  pub outcome : Reduced
+  pub tally : Tally
+
+unfoldable pub ended : Reckoned
+ended = record { outcome = done; tally = nothingYet true }
+
+unfoldable pub broken : ℕ → ℕ → Reckoned
+broken t b = record { outcome = breach t b; tally = nothingYet false }
+
+unfoldable pub waiting : List ℤ → Reckoned
+waiting cs = record { outcome = running cs; tally = nothingYet false }
+
+unfoldable pub joins : Join → Reckoned → Reckoned → Reckoned
+joins j l r = record {
+  outcome = joined j (l .outcome) (r .outcome);
+  tally = tallyJoin j (l .tally) (r .tally);
+}
+
+-- of a clause that is activated, or a unit of the table that is read
+unfoldable pub reaches : Reckoned → Reckoned
+reaches x = record { outcome = x .outcome; tally = oneMore (x .tally) }
+
+-- of a wait that a reading ends
+unfoldable pub becomes : Reckoned → Reckoned
+becomes x = record { outcome = x .outcome; tally = allFurther (x .tally) }
 
 -- ---- blames: a party, or the party in the parameter's cell
 unfoldable pub partyCell : ℤ → ℕ
@@ -115,43 +144,46 @@ fate (following t k rs) vs a w = elim (timing (windowOf vs a w) t) [
 ]
 
 -- ---- the walk; `thenIs` activates a `then`, `instantiate` unfolds a template
-unfoldable pub onTaken : Mode → (Clause → List ℤ → List ℤ → ℕ → Reduced) → Clause → List ℤ → List ℤ → ℕ → Wait → Reduced
-onTaken activating thenIs t ps vs a w = done
-onTaken forecasting thenIs t ps vs a w = done
-onTaken (following u k rs) thenIs t ps vs a w = thenIs t ps (thenValues vs rs (lastOf vs a w -ℤ pos u)) u
+unfoldable pub onTaken : Mode → (Clause → List ℤ → List ℤ → ℕ → Reckoned) → Clause → List ℤ → List ℤ → ℕ → Wait
+    → Reckoned
+onTaken activating thenIs t ps vs a w = ended
+onTaken forecasting thenIs t ps vs a w = ended
+onTaken (following u k rs) thenIs t ps vs a w =
+    becomes (thenIs t ps (thenValues vs rs (lastOf vs a w -ℤ pos u)) u)
 
-module _ (m : Mode) (thenIs : Clause → List ℤ → List ℤ → ℕ → Reduced)
-    (instantiate : ℕ → List ℤ → List ℤ → ℕ → Reduced) where
-  unfoldable pub walk : Clause → List ℤ → List ℤ → ℕ → Reduced
-  walk fulfilled ps vs a = done
-  walk (obligation b w t) ps vs a = elim (fate m vs a w) [
-    | waits ↦ running (unitOf 17 (w .place) a ps vs)
-    | late ↦ breach (laterOf a (lastOf vs a w)) (blameBits ps b)
+module _ (m : Mode) (thenIs : Clause → List ℤ → List ℤ → ℕ → Reckoned)
+    (instantiate : ℕ → List ℤ → List ℤ → ℕ → Reckoned) where
+  unfoldable pub walk : Clause → List ℤ → List ℤ → ℕ → Reckoned
+  walk fulfilled ps vs a = reaches ended
+  walk (obligation b w t) ps vs a = reaches (elim (fate m vs a w) [
+    | waits ↦ waiting (unitOf 17 (w .place) a ps vs)
+    | late ↦ broken (laterOf a (lastOf vs a w)) (blameBits ps b)
     | taken ↦ onTaken m thenIs t ps vs a w
-  ]
-  walk (choice w t f) ps vs a = elim (fate m vs a w) [
-    | waits ↦ running (unitOf 18 (w .place) a ps vs)
-    | late ↦ walk f ps vs (laterOf a (lastOf vs a w))
+  ])
+  walk (choice w t f) ps vs a = reaches (elim (fate m vs a w) [
+    | waits ↦ waiting (unitOf 18 (w .place) a ps vs)
+    | late ↦ becomes (walk f ps vs (laterOf a (lastOf vs a w)))
     | taken ↦ onTaken m thenIs t ps vs a w
-  ]
-  walk (if c t f) ps vs a = elim (isTrue (evalCells vs c)) [ true ↦ walk t ps vs a | false ↦ walk f ps vs a ]
-  walk (join j t f) ps vs a = joined j (walk t ps vs a) (walk f ps vs a)
-  walk (instance k es bs) ps vs a = instantiate k (blamedCells ps bs) (evalsCells vs es) a
-  walk badClause ps vs a = done
+  ])
+  walk (if c t f) ps vs a =
+      reaches (elim (isTrue (evalCells vs c)) [ true ↦ walk t ps vs a | false ↦ walk f ps vs a ])
+  walk (join j t f) ps vs a = reaches (joins j (walk t ps vs a) (walk f ps vs a))
+  walk (instance k es bs) ps vs a = reaches (instantiate k (blamedCells ps bs) (evalsCells vs es) a)
+  walk badClause ps vs a = reaches ended
 
 -- instances of the templates below n: template k's body is walked with instances of the templates below k
-module _ (m : Mode) (thenIs : Clause → List ℤ → List ℤ → ℕ → Reduced) (ts : List Template) where
-  unfoldable pub unfoldBelow : ℕ → ℕ → List ℤ → List ℤ → ℕ → Reduced
-  unfoldBelow zero k ps vs a = done
+module _ (m : Mode) (thenIs : Clause → List ℤ → List ℤ → ℕ → Reckoned) (ts : List Template) where
+  unfoldable pub unfoldBelow : ℕ → ℕ → List ℤ → List ℤ → ℕ → Reckoned
+  unfoldBelow zero k ps vs a = ended
   unfoldBelow (suc n) k ps vs a = elim (eqb k n) [
-    | true ↦ elim (at ts n) [ none ↦ done | some t ↦ walk m thenIs (unfoldBelow n) (t .body) ps vs a ]
+    | true ↦ elim (at ts n) [ none ↦ ended | some t ↦ walk m thenIs (unfoldBelow n) (t .body) ps vs a ]
     | false ↦ unfoldBelow n k ps vs a
   ]
 
 -- a clause outside the templates, or in some `then`, may name any template
-unfoldable pub activate : List Template → Clause → List ℤ → List ℤ → ℕ → Reduced
-activate ts c ps vs a = walk activating (λ t qs us u. done)
-    (unfoldBelow activating (λ t qs us u. done) ts (length ts)) c ps vs a
+unfoldable pub activate : List Template → Clause → List ℤ → List ℤ → ℕ → Reckoned
+activate ts c ps vs a = walk activating (λ t qs us u. ended)
+    (unfoldBelow activating (λ t qs us u. ended) ts (length ts)) c ps vs a
 
-unfoldable pub reduce : Mode → List Template → Clause → List ℤ → List ℤ → ℕ → Reduced
+unfoldable pub reduce : Mode → List Template → Clause → List ℤ → List ℤ → ℕ → Reckoned
 reduce m ts c ps vs a = walk m (activate ts) (unfoldBelow m (activate ts) ts (length ts)) c ps vs a

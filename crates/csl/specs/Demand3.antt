@@ -14,6 +14,7 @@ use Rattle.csl.specs.Rules.{Reading, follow}
 use Rattle.csl.specs.Table.{Run}
 use Rattle.csl.specs.Run.{rawReading, typedReading, step}
 use Rattle.csl.specs.Early.{cameEarly, markOf}
+use Rattle.csl.specs.Cost.{costOf}
 
 unfoldable pub Bytes : List ℕ → Type 0
 Bytes bs = T (all (λ b. ltb b 256) bs)
@@ -70,3 +71,8 @@ numbersBy a run (r ∷ rs) = (step a run r) .number ∷ numbersBy a ((step a run
 unfoldable pub marksBy : Agreement → Run → List (List ℕ) → List ℕ
 marksBy a run [] = []
 marksBy a run (r ∷ rs) = markOf (cameEarly a run r) ∷ marksBy a ((step a run r) .run) rs
+
+-- paper 02, No. 9: what each costs
+unfoldable pub costsBy : Agreement → Run → List (List ℕ) → List ℕ
+costsBy a run [] = []
+costsBy a run (r ∷ rs) = costOf a run r ∷ costsBy a ((step a run r) .run) rs

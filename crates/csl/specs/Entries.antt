@@ -14,6 +14,7 @@ use Rattle.csl.specs.Outcomes.{Outcome, done, breach, running, stuck}
 use Rattle.csl.specs.Rules.{forecast}
 use Rattle.csl.specs.Run.{Stepped, started, step}
 use Rattle.csl.specs.Early.{cameEarly, markOf}
+use Rattle.csl.specs.Cost.{costOf}
 use Rattle.csl.specs.Table.{Run, tableLength, tableOf, runOf}
 
 -- a number, and the table afterwards
@@ -21,14 +22,15 @@ pub record Answer : Type 0 where
   pub number : ℕ
   pub table : List ℤ
 
--- a reading's, with the mark of paper 02, No. 8
+-- a reading's, with whether it came too early and what it cost: paper 02, Nos. 8 and 9
 pub record ReadingAnswer : Type 0 where
   pub number : ℕ
   pub early : ℕ
+  pub cost : ℕ
   pub table : List ℤ
 
-unfoldable pub marked : ℕ → Answer → ReadingAnswer
-marked early x = record { number = x .number; early = early; table = x .table }
+unfoldable pub answered : ℕ → ℕ → Answer → ReadingAnswer
+answered early cost x = record { number = x .number; early = early; cost = cost; table = x .table }
 
 unfoldable pub refusal : ℕ → List ℤ → Answer
 refusal n cells = record { number = n; table = cells }
@@ -52,12 +54,12 @@ startOf bytes cells = elim (checked bytes) [
 
 unfoldable pub readingOf : List ℕ → List ℤ → List ℕ → ReadingAnswer
 readingOf bytes cells reading = elim (checked bytes) [
-  | refused n ↦ marked 0 (refusal n cells)
+  | refused n ↦ answered 0 0 (refusal n cells)
   | accepted a ps ↦ elim (isTable cells) [
-    | false ↦ marked 0 (refusal 6 cells)
+    | false ↦ answered 0 0 (refusal 6 cells)
     | true ↦ elim (runOf a ps cells) [
-      | none ↦ marked 0 (refusal 7 cells)
-      | some r ↦ marked (markOf (cameEarly a r reading)) (written cells (step a r reading))
+      | none ↦ answered 0 0 (refusal 7 cells)
+      | some r ↦ answered (markOf (cameEarly a r reading)) (costOf a r reading) (written cells (step a r reading))
     ]
   ]
 ]
@@ -95,5 +97,5 @@ forecastOf bytes cells = elim (checked bytes) [
 
 -- what a proof by computation unfolds
 unfoldable pub computes : Unit {0}
-unfolding marked refusal written isTable startOf readingOf shown forecastRun forecastOf
+unfolding answered refusal written isTable startOf readingOf shown forecastRun forecastOf
 computes = tt

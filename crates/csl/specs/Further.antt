@@ -32,7 +32,7 @@ use Rattle.csl.specs.Build.{owesTyped, owes, simply, may, mayTyped, ifs,
 use Rattle.csl.specs.Build.{templateWith, agreementWith, agreement, readingWith, reading, mark, sample, zeros}
 use Rattle.csl.specs.Build.{filled, unitOf, joinUnit, flat, runningTable, fulfilledTable}
 use Rattle.csl.specs.Trials.{Trial, Seen, checks, answers, forecasts, steps, reads, becomes, decides, evaluates}
-use Rattle.csl.specs.Trials.{holds, counts, gives, unmarked, follows, live, fulfils, breaches, harness}
+use Rattle.csl.specs.Trials.{holds, counts, gives, uncosted, unmarked, follows, live, fulfils, breaches, harness}
 
 -- ---- forms of a trial
 unfoldable pub shows : String → List Seen → List Seen → Trial
@@ -914,8 +914,8 @@ moved =
     (live 100 100 (unitOf 17 17 100 [] [] ∷ []) 160 1 ∷ live 105 100 (unitOf 17 17 100 [] [] ∷ []) 160 1
     ∷ fulfils 110 110 ∷ fulfils 120 110 ∷ fulfils 130 110 ∷ [])
     ∷ shows "a unit replaced by its equal, and by one a minute later"
-    (answers (readingOf ever (runningTable 120 105 (since 120)) (reading 120 (pos 1))) ∷ answers
-    (readingOf ever (runningTable 120 105 (since 120)) (reading 121 (pos 1))) ∷ [])
+    (answers (uncosted (readingOf ever (runningTable 120 105 (since 120)) (reading 120 (pos 1)))) ∷ answers
+    (uncosted (readingOf ever (runningTable 120 105 (since 120)) (reading 121 (pos 1)))) ∷ [])
     (gives 0 (runningTable 120 105 (since 120)) ∷ gives 0 (runningTable 121 121 (since 121)) ∷ [])
     ∷ shows "what has altered: the state cell, a unit cell"
     (map (λ t. holds (altered ten t)) unlike ++ map (λ t. holds (altered t ten)) unlike)

@@ -11,10 +11,13 @@ pub mod Check
 pub mod Values
 pub mod Outcomes
 pub mod Places
+pub mod Windows
+pub mod Reckoning
 pub mod Rules
 pub mod Table
 pub mod Run
 pub mod Early
+pub mod Cost
 pub mod Entries
 pub mod Demand3
 pub mod Marks
@@ -22,3 +25,4 @@ pub mod Build
 pub mod Trials
 pub mod Further
 pub mod TooEarly
+pub mod Costs

@@ -34,9 +34,13 @@ pub data Outcome : Type 0 where
   running : Residue → Outcome
   stuck : Outcome
 
+unfoldable pub orOther : {A : Type 0} → A → Option A → A
+orOther x none = x
+orOther x (some y) = y
+
 unfoldable pub orStuck : Option Outcome → Outcome
-orStuck none = stuck
-orStuck (some o) = o
+unfolding orOther
+orStuck o = orOther stuck o
 
 -- `and`: "of two the earlier, at equal times both sets"
 unfoldable pub earlier : ℕ → List ℕ → ℕ → List ℕ → Outcome
@@ -90,5 +94,5 @@ joined or l r = joinEither l r
 
 -- what a proof by computation unfolds
 unfoldable pub computes : Unit {0}
-unfolding units orStuck earlier later joinBoth joinEither joined
+unfolding units orOther orStuck earlier later joinBoth joinEither joined
 computes = tt

@@ -17,8 +17,8 @@ use Rattle.csl.specs.Entries.{startOf, readingOf}
 use Rattle.csl.specs.Build.{lit, truthOf, yes′, var, opposite, op, nothing, owesTyped, owes, simply, may, all′}
 use Rattle.csl.specs.Build.{any′, inst, readingTypeOf, templateWith, agreementWith, agreement, readingWith}
 use Rattle.csl.specs.Build.{reading, mark, zeros, unitOf, joinUnit, runningTable}
-use Rattle.csl.specs.Trials.{Trial, Seen, Moment, answers, holds, counts, marks, follows, live, fulfils}
-use Rattle.csl.specs.Trials.{refusing, harness}
+use Rattle.csl.specs.Trials.{Trial, Seen, Moment, answers, holds, counts, marks, uncosted, follows, live}
+use Rattle.csl.specs.Trials.{fulfils, refusing, harness}
 use Rattle.csl.specs.Further.{shows, stepsOf, runSeen, obeys, leads, waits, owed, by, asking, next, main}
 use Rattle.csl.specs.Further.{aNumber, template, call, two}
 
@@ -99,7 +99,7 @@ unfoldable pub again : List ℤ
 again = runningTable 100 100 (joinUnit 20 ∷ unitOf 17 29 100 [] [] ∷ unitOf 18 61 100 [] [] ∷ [])
 
 unfoldable pub atOnce : List ℕ → Seen
-atOnce c = answers (readingOf (anew c) again (reading 100 (pos 1)))
+atOnce c = answers (uncosted (readingOf (anew c) again (reading 100 (pos 1))))
 
 unfoldable pub tooEarlies : List Trial
 tooEarlies =

@@ -23,6 +23,7 @@ use Rattle.csl.specs.Rules as Rules
 use Rattle.csl.specs.Places as Places
 use Rattle.csl.specs.Run as Run
 use Rattle.csl.specs.Early as Early
+use Rattle.csl.specs.Cost as Cost
 use Rattle.csl.specs.Table as Table
 use Rattle.csl.specs.Entries as Entries
 use Rattle.csl.specs.Build as Build
@@ -43,7 +44,7 @@ use Rattle.csl.specs.Build.{breachedTable}
 unfoldable pub computes : Unit {0}
 unfolding Lists.computes Numbers.computes Bytes.computes Parties.computes Decode.computes Typing.computes
     Guards.computes Widths.computes Check.computes Values.computes Outcomes.computes Rules.computes Places.computes
-    Run.computes Early.computes Table.computes Entries.computes Build.computes
+    Run.computes Early.computes Cost.computes Table.computes Entries.computes Build.computes
 computes = tt
 
 -- ---- a trial: what is computed, and what it must be
@@ -68,7 +69,11 @@ pub record Trial : Type 0 where
 
 -- a number, a mark and a table
 unfoldable pub marks : ℕ → ℕ → List ℤ → ReadingAnswer
-marks n early cells = record { number = n; early = early; table = cells }
+marks n early cells = record { number = n; early = early; cost = 0; table = cells }
+
+-- without what a reading costs, of which `Costs` has trials of its own
+unfoldable pub uncosted : ReadingAnswer → ReadingAnswer
+uncosted a = marks (a .number) (a .early) (a .table)
 
 unfoldable pub gives : ℕ → List ℤ → Seen
 gives n cells = answers (marks n 0 cells)
@@ -80,14 +85,14 @@ unmarked a = marks (a .number) 0 (a .table)
 -- ---- an agreement started and given readings
 -- by the entries, on the table that the one before left, with the forecast of each table
 unfoldable pub byEntries : List ℕ → ReadingAnswer → List (List ℕ) → List Seen
-byEntries bytes a [] = answers a ∷ forecasts (forecastOf bytes (a .table)) ∷ []
-byEntries bytes a (r ∷ rs) = answers a ∷ forecasts (forecastOf bytes (a .table)) ∷ byEntries bytes
+byEntries bytes a [] = answers (uncosted a) ∷ forecasts (forecastOf bytes (a .table)) ∷ []
+byEntries bytes a (r ∷ rs) = answers (uncosted a) ∷ forecasts (forecastOf bytes (a .table)) ∷ byEntries bytes
     (readingOf bytes (a .table) r) rs
 
 -- the same without the forecasts
 unfoldable pub byReadings : List ℕ → ReadingAnswer → List (List ℕ) → List Seen
-byReadings bytes a [] = answers a ∷ []
-byReadings bytes a (r ∷ rs) = answers a ∷ byReadings bytes (readingOf bytes (a .table) r) rs
+byReadings bytes a [] = answers (uncosted a) ∷ []
+byReadings bytes a (r ∷ rs) = answers (uncosted a) ∷ byReadings bytes (readingOf bytes (a .table) r) rs
 
 -- by the rules: no table is read
 unfoldable pub byRules : Agreement → ℕ → Stepped → List (List ℕ) → List Seen
@@ -250,8 +255,8 @@ trials = p1to4 ∷ p5and6 ∷ p7 ∷ p8 ∷ p9 ∷ p10 ∷ p11 ∷ p12a ∷ p12b
 
 -- what a proof by computation unfolds
 unfoldable pub harness : Unit {0}
-unfolding computes marks gives unmarked byEntries byReadings byRules rulesOf ofEntries ofRules follows grows live
-    fulfils breaches refusing owed chosen
+unfolding computes marks uncosted gives unmarked byEntries byReadings byRules rulesOf ofEntries ofRules follows grows
+    live fulfils breaches refusing owed chosen
 harness = tt
 
 pub trials-pass : map (λ t. t .shown) trials ≡ map (λ t. t .expected) trials

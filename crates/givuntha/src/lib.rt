@@ -40,17 +40,23 @@ pub extern "C" fn givuntha_reading(
     table: &mut [i64],
     reading: &[u8],
     early: &mut u64,
+    cost: &mut u64,
 ) -> u32
-    ensures { λ r. ⌜ record { number = r; early = now (early .exit); table = now (table .exit) }
+    ensures { λ r. ⌜ record { number = r; early = now (early .exit); cost = now (cost .exit); table = now (table .exit) }
         ≡ readingOf (now (agreement .entry)) (now (table .entry)) (now (reading .entry)) ⌝ }
 {
     match monitor::reading(agreement, table, reading) {
-        Taken::Accepted { early: mark } => {
+        Taken::Accepted {
+            early: mark,
+            cost: n,
+        } => {
             *early = if mark { 1 } else { 0 };
+            *cost = n as u64;
             0
         }
-        Taken::Refused(why) => {
+        Taken::Refused { why, cost: n } => {
             *early = 0;
+            *cost = n as u64;
             monitor::number(why)
         }
     }

@@ -76,13 +76,13 @@ start-told Begun table = refl
 start-told (refusedStart r) table = number-told Begun refusedStart r
 
 abbrev pub takenBy : ReadingAnswer → Taken
-takenBy a = told (acceptedReading (eqb (a .early) 1)) refusedReading (a .number)
+takenBy a = told (acceptedReading (eqb (a .early) 1) (a .cost)) (λ r. refusedReading r (a .cost)) (a .number)
 
 pub reading-told : (r : Taken) (table : List ℤ) → takenBy (takenAnswer r table) ≡ r
 unfolding markOf
-reading-told (acceptedReading true) table = refl
-reading-told (acceptedReading false) table = refl
-reading-told (refusedReading r) table = number-told (acceptedReading false) refusedReading r
+reading-told (acceptedReading true cost) table = refl
+reading-told (acceptedReading false cost) table = refl
+reading-told (refusedReading r cost) table = number-told (acceptedReading false cost) (λ w. refusedReading w cost) r
 
 abbrev pub foretoldBy : Forecast → Foretold
 foretoldBy entries.noBreach = Nothing

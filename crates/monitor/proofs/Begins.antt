@@ -17,7 +17,7 @@ use Rattle.monitor.specs.declared.Refusal.the-variants.{Units}
 use Rattle.monitor.specs.declared.Started.the-variants.{Begun, Refused as refusedStart}
 use Rattle.monitor.specs.Answers.{startAnswer}
 use Rattle.reduction.proofs.Main.{startEvent}
-use Rattle.reduction.specs.Steps.{mainReduced, Due, reduced, advanced, Advances}
+use Rattle.reduction.specs.Steps.{mainReckoned, Due, reckoned, advanced, Advances}
 use Rattle.reduction.specs.declared.Advanced.{Advanced}
 use Rattle.reduction.specs.declared.Advanced.the-variants.{TooMany, Wrote}
 use Rattle.monitor.specs.Steps.{Goes}
@@ -47,12 +47,12 @@ module _ {s places : List ℕ} {p : ℕ} (g : Goes s places p) {us : List ℤ} (
   module _ {r : Advanced} {left : List ℤ} (a : Advances s sights us 0 (startEvent t) rs left r) (et : t ≡ le32 s 4)
     where
       begun : advanced r left ≡ startOf s us
-      unfolding reduced mainReduced agreementOf
-      begun = a .is ∙ ap (λ k. keptCells k 0 us (mainReduced s)) et
+      unfolding reckoned mainReckoned agreementOf
+      begun = a .is ∙ ap (λ k. keptCells k 0 us ((mainReckoned s) .outcome)) et
           ∙ sym (start-reduce s (g .mains) (g .isAccepted) us l)
 
-      pub begin-no : r ≡ TooMany → startAnswer (refusedStart Units) left ≡ startOf s us
+      pub begin-no : {cost : ℕ} → r ≡ TooMany cost → startAnswer (refusedStart Units) left ≡ startOf s us
       begin-no e = ap (λ r. advanced r left) (sym e) ∙ begun
 
-      pub begin-yes : {altered : Bool} → r ≡ Wrote altered → startAnswer Begun left ≡ startOf s us
+      pub begin-yes : {altered : Bool} {cost : ℕ} → r ≡ Wrote altered cost → startAnswer Begun left ≡ startOf s us
       begin-yes e = ap (λ r. advanced r left) (sym e) ∙ begun

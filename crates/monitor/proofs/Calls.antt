@@ -14,7 +14,8 @@ use Rattle.csl.specs.Run.{step}
 use Rattle.csl.specs.Table.{Run, tableOf}
 use Rattle.csl.specs.Entries.{forecastOf, readingOf, startOf}
 use Rattle.csl.specs.Early.{cameEarly, markOf}
-use Rattle.csl.specs.Demand3.{AllBytes, marksBy, numbersBy, runAfter}
+use Rattle.csl.specs.Cost.{costOf}
+use Rattle.csl.specs.Demand3.{AllBytes, costsBy, marksBy, numbersBy, runAfter}
 use Rattle.soundness.proofs.Runs.{InvOf, reading-fine, step-inv}
 use Rattle.soundness.proofs.Demand3.{after-inv}
 use Rattle.monitor.specs.declared.Started.{Started}
@@ -22,7 +23,8 @@ use Rattle.monitor.specs.declared.Taken.{Taken}
 use Rattle.monitor.specs.declared.Taken.the-variants.{Accepted, Refused}
 use Rattle.monitor.specs.declared.Foretold.{Foretold}
 use Rattle.monitor.specs.Answers.{forecastAnswer, startAnswer, takenAnswer}
-use Rattle.monitor.specs.Calls.{Call, Calls, earlyIn, lastTable, marksIn, numberIn, numbersIn, readingsIn}
+use Rattle.monitor.specs.Calls.{Call, Calls, costIn, costsIn, earlyIn, lastTable, marksIn, numberIn, numbersIn}
+use Rattle.monitor.specs.Calls.{readingsIn}
 use Rattle.monitor.proofs.start.Kinds as start-kinds
 use Rattle.monitor.proofs.start.Reads as start
 use Rattle.monitor.proofs.reading.Kinds as reading-kinds
@@ -49,8 +51,8 @@ forecast-call lifetimes given r left meets = meets
 
 -- ---- lists of calls
 table-of : (r : Taken) (us : List ℤ) → (takenAnswer r us) .table ≡ us
-table-of (Accepted early) us = refl
-table-of (Refused w) us = refl
+table-of (Accepted early cost) us = refl
+table-of (Refused w cost) us = refl
 
 calls-split : (s : List ℕ) (us : List ℤ) (before later : List Call) → Calls s us (before ++ later)
     → Calls s us before × Calls s (lastTable us before) later
@@ -73,8 +75,8 @@ module _ (s : List ℕ) (a : Agreement) (mains : List ℕ) (ck : checked s ≡ a
   pub called : (q : Run) (us : List ℤ) (c : Call) → us ≡ tableOf q → Sound q
       → takenAnswer (c .answer) (c .left) ≡ readingOf s us (c .bytes)
       → (numberIn c ≡ (step a q (c .bytes)) .number) × (c .left ≡ tableOf ((step a q (c .bytes)) .run))
-      × (earlyIn c ≡ markOf (cameEarly a q (c .bytes)))
-  unfolding numberIn earlyIn
+      × (earlyIn c ≡ markOf (cameEarly a q (c .bytes))) × (costIn c ≡ costOf a q (c .bytes))
+  unfolding numberIn earlyIn costIn
   called q us c e i meets =
       let fine = reading-fine s a mains ck q (c .bytes) i in
       let is : takenAnswer (c .answer) (c .left) ≡ readingOf s (tableOf q) (c .bytes) = meets
@@ -82,6 +84,7 @@ module _ (s : List ℕ) (a : Agreement) (mains : List ℕ) (ck : checked s ≡ a
         ap (λ x. x .number) is ∙ fine .0,
         sym (table-of (c .answer) (c .left)) ∙ ap (λ x. x .table) is ∙ fine .1,
         ap (λ x. x .early) is ∙ fine .2,
+        ap (λ x. x .cost) is ∙ fine .3,
       )
 
   -- calls one after another
@@ -111,6 +114,15 @@ module _ (s : List ℕ) (a : Agreement) (mains : List ℕ) (ck : checked s ≡ a
       ap₂ (λ n ns. n ∷ ns) (x .2) (all-marks ((step a q (c .bytes)) .run) (c .left) calls (x .1)
       (step-inv s a mains ck q (c .bytes) (h .0) i) (h .1) (cs .1))
 
+  pub all-costs : (q : Run) (us : List ℤ) (calls : List Call) → us ≡ tableOf q → Sound q → AllBytes (readingsIn calls)
+      → Calls s us calls → costsIn calls ≡ costsBy a q (readingsIn calls)
+  unfolding Calls AllBytes readingsIn costsIn costsBy
+  all-costs q us [] e i h cs = refl
+  all-costs q us (c ∷ calls) e i h cs =
+      let x = called q us c e i (cs .0) in
+      ap₂ (λ n ns. n ∷ ns) (x .3) (all-costs ((step a q (c .bytes)) .run) (c .left) calls (x .1)
+      (step-inv s a mains ck q (c .bytes) (h .0) i) (h .1) (cs .1))
+
   -- ---- one of the calls, on a table that was the run q's at first
   module _ (q : Run) (us : List ℤ) (is : us ≡ tableOf q) (i : Sound q) (calls : List Call)
       (h : AllBytes (readingsIn calls)) (cs : Calls s us calls) where
@@ -121,6 +133,7 @@ module _ (s : List ℕ) (a : Agreement) (mains : List ℕ) (ck : checked s ≡ a
       pub number : numberIn one ≡ (step a (runAfter a q (readingsIn before)) (one .bytes)) .number
       pub left : one .left ≡ tableOf ((step a (runAfter a q (readingsIn before)) (one .bytes)) .run)
       pub early : earlyIn one ≡ markOf (cameEarly a (runAfter a q (readingsIn before)) (one .bytes))
+      pub cost : costIn one ≡ costOf a (runAfter a q (readingsIn before)) (one .bytes)
       pub next : Sound ((step a (runAfter a q (readingsIn before)) (one .bytes)) .run)
       pub bytes : AllBytes (readingsIn before) × AllBytes (readingsIn later)
       pub meets : Calls s us before × Calls s (one .left) later
@@ -145,6 +158,7 @@ module _ (s : List ℕ) (a : Agreement) (mains : List ℕ) (ck : checked s ≡ a
           number = x .0;
           left = x .1;
           early = x .2;
+          cost = x .3;
           next = step-inv s a mains ck run (one .bytes) (bs .1 .0) i′;
           bytes = (bs .0, bs .1 .1);
           meets = (two .0, two .1 .1);

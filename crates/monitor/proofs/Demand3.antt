@@ -19,6 +19,8 @@ use Rattle.csl.specs.Run.{started}
 use Rattle.csl.specs.Table.{Run, runOf, tableOf}
 use Rattle.csl.specs.Entries.{startOf}
 use Rattle.csl.specs.Demand3.{AllBytes, Bytes}
+use Rattle.soundness.proofs.Checked.{passed}
+use Rattle.soundness.proofs.CostBound.{run-cost}
 use Rattle.soundness.proofs.Runs.{CaseOf, case-of, not-stuck, start-is, table-typed, written-number, written-zero}
 use Rattle.soundness.proofs.Demand3.{after-inv, moved-cell, start-inv, start-moved, start-unbreached, step-eleven}
 use Rattle.soundness.proofs.Demand3.{step-final, step-moves, step-refused, step-shows, step-stays, step-taken}
@@ -33,7 +35,7 @@ use Rattle.monitor.specs.declared.Started.the-variants.{Begun, Refused}
 use Rattle.monitor.specs.Answers.{numberOf, startAnswer}
 use Rattle.monitor.specs.Calls.{Call, Calls, readingsIn}
 use Rattle.monitor.specs.Demand3.{Begins, Demand3, IsStarted, Upheld, runBy}
-use Rattle.monitor.proofs.Calls.{Found, Sound, all-marks, all-numbers, found, inv-at, last-table}
+use Rattle.monitor.proofs.Calls.{Found, Sound, all-costs, all-marks, all-numbers, found, inv-at, last-table}
 use Rattle.monitor.proofs.Early.{early-is, unaltered-in}
 
 -- a refusal's number is not 0
@@ -135,6 +137,18 @@ module _ (s : List ℕ) (lent : List ℤ) (a : Agreement) (mains : List ℕ) (st
           marks = all-marks s a mains ck run us calls us-is run-inv hr cs;
           early = λ before one later e. let f = at-call before one later e .0 in
               early-is a (runBy a before) _ one (f .table) (f .number) (f .left) (f .early);
+          costs = all-costs s a mains ck run us calls us-is run-inv hr cs;
+          eachUnit = λ before one later e. omega (
+            arith,
+            at-call before one later e .0 .cost,
+            run-cost s a mains (passed s a mains ck) (runBy a before) (one .bytes),
+          );
+          atMost = λ before one later e. let f = at-call before one later e .0 in omega (
+            arith,
+            f .cost,
+            f .inv .small,
+            run-cost s a mains (passed s a mains ck) (runBy a before) (one .bytes),
+          );
           breached = λ before one later e. step-shows s a mains ck (runBy a before) (one .bytes)
               ((at-call before one later e) .0 .inv);
           unbreached = start-unbreached s a mains ck;

@@ -19,7 +19,7 @@ use Rattle.csl.specs.Outcomes.{Residue, running}
 use Rattle.csl.specs.Rules.{Reading}
 use Rattle.csl.specs.Run.{Fit, Stepped, fit, fitOf, followed, step, unfit}
 use Rattle.csl.specs.Table.{Run, headCells, natCells, padded, runOf, tableOf}
-use Rattle.csl.specs.Entries.{marked, readingOf}
+use Rattle.csl.specs.Entries.{answered, readingOf}
 use Rattle.csl.specs.Early.{cameEarly, markOf}
 use Rattle.csl.specs.Demand3.{Unaltered, fitting}
 use Rattle.laws.proofs.Clash.{impossible}
@@ -28,7 +28,7 @@ use Rattle.soundness.proofs.Runs.{fit-cases, isFair, runAt, stepped}
 use Rattle.soundness.proofs.ReadBack.{runOf-good, table-back}
 use Rattle.soundness.proofs.Moved.{altered-not, unaltered-is}
 use Rattle.soundness.proofs.Early.{IsEarly, came-early}
-use Rattle.bridge.proofs.Refusals.{from-check, reading-refused, reading-seven, reading-six}
+use Rattle.bridge.proofs.Refusals.{from-check, reading-refused, reading-seven, reading-six, unread}
 use Rattle.monitor.specs.declared.Taken.{Taken}
 use Rattle.monitor.specs.declared.Taken.the-variants.{Accepted, Refused}
 use Rattle.monitor.specs.Answers.{takenAnswer}
@@ -67,7 +67,7 @@ says-fit a q bytes d e z = fit-cases a (q .lastTime) bytes
     by x = elim x [ unfit n ↦ stepped n q | fit d ↦ followed a q d ]
 
 -- the state cell of a running run's table
-running-cell : (q : Run) (res : Residue) → q .outcome ≡ running res → at (tableOf q) 0 ≡ some (pos 1)
+pub running-cell : (q : Run) (res : Residue) → q .outcome ≡ running res → at (tableOf q) 0 ≡ some (pos 1)
 unfolding tableOf padded headCells natCells at
 running-cell q res e = ap (λ o. at (tableOf (runAt (q .lastTime) (q .lastMoved) o)) 0) e
 
@@ -107,9 +107,9 @@ module _ (a : Agreement) (q : Run) (us : List ℤ) (one : Call) (table : us ≡ 
 -- a mark is 1 or 0
 either : (r : Taken) (us : List ℤ) → ((takenAnswer r us) .early ≡ 1) ⊎ ((takenAnswer r us) .early ≡ 0)
 unfolding markOf
-either (Accepted true) us = inl refl
-either (Accepted false) us = inr refl
-either (Refused w) us = inr refl
+either (Accepted true cost) us = inl refl
+either (Accepted false cost) us = inr refl
+either (Refused w cost) us = inr refl
 
 module _ (s : List ℕ) (us : List ℤ) (one : Call)
     (meets : takenAnswer (one .answer) (one .left) ≡ readingOf s us (one .bytes)) where
@@ -122,13 +122,13 @@ module _ (s : List ℕ) (us : List ℤ) (one : Call)
       early-is a q us one is (x .0) (x .1) (x .2)
 
   -- a refusal's mark is 0
-  unmarked : (n : ℕ) {C : Type 0} → readingOf s us (one .bytes) ≡ record { number = n; early = 0; table = us }
+  unmarked : (n : ℕ) {C : Type 0} → readingOf s us (one .bytes) ≡ unread n us
       → earlyIn one ≡ 1 → C
-  unfolding earlyIn
+  unfolding earlyIn answered
   unmarked n e h = let z : _≡_ {A = ℕ} 0 1 = sym (ap (λ x. x .early) (meets ∙ e)) ∙ h in absurd (omega arith)
 
   to : earlyIn one ≡ 1 → CameEarly s us one
-  unfolding marked
+  unfolding answered
   to h = from-check s
       (λ n pos ck _. unmarked n (reading-refused us s n ck (one .bytes)) h)
       (λ mains ck _. by-length mains ck (eqb (length us) 3080) refl)
@@ -152,7 +152,7 @@ module _ (s : List ℕ) (us : List ℤ) (one : Call)
           unmarked 6 (reading-six us s (agreementOf s) mains ck (eqb-false (length us) 3080 e) (one .bytes)) h
 
   from : CameEarly s us one → earlyIn one ≡ 1
-  unfolding marked numberIn
+  unfolding answered numberIn
   from x = by-length (eqb (length us) 3080) refl
     where
       by-length : (b : Bool) → eqb (length us) 3080 ≡ b → earlyIn one ≡ 1

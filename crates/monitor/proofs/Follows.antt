@@ -3,7 +3,7 @@ use mathlib.Core.Path.{_≡_, refl, sym, ap, ap₂, subst, _∙_}
 use mathlib.Core.Bool.{Bool, true, false, cond, not, _&&_}
 use mathlib.Core.List.{List, [], _∷_, _++_}
 use mathlib.Core.Option.{none, some}
-use Prim.Native.Nat.{ℕ, _*_, _≤_, _<_}
+use Prim.Native.Nat.{ℕ, _*_, _≤_, _<_, min}
 use native.Mathlib.Omega.{arith}
 use borrow.Author.Tests.{ltb-true, ltb-false}
 use mir.Syntax.{w64}
@@ -23,8 +23,11 @@ use Rattle.csl.specs.Table as csl
 use Rattle.csl.specs.Run.{rawReading}
 use Rattle.csl.specs.Table.{tableOf, tableLength, padded, headCells, natCells, cellsOf}
 use Rattle.csl.specs.Early.{markOf}
-use Rattle.csl.specs.Entries.{marked, readingOf}
+use Rattle.csl.specs.Cost.{total}
+use Rattle.csl.specs.Entries.{answered, readingOf}
 use Rattle.csl.specs.Demand3.{fitting}
+use Rattle.soundness.proofs.Checked.{passed}
+use Rattle.soundness.proofs.CostBound.{cost-of-units}
 use Rattle.soundness.proofs.Readings.{reading-ok}
 use Rattle.soundness.proofs.Runs.{isFair, runAt}
 use Rattle.soundness.proofs.ReadBack.{table-back}
@@ -34,7 +37,7 @@ use Rattle.cells.specs.Across.{someOpenLater}
 use Rattle.csl.specs.Check.{mainsOf}
 use Rattle.laws.proofs.Bools.{by-test}
 use Rattle.laws.proofs.Integers.{pos-inj}
-use Rattle.bridge.proofs.Across.{follow-across, sightsOf}
+use Rattle.bridge.proofs.Across.{follow-across, follow-costs, sightsOf}
 use Rattle.bridge.proofs.Moved.{idle-units}
 use Rattle.bridge.proofs.Tables.{unitsIn}
 use Rattle.bridge.proofs.Refusals.{answer}
@@ -45,7 +48,8 @@ use Rattle.readings.specs.Taking.{TakenIs, UntypedRead, FittingRead}
 use Rattle.readings.specs.declared.Taken.{Taken as Fitting}
 use Rattle.readings.specs.declared.Taken.the-variants.{Malformed, Untyped, Fits}
 use Rattle.waits.specs.Fates.{modeAt}
-use Rattle.walk.specs.Tree.{Tree, treeReduced}
+use Rattle.residues.specs.Tallies.{mostCounted}
+use Rattle.walk.specs.Tree.{Tree, treeReckoned}
 use Rattle.waits.specs.declared.Event.{Event}
 use Rattle.waits.specs.declared.Step.the-variants.{Follow}
 use Rattle.walk.proofs.Trees.{tree-only}
@@ -57,9 +61,9 @@ use Rattle.monitor.specs.declared.Taken.the-variants.{Accepted as accept
 use Rattle.monitor.specs.declared.Run.{Run}
 use Rattle.monitor.specs.declared.Run.the-variants.{Running, Fulfilled, Breached}
 use Rattle.monitor.specs.Answers.{takenAnswer}
-use Rattle.reduction.specs.Steps.{mainReduced, UnitsDue, DueBy, Due, reducedBy, reduced}
+use Rattle.reduction.specs.Steps.{mainReckoned, UnitsDue, DueBy, Due, reckonedBy, reckoned, reduced}
 use Rattle.monitor.specs.Steps.{ShowsRun, Opened}
-use Rattle.reduction.specs.Steps.{advanced, Advances}
+use Rattle.reduction.specs.Steps.{advanced, costIn, Advances}
 use Rattle.reduction.specs.declared.Advanced.{Advanced}
 use Rattle.reduction.specs.declared.Advanced.the-variants.{TooMany, Wrote}
 use Rattle.monitor.specs.Steps.{Fitted, SomeReading, ReadAs, Judged}
@@ -156,10 +160,11 @@ module _ {s places : List ℕ} {us : List ℤ} {sights : List ℕ} {n : ℕ} (o 
   module _ {bytes : List ℕ} {e : Event} {rs : List ℤ} (f : Fitted s bytes us e rs) where
     -- what the rules on cells give for a reading
     record Given : Type 0 where
-      given : cells.Reduced
+      given : cells.Reckoned
       is : table.across (modeAt e rs) s n sights (drop 8 us) ≡ given ∷ []
-      reads : readingOf s us bytes ≡ marked (markOf (earlyCells n us given (later e rs)))
-          (keptCells (e .time) n us given)
+      reads : readingOf s us bytes ≡ answered (markOf (earlyCells n us (given .outcome) (later e rs)))
+          (total (given .tally)) (keptCells (e .time) n us (given .outcome))
+      small : total (given .tally) ≤ mostCounted
       marks : e .tag ≡ 0 → later e rs ≡ false
 
     following : Given
@@ -167,8 +172,9 @@ module _ {s places : List ℕ} {us : List ℤ} {sights : List ℕ} {n : ℕ} (o 
         let d = f .reading in
         let more = drop (2 * units res) sights in
         let le = in-order o f (o .shows .shows) in
+        let rok = (reading-ok (ag o) (f .raw) d (f .typed)) .0 in
         let w = follow-across s (mainsOf s) (isFair s (ag o) (mainsOf s) (ck o)) (founds s (mainsOf s) (ck o)) now
-        moved res us (o .isTable) (o .shows .shows .is) more d ((reading-ok (ag o) (f .raw) d (f .typed)) .0) le in
+        moved res us (o .isTable) (o .shows .shows .is) more d rok in
         let seen = sighted s (mainsOf s) (ck o) now moved res us (o .isTable) (o .shows .shows .is) sights
         residue-sights in
         let same : someOpenLater (d .time) (d .type) (cellsOf (d .values)) s (units res) (sightsOf (ag o) res ++ more)
@@ -184,25 +190,42 @@ module _ {s places : List ℕ} {us : List ℤ} {sights : List ℕ} {n : ℕ} (o 
               (drop 8 us)) (o .shows .count) seen ∙ w .only;
           reads = reading-running s (mainsOf s) (ck o) us (o .isTable) now moved bytes d (fits-as f) le
               (founds s (mainsOf s) (ck o)) res more (w .given) (o .shows .shows .is) (w .only)
-              ∙ ap (λ b. marked (markOf (earlyCells (units res) us (w .given) b)) (keptCells (d .time) (units res) us
-              (w .given))) same
-              ∙ ap₂ (λ t k. marked (markOf (earlyCells k us (w .given) (later e rs))) (keptCells t k us (w .given)))
-              (sym (f .time)) (sym (o .shows .count));
+              ∙ ap (λ b. answered (markOf (earlyCells (units res) us (w .given .outcome) b)) (total (w .given .tally))
+              (keptCells (d .time) (units res) us (w .given .outcome))) same
+              ∙ ap₂ (λ t k. answered (markOf (earlyCells k us (w .given .outcome) (later e rs)))
+              (total (w .given .tally)) (keptCells t k us (w .given .outcome))) (sym (f .time)) (sym (o .shows .count));
+          small = omega (
+            arith,
+            follow-costs s (mainsOf s) (isFair s (ag o) (mainsOf s) (ck o)) (founds s (mainsOf s) (ck o)) now moved res
+                us (o .isTable) (o .shows .shows .is) more d rok,
+            cost-of-units s (ag o) (mainsOf s) (passed s (ag o) (mainsOf s) (ck o)) d res,
+            o .shows .count,
+            o .shows .few,
+          );
           marks = λ z. sym same ∙ marks-later s (mainsOf s) (ck o) us (o .isTable) now moved bytes d (fits-as f) le
               (founds s (mainsOf s) (ck o)) res more (o .shows .shows .is) (sym (f .type) ∙ z);
         }
 
-    follows-as : reduced s sights us n e rs ≡ following .given
-    unfolding reduced
-    follows-as = ap (λ k. reducedBy k (mainReduced s) (treeReduced (modeAt e rs) s n sights (drop 8 us))) (f .follows)
-        ∙ tree-only (following .is)
+    follows-as : reckoned s sights us n e rs ≡ following .given
+    unfolding reckoned
+    follows-as = ap (λ k. reckonedBy k (mainReckoned s) (treeReckoned (modeAt e rs) s n sights (drop 8 us)))
+        (f .follows) ∙ tree-only (following .is)
+
+    -- no cost is so great that it is not counted whole
+    costs-as : {r : Advanced} {left : List ℤ} → Advances s sights us n e rs left r
+        → costIn r ≡ total (following .given .tally)
+    costs-as a = a .costs ∙ ap (λ x. min (total (x .tally)) mostCounted) follows-as
+        ∙ (let z : min (total (following .given .tally)) mostCounted ≡ total (following .given .tally) = omega
+        (arith, following .small) in z)
 
     -- the mark is the one judged on cells
     reads-as : {r : Advanced} {left : List ℤ} → Advances s sights us n e rs left r
-        → marked (markOf (earlyCells n us (reduced s sights us n e rs) (later e rs))) (advanced r left)
+        → answered (markOf (earlyCells n us (reduced s sights us n e rs) (later e rs))) (costIn r) (advanced r left)
         ≡ readingOf s us bytes
-    reads-as a = ap₂ (λ x y. marked (markOf (earlyCells n us x (later e rs))) y) follows-as
-        (a .is ∙ ap (keptCells (e .time) n us) follows-as) ∙ sym (following .reads)
+    reads-as {r = r} a = ap₂ (λ x y. answered (markOf (earlyCells n us (x .outcome) (later e rs))) (costIn r) y)
+        follows-as (a .is ∙ ap (λ x. keptCells (e .time) n us (x .outcome)) follows-as)
+        ∙ ap (λ c. answered (markOf (earlyCells n us (following .given .outcome) (later e rs))) c
+        (keptCells (e .time) n us (following .given .outcome))) (costs-as a) ∙ sym (following .reads)
 
   module _ {e : Event} {rs : List ℤ} where
     pub follow-due : SomeReading s us e rs → Due s places sights us n e rs
@@ -210,7 +233,7 @@ module _ {s places : List ℕ} {us : List ℤ} {sights : List ℕ} {n : ℕ} (o 
         let f = r .1 in
         let all : UnitsDue s sights us n e rs = record {
           tree = units-ready;
-          outcome = following f .given;
+          given = following f .given;
           one = following f .is;
         } in
         record {
@@ -224,15 +247,15 @@ module _ {s places : List ℕ} {us : List ℤ} {sights : List ℕ} {n : ℕ} (o 
         }
 
     module _ {r : Advanced} {left : List ℤ} (a : Advances s sights us n e rs left r) where
-      pub follow-no : r ≡ TooMany → ReadAs s us e rs (refusedReading tooManyUnits) left
-      unfolding marked
+      pub follow-no : {cost : ℕ} → r ≡ TooMany cost → ReadAs s us e rs (refusedReading tooManyUnits cost) left
+      unfolding answered
       follow-no q = record {
-        is = λ bytes f. ap₂ (λ m r. marked m (advanced r left))
+        is = λ bytes f. ap₂ (λ m r. answered m (costIn r) (advanced r left))
             (sym (early-over (e .time) n us (reduced s sights us n e rs) (later e rs)
             (ap (λ r. advanced r left) (sym q) ∙ a .is))) (sym q) ∙ reads-as f a;
       }
 
-      module _ {altered : Bool} (q : r ≡ Wrote altered) where
+      module _ {altered : Bool} {cost : ℕ} (q : r ≡ Wrote altered cost) where
         wrote : answer 0 left ≡ keptCells (e .time) n us (reduced s sights us n e rs)
         wrote = ap (λ r. advanced r left) (sym q) ∙ a .is
 
@@ -262,10 +285,10 @@ module _ {s places : List ℕ} {us : List ℤ} {sights : List ℕ} {n : ℕ} (o 
 
         pub follow-yes : {early : Bool}
             → early ≡ (not altered && someOpenLater (e .time) (e .tag) rs s n sights (drop 8 left))
-            → ReadAs s us e rs (acceptedReading early) left
-        unfolding marked
+            → ReadAs s us e rs (acceptedReading early cost) left
+        unfolding answered
         follow-yes {early} h = record {
-          is = λ bytes f. ap₂ (λ b r. marked (markOf b) (advanced r left))
+          is = λ bytes f. ap₂ (λ b r. answered (markOf b) (costIn r) (advanced r left))
               (h ∙ judged-as altered (λ g. ap (λ cs. someOpenLater (e .time) (e .tag) rs s n sights cs) (same-units g))
               ∙ ap (λ b. not b && later e rs) told
               ∙ early-within (e .time) n us (reduced s sights us n e rs) (later e rs) wrote) (sym q) ∙ reads-as f a;
@@ -274,8 +297,8 @@ module _ {s places : List ℕ} {us : List ℤ} {sights : List ℕ} {n : ℕ} (o 
 -- ---- a breached run, and a fulfilled one
 module _ {s places : List ℕ} {us : List ℤ} {sights : List ℕ} {e : Event} {rs : List ℤ} where
   pub read-breached : {t : ℤ} {b : ℕ} → Opened s places us sights (Breached t b)
-      → ReadAs s us e rs (acceptedReading false) us
-  unfolding marked markOf
+      → ReadAs s us e rs (acceptedReading false 0) us
+  unfolding answered markOf
   read-breached o =
       let b = o .shows in
       record {
@@ -285,14 +308,14 @@ module _ {s places : List ℕ} {us : List ℤ} {sights : List ℕ} {e : Event} {
       }
 
   pub read-done : Opened s places us sights Fulfilled
-      → ReadAs s us e rs (acceptedReading false) (set us 1 (toZ w64 (e .time)))
-  unfolding marked markOf
+      → ReadAs s us e rs (acceptedReading false 0) (set us 1 (toZ w64 (e .time)))
+  unfolding answered markOf
   read-done o =
       let r = o .shows in
       let back = sym (table-back (ag o) (mainsOf s) us (runAt (r .now) (r .moved) done) (r .is) (o .isTable)) in
       record {
         is = λ bytes f.
-            ap (λ cells. marked 0 (answer 0 cells))
+            ap (λ cells. answered 0 0 (answer 0 cells))
             (ap (set us 1) (toZ-pos w64 (e .time) (omega (arith, f .fits)) ∙ ap pos (f .time))
             ∙ retimed us (r .now) (r .moved) (f .reading .time) back)
             ∙ sym (reading-done s (mainsOf s) (ck o) us (o .isTable) (r .now) (r .moved) bytes (f .reading)
@@ -316,14 +339,14 @@ module _ {s places : List ℕ} {us : List ℤ} {sights : List ℕ} {r : Run} (o 
   abbrev shown : SomeRun s us
   shown = some-run s us sights r (o .shows)
 
-  pub read-eight : t ≡ Malformed → takenAnswer (refusedReading ReadingForm) us ≡ readingOf s us bytes
-  unfolding marked
+  pub read-eight : t ≡ Malformed → takenAnswer (refusedReading ReadingForm 0) us ≡ readingOf s us bytes
+  unfolding answered
   read-eight g =
       let f : rawReading bytes ≡ none = rw g at h in
       sym (reading-eight s (mainsOf s) (ck o) us (o .isTable) (shown .run) (shown .is) bytes f)
 
-  pub read-nine : t ≡ Untyped → takenAnswer (refusedReading ReadingTyping) us ≡ readingOf s us bytes
-  unfolding marked
+  pub read-nine : t ≡ Untyped → takenAnswer (refusedReading ReadingTyping 0) us ≡ readingOf s us bytes
+  unfolding answered
   read-nine g =
       let f : UntypedRead s bytes = rw g at h in
       sym (reading-nine s (mainsOf s) (ck o) us (o .isTable) (shown .run) (shown .is) bytes (f .raw) (f .is)
@@ -346,8 +369,8 @@ module _ {s places : List ℕ} {us : List ℤ} {sights : List ℕ} {r : Run} (o 
     earlier ez eb = eb ∙ ap₂ ltZ (toZ-pos w64 time (omega (arith, read-soon))) (ez ∙ shown .cell)
 
     pub read-ten : {z : ℤ} {b : Bool} → z ≡ getD us 1 (pos 0) → b ≡ ltZ (toZ w64 time) z → b ≡ true
-        → takenAnswer (refusedReading ReadingTime) us ≡ readingOf s us bytes
-    unfolding fitting _>>=_ marked
+        → takenAnswer (refusedReading ReadingTime 0) us ≡ readingOf s us bytes
+    unfolding fitting _>>=_ answered
     read-ten ez eb t =
         let f = fitting-read in
         let fits : fitting (ag o) bytes ≡ some (f .reading) = rw (f .is) (f .typed) in

@@ -24,12 +24,14 @@ use Rattle.csl.specs.Check.{mainsOf}
 use Rattle.bridge.proofs.Across.{forecast-across}
 use Rattle.bridge.proofs.Entries.{foretold, forecast-done, forecast-breach, forecast-running}
 use Rattle.residues.specs.Reduces.{Is}
+use Rattle.residues.specs.Tallies.{Reckons}
+use Rattle.residues.specs.declared.Reckoned.{Reckoned}
 use Rattle.residues.specs.declared.Reduced.{Reduced}
 use Rattle.residues.specs.declared.Reduced.the-variants.{Done, Breach, Running}
 use Rattle.residues.proofs.Reduced.{the-type}
 use Rattle.residues.proofs.Reduces.{is-done, is-breach, is-running}
 use Rattle.walk.proofs.Trees.{tree-only}
-use Rattle.walk.specs.Tree.{Tree, treeReduced}
+use Rattle.walk.specs.Tree.{Tree, treeReckoned}
 use Rattle.monitor.specs.declared.Foretold.the-variants.{Nothing, Breach as breachForetold}
 use Rattle.monitor.specs.declared.Run.the-variants as run
 use Rattle.monitor.specs.Answers.{forecastAnswer}
@@ -51,10 +53,10 @@ module _ {t : ℤ} {u : ℕ} (fits : mag t < 2 ^ 63) (is : t ≡ pos u) where
 module _ {s places : List ℕ} {us : List ℤ} {sights : List ℕ} {n : ℕ}
     (o : Opened s places us sights (run.Running n)) where
   record Given : Type 0 where
-    given : cells.Reduced
+    given : cells.Reckoned
     is : table.across cells.forecasting s n sights (drop 8 us) ≡ given ∷ []
-    answers : forecastOf s us ≡ foretold given
-    ends : (vs : List ℤ) → given ≡ cells.running vs → ⊥
+    answers : forecastOf s us ≡ foretold (given .outcome)
+    ends : (vs : List ℤ) → given .outcome ≡ cells.running vs → ⊥
 
   ahead : Given
   ahead =
@@ -78,27 +80,30 @@ module _ {s places : List ℕ} {us : List ℤ} {sights : List ℕ} {n : ℕ}
   pub ahead-tree : Tree (length s) sights (take (length us - 8) (drop 8 us)) n
   ahead-tree = rw (behind-head us) (units-ready o)
 
-  module _ (r : Reduced) (out : List ℤ)
-      (h : Is (treeReduced cells.forecasting s n sights (take (length us - 8) (drop 8 us))) r out) where
-    is-for : {q : Reduced} → r ≡ q → Is (ahead .given) q out
-    is-for e = subst (λ q. Is (ahead .given) q out) e (subst (λ x. Is x r out)
-        (tree-only (ap (table.across cells.forecasting s n sights) (behind-head us) ∙ ahead .is)) h)
+  module _ (x : Reckoned) (out : List ℤ)
+      (h : Reckons (treeReckoned cells.forecasting s n sights (take (length us - 8) (drop 8 us))) x out) where
+    abbrev r : Reduced
+    r = x .outcome
+
+    is-for : {q : Reduced} → r ≡ q → Is (ahead .given .outcome) q out
+    is-for e = subst (λ q. Is (ahead .given .outcome) q out) e (subst (λ y. Is (y .outcome) r out)
+        (tree-only (ap (table.across cells.forecasting s n sights) (behind-head us) ∙ ahead .is)) (h .outcome))
 
     -- what is no breach is fulfilled, for nothing waits on
     pub ahead-none : (tagOf the-type r ≡ 0) ⊎ (tagOf the-type r ≡ 2) → forecastAnswer Nothing ≡ forecastOf s us
     unfolding foretold
     ahead-none f = go r f (is-for refl)
       where
-        go : (q : Reduced) → (tagOf the-type q ≡ 0) ⊎ (tagOf the-type q ≡ 2) → Is (ahead .given) q out
+        go : (q : Reduced) → (tagOf the-type q ≡ 0) ⊎ (tagOf the-type q ≡ 2) → Is (ahead .given .outcome) q out
             → forecastAnswer Nothing ≡ forecastOf s us
-        go Done f i = sym (ahead .answers ∙ ap foretold (is-done out (ahead .given) i))
+        go Done f i = sym (ahead .answers ∙ ap foretold (is-done out (ahead .given .outcome) i))
         go (Breach t b) (inl e) i = absurd (omega arith)
         go (Breach t b) (inr e) i = absurd (omega arith)
-        go (Running n) f i = let g = is-running out (ahead .given) i in absurd (ahead .ends (g .0) (g .1))
+        go (Running n) f i = let g = is-running out (ahead .given .outcome) i in absurd (ahead .ends (g .0) (g .1))
 
     module _ {t : ℤ} {b : ℕ} (fits : mag t < 2 ^ 63) (e : r ≡ Breach t b) where
-      dated : (u : ℕ) × (ahead .given ≡ cells.breach u b) × (t ≡ pos u)
-      dated = is-breach out (ahead .given) (is-for e)
+      dated : (u : ℕ) × (ahead .given .outcome ≡ cells.breach u b) × (t ≡ pos u)
+      dated = is-breach out (ahead .given .outcome) (is-for e)
 
       pub ahead-time : pos 0 ≤ℤ seen t
       ahead-time = not-below fits (dated .2)

@@ -5,6 +5,7 @@ pub mod Follows
 pub mod Foretells
 pub mod Calls
 pub mod Early
+pub mod Cost
 pub mod Demand3
 pub mod Forecasts
 pub mod Apart

@@ -11,7 +11,7 @@ use Rattle.csl.specs.Decode.{agreementOf}
 use Rattle.csl.specs.Check.{checked, accepted}
 use Rattle.csl.specs.Table.{tableLength}
 use Rattle.records.specs.Index.{Indexed}
-use Rattle.csl.specs.Entries.{marked}
+use Rattle.csl.specs.Entries.{answered}
 use Rattle.csl.specs.Check.{Accepted as isAccepted, mainsOf, mainsIn}
 use Rattle.bridge.proofs.Refusals.{start-refused, reading-refused, forecast-refused, start-six, reading-six}
 use Rattle.bridge.proofs.Refusals.{forecast-six, reading-seven, forecast-seven}
@@ -43,7 +43,7 @@ main-parties g = g .isParties ∙ ap bitsOf (sym (mains-same g))
 -- ---- 1 to 6
 module _ (s places : List ℕ) (us : List ℤ) {c : Checked} (v : Verified s places c) where
   pub admit-no : {r : Refusal} → c ≡ Refused r → Admitted s places us c
-  unfolding marked
+  unfolding answered
   admit-no {r = r} e =
       let w : Verified s places (Refused r) = subst (Verified s places) e v in
       let n = numberOf r in
@@ -61,7 +61,7 @@ module _ (s places : List ℕ) (us : List ℤ) {c : Checked} (v : Verified s pla
     goes = subst (Verified s places) e v
 
     pub admit-six : (length us ≡ tableLength → ⊥) → Admitted s places us (Refused TableLength)
-    unfolding marked
+    unfolding answered
     admit-six h = (
       sym (start-six us s (agreementOf s) (goes .mains) (goes .isAccepted) h),
       record {
@@ -99,7 +99,7 @@ module _ (s places : List ℕ) (us : List ℤ) {c : Checked} (a : Admitted s pla
       shown q f = subst (Shows (runIn s us) us sights) f v
 
       pub open-damaged : st ≡ Damaged → Refuses s us TableContent
-      unfolding Shows marked
+      unfolding Shows answered
       open-damaged f =
           let ck = accepts (admitted-yes .0) in
           let l = admitted-yes .1 in

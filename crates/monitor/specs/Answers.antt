@@ -44,10 +44,11 @@ abbrev pub startAnswer : Started → List ℤ → Answer
 startAnswer Begun table = record { number = 0; table = table }
 startAnswer (refusedStart r) table = record { number = numberOf r; table = table }
 
--- a reading; paper 02, No. 8: with the mark "early"
+-- a reading; paper 02, Nos. 8 and 9: with the mark "early", and what it costs
 abbrev pub takenAnswer : Taken → List ℤ → ReadingAnswer
-takenAnswer (acceptedReading early) table = record { number = 0; early = markOf early; table = table }
-takenAnswer (refusedReading r) table = record { number = numberOf r; early = 0; table = table }
+takenAnswer (acceptedReading early cost) table =
+    record { number = 0; early = markOf early; cost = cost; table = table }
+takenAnswer (refusedReading r cost) table = record { number = numberOf r; early = 0; cost = cost; table = table }
 
 abbrev pub forecastAnswer : Foretold → entries.Forecast
 forecastAnswer Nothing = entries.noBreach

@@ -42,3 +42,11 @@ earlyIn c = (takenAnswer (c .answer) (c .left)) .early
 unfoldable pub marksIn : List Call → List ℕ
 marksIn [] = []
 marksIn (c ∷ cs) = earlyIn c ∷ marksIn cs
+
+-- and what the readings cost
+unfoldable pub costIn : Call → ℕ
+costIn c = (takenAnswer (c .answer) (c .left)) .cost
+
+unfoldable pub costsIn : List Call → List ℕ
+costsIn [] = []
+costsIn (c ∷ cs) = costIn c ∷ costsIn cs

@@ -7,7 +7,7 @@ use mathlib.Core.Path.{_≡_}
 use mathlib.Core.Logic.{_≢_, _↔_}
 use mathlib.Core.List.{List, [], _∷_, _++_}
 use mathlib.Core.Option.{some}
-use Prim.Native.Nat.{ℕ, _≤_, _<_}
+use Prim.Native.Nat.{ℕ, _*_, _≤_, _<_}
 use lib.Dec.{T}
 use lib.IntN.{ℤ, pos}
 use lib.ListN.{length}
@@ -21,13 +21,13 @@ use Rattle.csl.specs.Run.{started, step}
 use Rattle.csl.specs.Table.{Run, tableLength, tableOf, runOf}
 use Rattle.csl.specs.Entries.{startOf}
 use Rattle.csl.specs.Demand3.{Bytes, AllBytes, fitting, reached, needed, NotStuck, IsBreach, Unaltered, runAfter}
-use Rattle.csl.specs.Demand3.{numbersBy, marksBy}
+use Rattle.csl.specs.Demand3.{numbersBy, marksBy, costsBy}
 use Rattle.csl.specs.Marks.{timeIn}
 use Rattle.monitor.specs.declared.Started.{Started}
 use Rattle.monitor.specs.declared.Started.the-variants.{Begun}
 use Rattle.monitor.specs.Answers.{startAnswer}
 use Rattle.monitor.specs.Calls.{Call, Calls, lastTable, readingsIn, numberIn, numbersIn, earlyIn}
-use Rattle.monitor.specs.Calls.{marksIn}
+use Rattle.monitor.specs.Calls.{marksIn, costIn, costsIn}
 use Rattle.monitor.specs.Early.{TooEarly}
 
 -- "A run is fed the agreement and the readings' bytes, nothing from a table."
@@ -76,6 +76,13 @@ pub record Upheld (a : Agreement) (mains : List ℕ) (r : Started) (us : List �
   -- one waiting unit wants this type, finds `where` true, and has a first later than the reading."
   pub early : (before : List Call) (one : Call) (later : List Call) → calls ≡ before ++ (one ∷ later)
       → (earlyIn one ≡ 1) ↔ TooEarly a (runBy a before) (lastTable us before) one
+  -- paper 02, No. 9: each answer carries what the reading costs on the run
+  pub costs : costsIn calls ≡ costsBy a ((started a) .run) (readingsIn calls)
+  -- "It is at most 65,792 for each unit read, so at most 8,421,376 a reading."
+  pub eachUnit : (before : List Call) (one : Call) (later : List Call) → calls ≡ before ++ (one ∷ later)
+      → costIn one ≤ 65_792 * needed (runBy a before .outcome)
+  pub atMost : (before : List Call) (one : Call) (later : List Call) → calls ≡ before ++ (one ∷ later)
+      → costIn one ≤ 8_421_376
   -- "a breach names only parties that can be blamed, at a time from the start to the reading that showed it", here
   -- `one`
   pub breached : (before : List Call) (one : Call) (later : List Call) → calls ≡ before ++ (one ∷ later)

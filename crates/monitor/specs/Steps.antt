@@ -56,7 +56,7 @@ Verified s places (Refused r) = checked s ≡ check.refused (numberOf r)
 
 -- a reading and a forecast are refused with r
 pub record Refuses (s : List ℕ) (us : List ℤ) (r : Refusal) : Type 0 where
-  pub reading : (bytes : List ℕ) → takenAnswer (refusedReading r) us ≡ readingOf s us bytes
+  pub reading : (bytes : List ℕ) → takenAnswer (refusedReading r 0) us ≡ readingOf s us bytes
   pub forecast : forecastAnswer (refusedForecast r) ≡ forecastOf s us
 
 -- 1 to 6

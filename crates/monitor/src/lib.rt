@@ -66,10 +66,11 @@ pub enum Started {
     Refused(Refusal),
 }
 
-// `early` says that the reading came too early: nothing altered, and some unit waits for it and opens later.
+// `early` says that the reading came too early: nothing altered, and some unit waits for it and opens later. `cost` is
+// what the reading cost, which of the refusals only `Units` has.
 pub enum Taken {
-    Accepted { early: bool },
-    Refused(Refusal),
+    Accepted { early: bool, cost: usize },
+    Refused { why: Refusal, cost: usize },
 }
 
 // No breach ahead, or when and by whom, by bit.
@@ -170,8 +171,11 @@ fn begin(agreement: &[u8], places: &[usize], table: &mut [i64]) -> Started
         tag: 0,
     };
     match advance(agreement, places, &sights, table, 0, event, &none) {
-        Advanced::TooMany => Started::Refused(Refusal::Units),
-        Advanced::Wrote { altered: _ } => Started::Begun,
+        Advanced::TooMany { cost: _ } => Started::Refused(Refusal::Units),
+        Advanced::Wrote {
+            altered: _,
+            cost: _,
+        } => Started::Begun,
     }
 }
 
@@ -228,21 +232,30 @@ fn step(
     match run {
         Run::Running(used) => {
             match advance(agreement, places, sights, table, used, event, rs) {
-                Advanced::TooMany => Taken::Refused(Refusal::Units),
-                Advanced::Wrote { altered } => {
+                Advanced::TooMany { cost } => Taken::Refused {
+                    why: Refusal::Units,
+                    cost,
+                },
+                Advanced::Wrote { altered, cost } => {
                     let early = came_early(agreement, sights, table, used, event, rs, altered);
-                    Taken::Accepted { early }
+                    Taken::Accepted { early, cost }
                 }
             }
         }
         Run::Fulfilled => {
             table[LAST_TIME] = event.time as i64;
-            Taken::Accepted { early: false }
+            Taken::Accepted {
+                early: false,
+                cost: 0,
+            }
         }
         Run::Breached {
             time: _,
             parties: _,
-        } => Taken::Accepted { early: false },
+        } => Taken::Accepted {
+            early: false,
+            cost: 0,
+        },
     }
 }
 
@@ -260,12 +273,21 @@ fn read_on(
 {
     let mut values = [0i64; VALUES];
     match readings::take(agreement, places, reading, &mut values) {
-        Fitting::Malformed => Taken::Refused(Refusal::ReadingForm),
-        Fitting::Untyped => Taken::Refused(Refusal::ReadingTyping),
+        Fitting::Malformed => Taken::Refused {
+            why: Refusal::ReadingForm,
+            cost: 0,
+        },
+        Fitting::Untyped => Taken::Refused {
+            why: Refusal::ReadingTyping,
+            cost: 0,
+        },
         Fitting::Fits { time, tag, count } => {
             let last = table[LAST_TIME];
             if less(time as i64, last) {
-                return Taken::Refused(Refusal::ReadingTime);
+                return Taken::Refused {
+                    why: Refusal::ReadingTime,
+                    cost: 0,
+                };
             }
             let event = Event {
                 step: Step::Follow,
@@ -285,7 +307,7 @@ pub fn reading(agreement: &[u8], table: &mut [i64], reading: &[u8]) -> Taken
     let mut places = [0usize; PLACES];
     let mut sights = [0usize; SIGHTS];
     match open_run(agreement, table, &mut places, &mut sights) {
-        Opening::Refused(why) => Taken::Refused(why),
+        Opening::Refused(why) => Taken::Refused { why, cost: 0 },
         Opening::Shows(run) => read_on(agreement, &places, &sights, run, table, reading),
     }
 }
@@ -319,7 +341,7 @@ fn breach_ahead(
         tag: 0,
     };
     let units = &table[HEAD_CELLS..];
-    let Reduced::Breach { at: due, by: by } = across(
+    let ahead = across(
         agreement,
         places,
         event,
@@ -328,7 +350,9 @@ fn breach_ahead(
         units,
         used,
         &mut out,
-    ) else {
+    );
+    let outcome = ahead.outcome;
+    let Reduced::Breach { at: due, by: by } = outcome else {
         return Foretold::Nothing;
     };
     let time = minutes(due);

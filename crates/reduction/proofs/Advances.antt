@@ -19,19 +19,21 @@ use Rattle.bridge.proofs.Tables.{unitsIn}
 use Rattle.bridge.proofs.Refusals.{answer}
 use Rattle.bridge.proofs.Entries.{keptCells}
 use Rattle.residues.specs.Reduces.{Is, unitsOf, bitsIn}
+use Rattle.residues.specs.Tallies.{Reckons}
 use Rattle.waits.specs.Fates.{modeAt}
-use Rattle.walk.specs.Tree.{Tree, treeReduced}
+use Rattle.walk.specs.Tree.{Tree, treeReckoned}
 use Rattle.settling.specs.Settles.{Settles}
 use Rattle.waits.specs.declared.Event.{Event}
 use Rattle.waits.specs.declared.Step.{Step}
 use Rattle.waits.specs.declared.Step.the-variants.{Activate, Forecast, Follow}
 use Rattle.residues.specs.declared.Reduced.{Reduced}
+use Rattle.residues.specs.declared.Reckoned.{Reckoned}
 use Rattle.residues.specs.declared.Reduced.the-variants.{Done, Breach, Running}
 use Rattle.waits.proofs.Step.{the-type}
 use Rattle.residues.proofs.Few.{reduce-few, outcome-few, answer-few}
 use Rattle.walk.proofs.Trees.{tree-only}
-use Rattle.reduction.specs.Steps.{mainReduced, UnitsDue, DueBy, Due, reducedBy, reduced, Advances, NoRoom}
-use Rattle.reduction.specs.Steps.{Tried}
+use Rattle.reduction.specs.Steps.{mainReckoned, UnitsDue, DueBy, Due, reckonedBy, reckoned, reduced, countedCost}
+use Rattle.reduction.specs.Steps.{Advances, NoRoom, Tried}
 use Rattle.reduction.specs.declared.Advanced.{Advanced}
 use Rattle.reduction.specs.declared.Advanced.the-variants.{TooMany, Wrote}
 use Rattle.reduction.specs.declared.Attempt.{Attempt}
@@ -86,7 +88,7 @@ no-units : OnUnits Activate → ⊥
 no-units (inl e) = omega arith
 no-units (inr e) = omega arith
 
-by-units : (k : Step) (main units : cells.Reduced) → OnUnits k → reducedBy k main units ≡ units
+by-units : (k : Step) (main units : cells.Reckoned) → OnUnits k → reckonedBy k main units ≡ units
 by-units Activate main units f = absurd (no-units f)
 by-units Forecast main units f = refl
 by-units Follow main units f = refl
@@ -101,30 +103,33 @@ module _ {s places sights : List ℕ} {us : List ℤ} {n : ℕ} {e : Event} {rs 
   pub units-due : OnUnits (e .step) → Tree (length s) sights (take (length us - 8) (drop 8 us)) n
   units-due f = let u = due-by (e .step) (UnitsDue s sights us n e rs) f (d .units) in rw (behind-head us) (u .tree)
 
+  module _ (x : Reckoned) (out : List ℤ) where
+    pub reckoned-main : e .step ≡ Activate → Reckons (mainReckoned s) x out
+        → Reckons (reckoned s sights us n e rs) x out
+    unfolding reckoned
+    reckoned-main f i = subst (λ k. Reckons (reckonedBy k (mainReckoned s)
+        (treeReckoned (modeAt e rs) s n sights (drop 8 us))) x out) (sym f) i
+
+    pub reckoned-units : OnUnits (e .step)
+        → Reckons (treeReckoned (modeAt e rs) s n sights (take (length us - 8) (drop 8 us))) x out
+        → Reckons (reckoned s sights us n e rs) x out
+    unfolding reckoned
+    reckoned-units f i = subst (λ y. Reckons y x out)
+        (ap (treeReckoned (modeAt e rs) s n sights) (behind-head us) ∙ sym (by-units (e .step) (mainReckoned s) _ f)) i
+
   module _ (r : Reduced) (out : List ℤ) where
-    pub reduced-main : e .step ≡ Activate → Is (mainReduced s) r out → Is (reduced s sights us n e rs) r out
-    unfolding reduced
-    reduced-main f i = subst (λ k. Is (reducedBy k (mainReduced s)
-        (treeReduced (modeAt e rs) s n sights (drop 8 us))) r out) (sym f) i
+    main-few : Is ((mainReckoned s) .outcome) r out → bitsIn r < 65_536
+    unfolding mainReckoned
+    main-few i = answer-few ((mainReckoned s) .outcome) r out (reduce-few cells.activating _ _ _ _ _) i
 
-    pub reduced-units : OnUnits (e .step)
-        → Is (treeReduced (modeAt e rs) s n sights (take (length us - 8) (drop 8 us))) r out
-        → Is (reduced s sights us n e rs) r out
-    unfolding reduced
-    reduced-units f i = subst (λ x. Is x r out)
-        (ap (treeReduced (modeAt e rs) s n sights) (behind-head us) ∙ sym (by-units (e .step) (mainReduced s) _ f)) i
-
-    main-few : Is (mainReduced s) r out → bitsIn r < 65_536
-    unfolding mainReduced
-    main-few i = answer-few (mainReduced s) r out (reduce-few cells.activating _ _ _ _ _) i
-
-    units-few : UnitsDue s sights us n e rs → Is (treeReduced (modeAt e rs) s n sights (drop 8 us)) r out
+    units-few : UnitsDue s sights us n e rs → Is ((treeReckoned (modeAt e rs) s n sights (drop 8 us)) .outcome) r out
         → bitsIn r < 65_536
-    units-few u i = answer-few (u .outcome) r out (outcome-few (modeAt e rs) s n sights (drop 8 us) (u .one))
-        (subst (λ x. Is x r out) (tree-only (u .one)) i)
+    units-few u i = answer-few (u .given .outcome) r out (outcome-few (modeAt e rs) s n sights (drop 8 us) (u .one))
+        (subst (λ x. Is (x .outcome) r out) (tree-only (u .one)) i)
 
     bits-few : (k : Step) → DueBy k (UnitsDue s sights us n e rs)
-        → Is (reducedBy k (mainReduced s) (treeReduced (modeAt e rs) s n sights (drop 8 us))) r out → bitsIn r < 65_536
+        → Is ((reckonedBy k (mainReckoned s) (treeReckoned (modeAt e rs) s n sights (drop 8 us))) .outcome) r out
+        → bitsIn r < 65_536
     bits-few Activate u i = main-few i
     bits-few Forecast u i = units-few u i
     bits-few Follow u i = units-few u i
@@ -132,20 +137,22 @@ module _ {s places sights : List ℕ} {us : List ℤ} {n : ℕ} {e : Event} {rs 
     module _ (i : Is (reduced s sights us n e rs) r out) where
       -- what `settle` asks of the answer
       pub reduced-few : bitsIn r < 65_536
-      unfolding reduced
+      unfolding reckoned
       reduced-few = bits-few (e .step) (d .units) i
 
-      pub tried-none : {room : List ℤ} {u : ℕ} → length room ≡ length out → u ≡ unitsOf r → length out < 24 * u
-          → NoRoom s sights us n e rs room us u
-      tried-none same eu h = record {
+      pub tried-none : {room : List ℤ} {u c : ℕ} → c ≡ countedCost s sights us n e rs → length room ≡ length out
+          → u ≡ unitsOf r → length out < 24 * u → NoRoom s sights us n e rs room us u c
+      tried-none ec same eu h = record {
         count = eu ∙ units-counted out (reduced s sights us n e rs) r i;
+        costs = ec;
         short = omega arith;
         kept = refl;
       }
 
-      pub tried-room : {t : ℕ} {left : List ℤ} {q : Bool} → unitsOf r ≤ 128 → t ≡ e .time
-          → Settles t n r out us left q → Advances s sights us n e rs left (Wrote q)
-      tried-room {left = left} few et settles = record {
+      pub tried-room : {t c : ℕ} {left : List ℤ} {q : Bool} → c ≡ countedCost s sights us n e rs → unitsOf r ≤ 128
+          → t ≡ e .time → Settles t n r out us left q → Advances s sights us n e rs left (Wrote q c)
+      tried-room {left = left} ec few et settles = record {
+        costs = ec;
         is = subst (λ t. answer 0 left ≡ keptCells t n us (reduced s sights us n e rs)) et
             (kept-few r out (reduced s sights us n e rs) i _ n us settles few);
         told = settles .told (reduced s sights us n e rs) i;
@@ -154,17 +161,18 @@ module _ {s places sights : List ℕ} {us : List ℤ} {n : ℕ} {e : Event} {rs 
 -- ---- by what a try said
 module _ (s sights : List ℕ) (us : List ℤ) (n : ℕ) (e : Event) (rs room left : List ℤ) (a : Attempt)
     (t : Tried s sights us n e rs room left a) where
-  pub is-short : {u : ℕ} → a ≡ Short u → NoRoom s sights us n e rs room left u
+  pub is-short : {u c : ℕ} → a ≡ Short u c → NoRoom s sights us n e rs room left u c
   is-short q = rw q at t
 
-  pub is-settled : {b : Bool} → a ≡ Settled b → Advances s sights us n e rs left (Wrote b)
+  pub is-settled : {b : Bool} {c : ℕ} → a ≡ Settled b c → Advances s sights us n e rs left (Wrote b c)
   is-settled q = rw q at t
 
 -- ---- one room after another
-module _ {s sights : List ℕ} {us : List ℤ} {n : ℕ} {e : Event} {rs room left : List ℤ} {u : ℕ}
-    (t : NoRoom s sights us n e rs room left u) where
-  pub tried-over : 128 < u → Advances s sights us n e rs left TooMany
+module _ {s sights : List ℕ} {us : List ℤ} {n : ℕ} {e : Event} {rs room left : List ℤ} {u c : ℕ}
+    (t : NoRoom s sights us n e rs room left u c) where
+  pub tried-over : 128 < u → Advances s sights us n e rs left (TooMany c)
   tried-over h = record {
+    costs = t .costs;
     is = ap (answer 11) (t .kept) ∙ kept-over (reduced s sights us n e rs) (e .time) n us (t .count) h;
     told = tt;
   }

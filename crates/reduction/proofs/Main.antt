@@ -11,13 +11,13 @@ use Rattle.records.specs.Index.{Indexed}
 use Rattle.records.proofs.Index.{templates-length}
 use Rattle.cells.specs.Reduce as cells
 use Rattle.arith.proofs.Lists.{length-part}
-use Rattle.residues.specs.Reduces.{Is}
-use Rattle.activation.specs.Leads.{Ready, Fits, reduceAt, reduceBelow}
+use Rattle.residues.specs.Tallies.{Reckons}
+use Rattle.activation.specs.Leads.{Ready, Fits, reckonAt, reckonBelow}
 use Rattle.waits.specs.declared.Event.{Event}
 use Rattle.activation.specs.declared.Site.{Site}
 use Rattle.waits.specs.declared.Step.the-variants.{Activate}
-use Rattle.residues.specs.declared.Reduced.{Reduced}
-use Rattle.reduction.specs.Steps.{mainReduced}
+use Rattle.residues.specs.declared.Reckoned.{Reckoned}
+use Rattle.reduction.specs.Steps.{mainReckoned}
 
 abbrev mainSite : ℕ → ℕ → ℕ → Site
 mainSite below place a = record { below = below; place = place; a = a; depth = 23 }
@@ -47,7 +47,8 @@ module _ (s : List ℕ) {n p t : ℕ} (en : n ≡ byte s 10) (et : t ≡ le32 s 
     room = l;
   }
 
-  pub main-is : (r : Reduced) (out : List ℤ) → p ≡ mainPlace s
-      → Is (reduceAt (startEvent 0) [] s (mainSite n p t) (part s p (length s)) [] []) r out → Is (mainReduced s) r out
-  unfolding mainReduced mainOf agreementOf reduceBelow cells.reduce
+  pub main-is : (r : Reckoned) (out : List ℤ) → p ≡ mainPlace s
+      → Reckons (reckonAt (startEvent 0) [] s (mainSite n p t) (part s p (length s)) [] []) r out
+      → Reckons (mainReckoned s) r out
+  unfolding mainReckoned mainOf agreementOf reckonBelow cells.reduce
   main-is r out ep h = rw (ep, en, et, sym (templates-length s)) at h

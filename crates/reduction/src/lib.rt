@@ -2,8 +2,8 @@
 ghost use Prim.Native.Nat.{_≤_};
 ghost use lib.ListN.{length};
 ghost use Rattle.records.specs.Index.{Indexed};
-ghost use Rattle.residues.specs.Reduces.{Is};
-ghost use Rattle.reduction.specs.Steps.{roomLength, mainReduced, Due, reduced, Advances, Tried};
+ghost use Rattle.residues.specs.Tallies.{Reckons};
+ghost use Rattle.reduction.specs.Steps.{roomLength, mainReckoned, Due, reckoned, Advances, Tried};
 use activation::Site;
 use activation::activate;
 use cells::HEAD_CELLS;
@@ -15,7 +15,8 @@ use records::MAIN_DEPTH;
 use records::START_AT;
 use records::TEMPLATES_AT;
 use records::main_place;
-use residues::Reduced;
+use residues::Reckoned;
+use residues::tallies::total;
 use residues::units_of;
 use settling::settle;
 use waits::Event;
@@ -32,23 +33,23 @@ const FEW_UNITS: usize = 16;
 const FEW_ROOM: usize = FEW_UNITS * UNIT_CELLS;
 
 // A try in some room: too short for so many units, counted up to 129; or written, and whether a unit or the state
-// altered.
+// altered. Both have what the step costs.
 enum Attempt {
-    Short(usize),
-    Wrote(bool),
+    Short { units: usize, cost: usize },
+    Wrote { altered: bool, cost: usize },
 }
 
 // Where a step leads: to more units than a table has; or to a table that is written, and whether a unit or the state
-// altered.
+// altered. Both have what it costs.
 pub enum Advanced {
-    TooMany,
-    Wrote { altered: bool },
+    TooMany { cost: usize },
+    Wrote { altered: bool, cost: usize },
 }
 
 // The main clause activated at the start time; a residue grows downward from the end of out.
-fn activate_main(agreement: &[u8], places: &[usize], out: &mut [i64]) -> Reduced
+fn activate_main(agreement: &[u8], places: &[usize], out: &mut [i64]) -> Reckoned
     requires { ⌜ Indexed (now places) (now agreement) × (length (now agreement) ≤ 16_384) × (length (now out) ≤ roomLength) ⌝ }
-    ensures { λ r. ⌜ Is (mainReduced (now (agreement .entry))) r (now (out .exit)) ⌝ }
+    ensures { λ r. ⌜ Reckons (mainReckoned (now (agreement .entry))) r (now (out .exit)) ⌝ }
 {
     let from = main_place(agreement, places);
     let none = [0i64; 1];
@@ -78,9 +79,9 @@ fn reduce(
     event: Event,
     rs: &[i64],
     out: &mut [i64],
-) -> Reduced
+) -> Reckoned
     requires { ⌜ Due (now agreement) (now places) (now sights) (now table) used event (now rs) × (length (now out) ≤ roomLength) ⌝ }
-    ensures { λ r. ⌜ Is (reduced (now (agreement .entry)) (now (sights .entry)) (now (table .entry)) used event (now (rs .entry))) r (now (out .exit)) ⌝ }
+    ensures { λ r. ⌜ Reckons (reckoned (now (agreement .entry)) (now (sights .entry)) (now (table .entry)) used event (now (rs .entry))) r (now (out .exit)) ⌝ }
 {
     let step = event.step;
     if let Step::Activate = step {
@@ -105,13 +106,15 @@ fn reduce_into(
     ensures { λ r. ⌜ Tried (now (agreement .entry)) (now (sights .entry)) (now (table .entry)) used event (now (rs .entry))
         (now (out .entry)) (now (table .exit)) r ⌝ }
 {
-    let r = reduce(agreement, places, sights, table, used, event, rs, out);
+    let x = reduce(agreement, places, sights, table, used, event, rs, out);
+    let cost = total(x.tally);
+    let r = x.outcome;
     let units = units_of(r);
     if UNIT_CELLS * units > out.len() {
-        return Attempt::Short(units);
+        return Attempt::Short { units, cost };
     }
     let altered = settle(table, used, event.time as i64, r, out);
-    Attempt::Wrote(altered)
+    Attempt::Wrote { altered, cost }
 }
 
 // The same as `advance`, with room for as many units as a table has.
@@ -129,8 +132,8 @@ fn advance_widely(
 {
     let mut out = [0i64; ROOM];
     match reduce_into(agreement, places, sights, table, used, event, rs, &mut out) {
-        Attempt::Short(_) => Advanced::TooMany,
-        Attempt::Wrote(altered) => Advanced::Wrote { altered },
+        Attempt::Short { units: _, cost } => Advanced::TooMany { cost },
+        Attempt::Wrote { altered, cost } => Advanced::Wrote { altered, cost },
     }
 }
 
@@ -152,10 +155,10 @@ pub fn advance(
     }
     let mut out = [0i64; FEW_ROOM];
     match reduce_into(agreement, places, sights, table, used, event, rs, &mut out) {
-        Attempt::Wrote(altered) => Advanced::Wrote { altered },
-        Attempt::Short(units) => {
+        Attempt::Wrote { altered, cost } => Advanced::Wrote { altered, cost },
+        Attempt::Short { units, cost } => {
             if units > MOST_UNITS {
-                return Advanced::TooMany;
+                return Advanced::TooMany { cost };
             }
             advance_widely(agreement, places, sights, table, used, event, rs)
         }

@@ -3,7 +3,7 @@ use mathlib.Core.Path.{_≡_}
 use mathlib.Core.Logic.{_≢_, _↔_}
 use mathlib.Core.List.{List, [], _∷_, _++_}
 use mathlib.Core.Option.{some}
-use Prim.Native.Nat.{ℕ, _≤_, _<_}
+use Prim.Native.Nat.{ℕ, _*_, _≤_, _<_}
 use lib.Dec.{T}
 use lib.IntN.{ℤ, pos}
 use lib.ListN.{length, drop}
@@ -17,12 +17,13 @@ use Rattle.csl.specs.Run.{started, step}
 use Rattle.csl.specs.Table.{Run, tableOf, runOf}
 use Rattle.csl.specs.Entries.{startOf}
 use Rattle.csl.specs.Demand3.{Bytes, AllBytes, fitting, reached, needed, NotStuck, IsBreach, Unaltered, runAfter}
-use Rattle.csl.specs.Demand3.{marksBy, numbersBy}
+use Rattle.csl.specs.Demand3.{costsBy, marksBy, numbersBy}
 use Rattle.csl.specs.Marks.{timeIn}
 use Rattle.monitor.specs.declared.Started.{Started}
 use Rattle.monitor.specs.declared.Started.the-variants.{Begun}
 use Rattle.monitor.specs.Answers.{startAnswer}
 use Rattle.monitor.specs.Calls.{Call, Calls, lastTable, readingsIn, numberIn, numbersIn, earlyIn, marksIn}
+use Rattle.monitor.specs.Calls.{costIn, costsIn}
 use Rattle.monitor.specs.Early.{TooEarly}
 use Rattle.monitor.specs.Demand3.{Demand3, Begins, Upheld, runBy}
 use Rattle.monitor.proofs.Demand3.{demand3, begins}
@@ -115,6 +116,17 @@ module _ (s : List ℕ) (lent : List ℤ) (a : Agreement) (mains : List ℕ) (r 
     came-early : (earlyIn one ≡ 1) ↔ TooEarly a (ran a before) (lastTable us before) one
     unfolding runBy
     came-early = claim .early before one later split
+
+    -- paper 02, No. 9
+    each-unit : costIn one ≤ 65_792 * needed (ran a before .outcome)
+    unfolding runBy
+    each-unit = claim .eachUnit before one later split
+
+    at-most : costIn one ≤ 8_421_376
+    at-most = claim .atMost before one later split
+
+  costs : costsIn calls ≡ costsBy a ((started a) .run) (readingsIn calls)
+  costs = claim .costs
 
   marks : marksIn calls ≡ marksBy a ((started a) .run) (readingsIn calls)
   marks = claim .marks

@@ -3,6 +3,7 @@ pub mod Contracts
 pub mod Demand3
 pub mod Forecast
 pub mod Early
+pub mod Cost
 pub mod Monitors
 pub mod Rules
 pub mod Quotients

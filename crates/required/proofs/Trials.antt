@@ -1,5 +1,5 @@
--- The trials that must be there: P1 to P15 by name, those of paper 02, No. 8 by name, the second list, and that all
--- pass.
+-- The trials that must be there: P1 to P15 by name, those of paper 02, Nos. 8 and 9 by name, the second list, and that
+-- all pass.
 use mathlib.Core.Path.{_≡_, refl}
 use mathlib.Core.List.{List, [], _∷_, map}
 use Prim.Native.String.{String}
@@ -7,6 +7,7 @@ use Rattle.csl.specs.Trials.{Trial, trials, trials-pass, p1to4, p5and6, p7, p8,
 use Rattle.csl.specs.Trials.{p15, follows, grows}
 use Rattle.csl.specs.Further.{further, further-pass, obeys, shows}
 use Rattle.csl.specs.TooEarly.{tooEarlies, too-early-pass, tells}
+use Rattle.csl.specs.Costs.{costing, costs-pass, costs, takes, lapses}
 
 abbrev names : List Trial → List String
 names ts = map (λ t. t .name) ts
@@ -37,6 +38,34 @@ too-early-names = refl
 
 too-early-hold : map (λ t. t .shown) tooEarlies ≡ map (λ t. t .expected) tooEarlies
 too-early-hold = too-early-pass
+
+cost-names : names costing
+    ≡ "a unit that waits, one that takes the reading, a fulfilled table"
+    ∷ "an `and` of the table that is breached, a breached table" ∷ "refused with 8, 9 and 10"
+    ∷ "what is early, and what finds `where` false" ∷ "a `then` that is an obligation" ∷ "a choice"
+    ∷ "an `if` and its first side" ∷ "an `if` and its second side" ∷ "fulfilled sides of an `and`"
+    ∷ "an `and` with one fulfilled side" ∷ "an `or` with one fulfilled side"
+    ∷ "an instance and its template's body" ∷ "a choice that is taken" ∷ "sides that are dropped"
+    ∷ "a side dropped beside a breach" ∷ "an else that waits" ∷ "an else that takes the same reading"
+    ∷ "an else that is breached" ∷ "a chain of elses" ∷ "a `then` under an else" ∷ "an else that is fulfilled"
+    ∷ "an else fulfilled when it is activated: the side that is dropped follows nothing"
+    ∷ "the same with the sides the other way round" ∷ "by an `if`" ∷ "by an instance" ∷ "by an `or` within it"
+    ∷ "by an `and` within it" ∷ "an `or` fulfilled when it is activated, under an `and` that is not"
+    ∷ "an `and` with one fulfilled side follows on" ∷ "an `and` with the other side fulfilled"
+    ∷ "an `and` with one fulfilled side does not fulfil an `or`"
+    ∷ "an else fulfilled by the reading: the other side has followed it"
+    ∷ "an else fulfilled by a late choice's else: the other side has followed"
+    ∷ "a breached side does not fulfil an `or`" ∷ "an `and` that is breached: the other side has followed"
+    ∷ "each of a list of readings" ∷ "the readings of P15, then refused with 10, breached, a breached table"
+    ∷ "11 by the entry, with its cost"
+    ∷ "by the entry: a mark, a reading that is taken, fulfilled, breached; refused with 7, 8 and 10"
+    ∷ "fulfilled, and what cannot be activated, beside a side that follows; a stuck run"
+    ∷ "the outcome by each name of `Rules`" ∷ []
+unfolding costing costs takes lapses shows
+cost-names = refl
+
+costs-hold : map (λ t. t .shown) costing ≡ map (λ t. t .expected) costing
+costs-hold = costs-pass
 
 further-hold : map (λ t. t .shown) further ≡ map (λ t. t .expected) further
 further-hold = further-pass

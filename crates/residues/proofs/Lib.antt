@@ -1,3 +1,4 @@
 pub mod Cells
 pub mod Reduces
 pub mod Few
+pub mod Counts

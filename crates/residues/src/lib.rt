@@ -1,4 +1,6 @@
 // What a clause becomes: fulfilled, a breach, or a residue of units that grows downward from the end of its room.
+pub mod tallies;
+
 ghost use mathlib.Core.Path.{_≡_};
 ghost use mathlib.Core.List.{_++_};
 ghost use Prim.Native.Nat.{_+_, _≤_, _<_};
@@ -19,6 +21,20 @@ pub enum Reduced {
     Done,
     Breach { at: i64, by: usize },
     Running(usize),
+}
+
+// What is counted of a clause: whether it is fulfilled as soon as it is activated, the clauses activated with it, and
+// those that a reading activates beyond them. Both numbers are counted up to the most that a reading costs.
+pub struct Tally {
+    pub once: bool,
+    pub activated: usize,
+    pub further: usize,
+}
+
+// What a clause becomes, with what is counted on the way.
+pub struct Reckoned {
+    pub outcome: Reduced,
+    pub tally: Tally,
 }
 
 // The cell at i, or 0 where there is none.

@@ -69,6 +69,7 @@ pub record Passed (bytes : List ℕ) (a : Agreement) (mains : List ℕ) : Type 0
   pub decodes : decode bytes ≡ some a
   pub types : typed a ≡ some mains
   pub guarded : T (guardedFrom 0 (a .templates))
+  pub narrow : T (narrowAll a)
 
 -- what each of check's tests says of an accepted agreement
 pub passed : (bytes : List ℕ) (a : Agreement) (mains : List ℕ) → checked bytes ≡ accepted a mains → Passed bytes a mains
@@ -86,6 +87,7 @@ passed bytes a mains e =
       decodes = p₂ .1 ∙ ap some ea;
       types = subst (λ z. typed z ≡ some mains) ea (p₃ .1 ∙ ap some em);
       guarded = subst (λ z. T (guardedFrom 0 (z .templates))) ea (p₄ .0);
+      narrow = subst (λ z. T (narrowAll z)) ea (p₅ .0);
     }
   where
     same-a : (a b : Agreement) (m n : List ℕ) → accepted a m ≡ accepted b n → a ≡ b

@@ -11,7 +11,7 @@ use Prim.Native.Nat.{_<_, suc, zero, ℕ, _≤_}
 use native.Mathlib.Omega.{arith}
 use lib.Dec.{T, nltb→le}
 use lib.IntN.{pos}
-use lib.ListN.{drop}
+use lib.ListN.{drop, length}
 use Rattle.csl.specs.Lists.{_>>=_, all, at}
 use Rattle.csl.specs.Parties.{subset}
 use Rattle.csl.specs.Syntax.{Agreement, Clause, Join, Template, and, badClause, choice, fulfilled, if, instance, join}
@@ -283,13 +283,17 @@ module _ (bytes : List ℕ) (a : Agreement) (mains : List ℕ) (ck : checked byt
         small = nltb→le 128 (needed first) (subst (λ b. T (not b)) (sym e ∙ tooMany-is first) tt);
       }
 
+  first-unbreached : Unbreached first
+  unfolding first activate during
+  first-unbreached = walkIn-unbreached (a .templates) (length (a .templates)) (a .main) _ (a .start)
+
   pub start-unbreached : IsBreach ((started a) .run .outcome) → ⊥
-  unfolding started kept first begun choose activate during Unbreached
+  unfolding started kept first begun choose Unbreached
   start-unbreached = go (tooMany first)
     where
       go : (b : Bool) → IsBreach ((choose b) .run .outcome) → ⊥
-      go true = walkIn-unbreached (a .templates) _ (a .main) _ (a .start)
-      go false = walkIn-unbreached (a .templates) _ (a .main) _ (a .start)
+      go true = first-unbreached
+      go false = first-unbreached
 
   pub start-moved : (started a) .run .lastMoved ≡ a .start
   unfolding started kept first begun choose

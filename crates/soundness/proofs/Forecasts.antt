@@ -23,6 +23,7 @@ use Rattle.csl.specs.Outcomes.{Outcome, Residue, Sight, both, breach, done, ear
 use Rattle.csl.specs.Outcomes.{later, orStuck, running, stuck, unit}
 use Rattle.csl.specs.Rules.{Reading, Window, blamed, blamedAll, during, forecasting, taken, walk, walkIn, window}
 use Rattle.csl.specs.Places.{clauseAt}
+use Rattle.csl.specs.Reckoning as Open
 use Rattle.csl.specs.Rules.{across, forecast}
 use Rattle.csl.specs.Table.{standFor}
 use Rattle.laws.proofs.Options.{from-bind, from-need, some-inj}
@@ -173,6 +174,19 @@ stuck-right or (breach t ps) = refl
 stuck-right or (running r) = refl
 stuck-right or stuck = refl
 
+pub stuck-left : (j : Join) (r : Outcome) → joined j stuck r ≡ stuck
+unfolding joined joinBoth joinEither
+stuck-left and r = refl
+stuck-left or r = refl
+
+-- "Fulfilled beside `and` vanishes"
+pub none-beside : (f : Outcome) → joinBoth f done ≡ f
+unfolding joinBoth
+none-beside done = refl
+none-beside (breach t ps) = refl
+none-beside (running r) = refl
+none-beside stuck = refl
+
 -- ---- a forecast gives no breach before its clause is activated, and leaves nothing running
 abbrev pub Coming : ℕ → Outcome → Type 0
 Coming k o = NotBefore k o × Done o
@@ -239,7 +253,8 @@ module _ (ag : Agreement) (r : Reading) (mark : r .type ≡ 0) where
   pub untaken : (n : ℕ) (env : List Ty) (e : Sight) (w : Wait) (v : Window) (t : Clause) (o : Outcome) (vs : List Ty)
       → typeWait (namesOf ag n) env w ≡ some vs → taken (ag .templates) r e w v t o ≡ o
   unfolding taken
-  untaken n env e w v t o vs tw = from-wait ag n env w vs tw λ u₁ u₂ u₃ rt tc ta ti. rw (unwanted w vs rt, taken) refl
+  untaken n env e w v t o vs tw = from-wait ag n env w vs tw λ u₁ u₂ u₃ rt tc ta ti.
+      rw (unwanted w vs rt, Open.taken) refl
 
 -- ---- a forecast is good: never stuck, its parties some and within, its time not before the start
 module _ (ag : Agreement) (mains : List ℕ) (fair : Fair ag mains) where

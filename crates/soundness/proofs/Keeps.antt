@@ -32,8 +32,8 @@ use Rattle.soundness.proofs.Times.{by-timing, later-to}
 use Rattle.soundness.proofs.Good.{Ok, Placed}
 use Rattle.soundness.proofs.Walks.{Fair}
 use Rattle.soundness.proofs.Forecasts.{Coming, Done, NotBefore, both-from, coming-bind, later-beyond}
-use Rattle.soundness.proofs.Forecasts.{not-before-mono, stuck-right, times, times-both, untaken, walk-coming}
-use Rattle.soundness.proofs.Forecasts.{walkIn-coming}
+use Rattle.soundness.proofs.Forecasts.{none-beside, not-before-mono, stuck-left, stuck-right, times, times-both}
+use Rattle.soundness.proofs.Forecasts.{untaken, walk-coming, walkIn-coming}
 
 -- ---- two forecasts say the same: none, or a breach at one time by the same set of parties
 unfoldable pub SameForecast : Outcome → Outcome → Type 0
@@ -56,13 +56,6 @@ module _ (ag : Agreement) (now : ℕ) where
     stuckAfter : (f : Outcome) → Kept f stuck
 
   -- ---- small facts of the joins
-  none-beside : (f : Outcome) → joinBoth f done ≡ f
-  unfolding joinBoth
-  none-beside done = refl
-  none-beside (breach t ps) = refl
-  none-beside (running r) = refl
-  none-beside stuck = refl
-
   -- a forecast that says the same as another is none or a breach, so a fulfilled side fulfils an `or` with it
   fulfilled-left : (g x : Outcome) → SameForecast g x → joinEither done g ≡ done
   unfolding joinEither SameForecast
@@ -293,9 +286,7 @@ SameOrStuck x y = (x ≡ stuck) ⊎ (x ≡ y)
 
 joined-deeper : (j : Join) (f g l r : Outcome) → SameOrStuck f l → SameOrStuck g r
     → SameOrStuck (joined j f g) (joined j l r)
-unfolding joined joinBoth joinEither
-joined-deeper and f g l r (inl p) k = inl (ap (λ x. joinBoth x g) p)
-joined-deeper or f g l r (inl p) k = inl (ap (λ x. joinEither x g) p)
+joined-deeper j f g l r (inl p) k = inl (ap (λ x. joined j x g) p ∙ stuck-left j g)
 joined-deeper j f g l r (inr p) (inl q) = inl (ap (joined j f) q ∙ stuck-right j f)
 joined-deeper j f g l r (inr p) (inr q) = inr (ap₂ (joined j) p q)
 

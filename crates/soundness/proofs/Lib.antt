@@ -19,3 +19,11 @@ pub mod Forecasts
 pub mod Early
 pub mod Keeps
 pub mod Marks
+pub mod Reckonings
+pub mod CostWidths
+pub mod CostBound
+pub mod Unfoldings
+pub mod CostUnits
+pub mod CostStages
+pub mod CostElse
+pub mod CostNumbers

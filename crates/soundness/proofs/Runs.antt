@@ -21,7 +21,8 @@ use Rattle.csl.specs.Run.{Fit, Raw, Stepped, altered, fit, fitOf, followed, kep
 use Rattle.csl.specs.Run.{step, tooMany, typedReading, unfit}
 use Rattle.csl.specs.Table.{Run, headCells, joinCells, natCells, padded, residueCells, runOf, tableLength, tableOf}
 use Rattle.csl.specs.Early.{cameEarly, markOf}
-use Rattle.csl.specs.Entries.{Answer, ReadingAnswer, isTable, marked, readingOf, refusal, startOf, written}
+use Rattle.csl.specs.Cost.{costFrom, costOf}
+use Rattle.csl.specs.Entries.{Answer, ReadingAnswer, answered, isTable, readingOf, refusal, startOf, written}
 use Rattle.csl.specs.Demand3.{Bytes, IsBreach, NotStuck, fitting, needed, reached}
 use Rattle.laws.proofs.Bools.{T-left, T-or, T-right}
 use Rattle.laws.proofs.Options.{some-bind}
@@ -315,9 +316,16 @@ unfolding cameEarly
 alike-early a now m q o r (same o′) = refl
 alike-early a now m q o r (breached t ps) = refl
 
+-- nor does a reading of a breach cost anything
+alike-cost : (a : Agreement) (now m : ℕ) (q o : Outcome) (r : List ℕ) → Alike q o
+    → costOf a (runAt now m q) r ≡ costOf a (runAt now m o) r
+unfolding costOf costFrom
+alike-cost a now m q o r (same o′) = refl
+alike-cost a now m q o r (breached t ps) = refl
+
 abbrev FineReading : Agreement → Run → List ℕ → ReadingAnswer → Type 0
 FineReading a q r x = (x .number ≡ (step a q r) .number) × (x .table ≡ tableOf ((step a q r) .run))
-    × (x .early ≡ markOf (cameEarly a q r))
+    × (x .early ≡ markOf (cameEarly a q r)) × (x .cost ≡ costOf a q r)
 
 -- the main clause's parties are parties
 pub main-in : (a : Agreement) (mains : List ℕ) → Fair a mains → (q : ℕ) → In q mains → q < a .parties
@@ -333,30 +341,31 @@ module _ (bytes : List ℕ) (a : Agreement) (mains : List ℕ) (ck : checked byt
   isTable-is cells h = rw h refl
 
   pub reading-is : (cells : List ℤ) (q : Run) (r : List ℕ) → length cells ≡ 3080 → runOf a mains cells ≡ some q
-      → readingOf bytes cells r ≡ marked (markOf (cameEarly a q r)) (written cells (step a q r))
+      → readingOf bytes cells r ≡ answered (markOf (cameEarly a q r)) (costOf a q r)
+      (written cells (step a q r))
   unfolding readingOf
   reading-is cells q r h e =
       ap (λ c. elim c [
-        | refused n ↦ marked 0 (refusal n cells)
+        | refused n ↦ answered 0 0 (refusal n cells)
         | accepted a ps ↦ elim (isTable cells) [
-          | false ↦ marked 0 (refusal 6 cells)
+          | false ↦ answered 0 0 (refusal 6 cells)
           | true ↦ elim (runOf a ps cells) [
-            | none ↦ marked 0 (refusal 7 cells)
-            | some x ↦ marked (markOf (cameEarly a x r)) (written cells (step a x r))
+            | none ↦ answered 0 0 (refusal 7 cells)
+            | some x ↦ answered (markOf (cameEarly a x r)) (costOf a x r) (written cells (step a x r))
           ]
         ]
       ]) ck
       ∙ ap (λ b. elim b [
-        | false ↦ marked 0 (refusal 6 cells)
+        | false ↦ answered 0 0 (refusal 6 cells)
         | true ↦ elim (runOf a mains cells) [
-          | none ↦ marked 0 (refusal 7 cells)
-          | some x ↦ marked (markOf (cameEarly a x r)) (written cells (step a x r))
+          | none ↦ answered 0 0 (refusal 7 cells)
+          | some x ↦ answered (markOf (cameEarly a x r)) (costOf a x r) (written cells (step a x r))
         ]
       ])
       (isTable-is cells h)
       ∙ ap (λ o. elim o [
-        | none ↦ marked 0 (refusal 7 cells)
-        | some x ↦ marked (markOf (cameEarly a x r)) (written cells (step a x r))
+        | none ↦ answered 0 0 (refusal 7 cells)
+        | some x ↦ answered (markOf (cameEarly a x r)) (costOf a x r) (written cells (step a x r))
       ]) e
 
   pub start-is : (cells : List ℤ) → length cells ≡ 3080 → startOf bytes cells ≡ written cells (started a)
@@ -380,17 +389,21 @@ module _ (bytes : List ℕ) (a : Agreement) (mains : List ℕ) (ck : checked byt
   abbrev pub InvOf : Run → Type 0
   InvOf q = Inv a mains (q .lastTime) (q .lastMoved) (q .outcome)
 
-  -- on a run's table the entry answers with the run's number and mark, and leaves the run's table
+  -- on a run's table the entry answers with the run's number, mark and cost, and leaves the run's table
   pub reading-fine : (q : Run) (r : List ℕ) → InvOf q → FineReading a q r (readingOf bytes (tableOf q) r)
-  unfolding marked
+  unfolding answered
   reading-fine q r i =
       let now = q .lastTime in
       let m = q .lastMoved in
       let x = reads a mains few-mains now m (q .outcome) i in
       let fine = alike-fine a now m (x .0) (q .outcome) r (x .2) (not-stuck a mains now (q .outcome) (i .good)) in
       subst (FineReading a q r)
-      (sym (reading-is (tableOf q) (runAt now m (x .0)) r (table-len a mains now m (q .outcome) i) (x .1)))
-      (fine .0, fine .1, ap markOf (alike-early a now m (x .0) (q .outcome) r (x .2)))
+      (sym (reading-is (tableOf q) (runAt now m (x .0)) r (table-len a mains now m (q .outcome) i) (x .1))) (
+        fine .0,
+        fine .1,
+        ap markOf (alike-early a now m (x .0) (q .outcome) r (x .2)),
+        alike-cost a now m (x .0) (q .outcome) r (x .2),
+      )
 
   -- ---- a reading keeps the invariant
   pub reached-good : (now m : ℕ) (o : Outcome) (d : Reading) → now ≤ d .time → ReadingOk a d → (IsBreach o → ⊥)

@@ -65,8 +65,8 @@ module _ (s : List ℕ) (cells : List ℤ) {state : ℤ} (is : state ≡ getD ce
 abbrev answerOf : ℕ → List ℤ → Answer
 answerOf n cells = record { number = n; table = cells }
 
-abbrev readingAnswerOf : ℕ → ℕ → List ℤ → ReadingAnswer
-readingAnswerOf n early cells = record { number = n; early = early; table = cells }
+abbrev readingAnswerOf : ℕ → ℕ → ℕ → List ℤ → ReadingAnswer
+readingAnswerOf n early cost cells = record { number = n; early = early; cost = cost; table = cells }
 
 -- ---- a start's line
 start-refused-line : (s : List ℕ) (cells : List ℤ) (why : Refusal)
@@ -85,21 +85,21 @@ start-refused-line s cells ReadingTime = refl
 start-refused-line s cells Units = refl
 
 -- ---- a reading's line
-reading-refused-line : (s : List ℕ) (n : ℕ) (b : List ℕ) (cells : List ℤ) (why : Refusal)
+reading-refused-line : (s : List ℕ) (n : ℕ) (b : List ℕ) (cost : ℕ) (cells : List ℤ) (why : Refusal)
     → line n (readingTime b (numberOf why) ∷ refusalFields (numberOf why)) ≡ readingLine s n b
-    (readingAnswerOf (numberOf why) 0 cells)
+    (readingAnswerOf (numberOf why) 0 cost cells)
 unfolding readingLine readingTime timeField answerFields
-reading-refused-line s n b cells AgreementLength = refl
-reading-refused-line s n b cells AgreementForm = refl
-reading-refused-line s n b cells AgreementTyping = refl
-reading-refused-line s n b cells AgreementGuards = refl
-reading-refused-line s n b cells AgreementWidth = refl
-reading-refused-line s n b cells TableLength = refl
-reading-refused-line s n b cells TableContent = refl
-reading-refused-line s n b cells ReadingForm = refl
-reading-refused-line s n b cells ReadingTyping = refl
-reading-refused-line s n b cells ReadingTime = refl
-reading-refused-line s n b cells Units = refl
+reading-refused-line s n b cost cells AgreementLength = refl
+reading-refused-line s n b cost cells AgreementForm = refl
+reading-refused-line s n b cost cells AgreementTyping = refl
+reading-refused-line s n b cost cells AgreementGuards = refl
+reading-refused-line s n b cost cells AgreementWidth = refl
+reading-refused-line s n b cost cells TableLength = refl
+reading-refused-line s n b cost cells TableContent = refl
+reading-refused-line s n b cost cells ReadingForm = refl
+reading-refused-line s n b cost cells ReadingTyping = refl
+reading-refused-line s n b cost cells ReadingTime = refl
+reading-refused-line s n b cost cells Units = refl
 
 pub time-dash : (b : List ℕ) (number : ℕ) → number ≡ 8 → dash ≡ readingTime b number
 unfolding readingTime timeField
@@ -156,27 +156,28 @@ module _ (s : List ℕ) (cells cells₂ : List ℤ) {out out₂ : List ℕ} {to 
 
   module _ (n : ℕ) (b : List ℕ) (at : ℕ) {r : Taken} (answered : takenAnswer r cells₂ ≡ readingOf s cells b)
       (room : to ≤ at + lineRoom) where
-    pub follows-refused : {why : Refusal} {number : ℕ} → r ≡ refusedReading why → number ≡ numberOf why
+    pub follows-refused : {why : Refusal} {cost number : ℕ} → r ≡ refusedReading why cost → number ≡ numberOf why
         → Put (line n (readingTime b number ∷ refusalFields number)) out at out₂ to
         → Follows s cells cells₂ n b out at out₂ (record { go = not (eqb number 8); at = to })
-    follows-refused {why} {number} is told p =
-        let a : readingAnswerOf (numberOf why) 0 cells₂ ≡ readingOf s cells b =
+    follows-refused {why} {cost} {number} is told p =
+        let a : readingAnswerOf (numberOf why) 0 cost cells₂ ≡ readingOf s cells b =
         ap (λ x. takenAnswer x cells₂) (sym is) ∙ answered in
         record {
           line = same-put (ap (λ k. line n (readingTime b k ∷ refusalFields k)) told
-              ∙ reading-refused-line s n b cells₂ why ∙ ap (readingLine s n b) a) p;
+              ∙ reading-refused-line s n b cost cells₂ why ∙ ap (readingLine s n b) a) p;
           table = ap (λ x. x .table) a;
           goes = ap (λ k. not (eqb k 8)) (told ∙ ap (λ x. x .number) a);
           room = room;
         }
 
-    pub follows-accepted : {early : Bool} {time mid : ℕ} {out₁ : List ℕ} → r ≡ Accepted early → time ≡ le32 b 4
+    pub follows-accepted : {early : Bool} {cost time mid : ℕ} {out₁ : List ℕ} → r ≡ Accepted early cost
+        → time ≡ le32 b 4
         → Put (decimal n ++ (space ∷ decimal time)) out at out₁ mid
         → Put (fields (verdictFields s cells₂)) out₁ mid out₂ to
         → Follows s cells cells₂ n b out at out₂ (record { go = true; at = to })
     unfolding readingLine readingTime timeField answerFields
-    follows-accepted {early} {time} is told p q =
-        let a : readingAnswerOf 0 (markOf early) cells₂ ≡ readingOf s cells b =
+    follows-accepted {early} {cost} {time} is told p q =
+        let a : readingAnswerOf 0 (markOf early) cost cells₂ ≡ readingOf s cells b =
         ap (λ x. takenAnswer x cells₂) (sym is) ∙ answered in
         record {
           line = same-put (ap (readingLine s n b) a)

@@ -139,14 +139,14 @@ pub fn follow(
         (now (reading .entry)) (now (out .entry)) at (now (out .exit)) r ⌝ }
 {
     match monitor::reading(agreement, table, reading) {
-        Taken::Refused(why) => {
+        Taken::Refused { why, cost: _ } => {
             let number = monitor::number(why);
             Told {
                 at: put_refused(out, at, n, reading, number),
                 go: number != 8,
             }
         }
-        Taken::Accepted { early: _ } => {
+        Taken::Accepted { early: _, cost: _ } => {
             let a = put_time(out, at, n, unsigned32(reading, 4));
             Told {
                 go: true,

@@ -60,21 +60,21 @@ fn put_check(out: &mut [u8], at: usize, checked: Checked) -> usize {
     }
 }
 
-fn mark(early: bool) -> u64 {
-    if early { 1 } else { 0 }
+fn one_or_zero(b: bool) -> u64 {
+    if b { 1 } else { 0 }
 }
 
-// The number, and the mark `early`.
+// The number, the mark `early` and the cost.
+fn put_reading(out: &mut [u8], at: usize, number: u32, early: bool, cost: usize) -> usize {
+    let to = put_number(out, at, b"reading", number);
+    let then = put_next(out, to, one_or_zero(early));
+    put_next(out, then, cost as u64)
+}
+
 fn put_taken(out: &mut [u8], at: usize, taken: Taken) -> usize {
     match taken {
-        Taken::Accepted { early } => {
-            let to = put_number(out, at, b"reading", 0);
-            put_next(out, to, mark(early))
-        }
-        Taken::Refused(refusal) => {
-            let to = put_number(out, at, b"reading", monitor::number(refusal));
-            put_next(out, to, 0)
-        }
+        Taken::Accepted { early, cost } => put_reading(out, at, 0, early, cost),
+        Taken::Refused { why, cost } => put_reading(out, at, monitor::number(why), false, cost),
     }
 }
 

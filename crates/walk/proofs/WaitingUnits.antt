@@ -12,11 +12,11 @@ use Rattle.csl.specs.Bytes.{byte, part, recordEnd}
 use Rattle.csl.specs.Decode.{headsOf, clause}
 use Rattle.cells.specs.Reduce as cells
 use Rattle.cells.specs.Reduce.{Mode}
-use Rattle.cells.specs.Across.{natOf, unitReduced}
+use Rattle.cells.specs.Across.{natOf, unitReckoned}
 use Rattle.arith.proofs.Ints.{seen}
 use Rattle.arith.proofs.Lists.{take-drop}
 use Rattle.records.proofs.Index.{templates-length}
-use Rattle.activation.specs.Leads.{reduceBelow}
+use Rattle.activation.specs.Leads.{reckonBelow}
 
 -- ---- a natural number in a cell
 pub natural-asked : {z : ℤ} → seen z ≡ z → z ≡ pos (natOf z) → seen z ≡ pos (natOf (seen z))
@@ -40,11 +40,11 @@ module _ (table : List ℤ) where
       rw (take-drop b 24 table, take-take n (24 - b) (drop b table) (omega arith), q)
 
   pub unit-at : (m : Mode) (ag : List ℕ) (params values : ℕ) → params ≤ 4 → values ≤ 16
-      → unitReduced m ag params values (take 24 table)
-      ≡ reduceBelow m ag (byte ag 10) (clause (headsOf ag) 23 (natOf (getD table 1 (pos 0)))
+      → unitReckoned m ag params values (take 24 table)
+      ≡ reckonBelow m ag (byte ag 10) (clause (headsOf ag) 23 (natOf (getD table 1 (pos 0)))
       (part ag (natOf (getD table 1 (pos 0))) (recordEnd ag (natOf (getD table 1 (pos 0))))))
       (take (3 + params - 3) (drop 3 table)) (take (8 + values - 8) (drop 8 table)) (natOf (getD table 2 (pos 0)))
-  unfolding unitReduced reduceBelow cells.reduce
+  unfolding unitReckoned reckonBelow cells.reduce
   unit-at m ag params values h k = rw (
     cell-at 1 (omega arith),
     cell-at 2 (omega arith),

@@ -7,7 +7,7 @@ use Prim.Native.Nat.{ℕ, _*_, _≤_, _+_}
 use lib.IntN.{ℤ, pos}
 use lib.ListN.{length, getD, take, drop}
 use Rattle.cells.specs.Reduce as cells
-use Rattle.cells.specs.Across.{natOf, across, unitReduced}
+use Rattle.cells.specs.Across.{natOf, across, unitReckoned}
 use lib.Dec.{ltb}
 use Rattle.csl.specs.Outcomes.{Residue, unit, both, units}
 use Rattle.cells.specs.Reduce.{Mode}
@@ -22,16 +22,16 @@ pub record Waiting (size params values : ℕ) (unit : List ℤ) : Type 0 where
   pub dated : natOf (getD unit 2 (pos 0)) ≤ 4_294_967_296
 
 -- what becomes of the first unit
-abbrev pub unitAt : Mode → List ℕ → List ℕ → List ℤ → cells.Reduced
-unitAt m s sights cs = unitReduced m s (getD sights 0 0) (getD sights 1 0) (take 24 cs)
+abbrev pub unitAt : Mode → List ℕ → List ℕ → List ℤ → cells.Reckoned
+unitAt m s sights cs = unitReckoned m s (getD sights 0 0) (getD sights 1 0) (take 24 cs)
 
-unfoldable pub firstOf : List cells.Reduced → cells.Reduced
-firstOf [] = cells.done
+unfoldable pub firstOf : List cells.Reckoned → cells.Reckoned
+firstOf [] = cells.ended
 firstOf (x ∷ xs) = x
 
 -- what becomes of the tree of n units at the front
-abbrev pub treeReduced : Mode → List ℕ → ℕ → List ℕ → List ℤ → cells.Reduced
-treeReduced m s n sights cs = firstOf (across m s n sights cs)
+abbrev pub treeReckoned : Mode → List ℕ → ℕ → List ℕ → List ℤ → cells.Reckoned
+treeReckoned m s n sights cs = firstOf (across m s n sights cs)
 
 -- a residue's units stand at the front; `sights` has for a join first the number of its left side's units
 unfoldable pub TreeOf : ℕ → Residue → List ℕ → List ℤ → Type 0

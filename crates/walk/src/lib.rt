@@ -6,12 +6,13 @@ ghost use Prim.Native.Nat.{_≤_, _<_};
 ghost use lib.IntN.{pos};
 ghost use lib.ListN.{length, getD, take};
 ghost use Rattle.laws.specs.Joins.{joinOf};
-ghost use Rattle.residues.specs.Reduces.{Is, farthest};
+ghost use Rattle.residues.specs.Reduces.{farthest};
+ghost use Rattle.residues.specs.Tallies.{Reckons};
 ghost use Rattle.records.specs.Index.{Indexed};
 ghost use Rattle.waits.specs.Fates.{modeAt};
 ghost use lib.Dec.{ltb};
 ghost use Rattle.cells.specs.Across.{natOf};
-ghost use Rattle.walk.specs.Tree.{Waiting, Tree, treeReduced, unitAt};
+ghost use Rattle.walk.specs.Tree.{Waiting, Tree, treeReckoned, unitAt};
 use activation::Site;
 use activation::activate;
 use arith::equal;
@@ -25,9 +26,10 @@ use records::MAIN_DEPTH;
 use records::TEMPLATES_AT;
 use residues::AND;
 use residues::OR;
-use residues::Reduced;
+use residues::Reckoned;
 use residues::join;
 use residues::room_left;
+use residues::tallies::join_tallies;
 use waits::Event;
 
 // The first unit waits.
@@ -65,12 +67,13 @@ fn waiting_unit(
     sights: &[usize],
     table: &[i64],
     out: &mut [i64],
-) -> Reduced
+) -> Reckoned
     requires { ⌜ Indexed (now places) (now agreement) × (length (now rs) ≤ 4) × (event .time ≤ 4_294_967_296)
         × (length (now agreement) ≤ farthest) × (length (now out) ≤ 3072) ⌝ }
     requires { ⌜ (24 ≤ length (now table)) × (2 ≤ length (now sights))
         × Waiting (length (now agreement)) (getD (now sights) 0 0) (getD (now sights) 1 0) (take 24 (now table)) ⌝ }
-    ensures { λ r. ⌜ Is (unitAt (modeAt event (now (rs .entry))) (now (agreement .entry)) (now (sights .entry)) (now (table .entry))) r (now (out .exit)) ⌝ }
+    ensures { λ r. ⌜ Reckons (unitAt (modeAt event (now (rs .entry))) (now (agreement .entry)) (now (sights .entry))
+        (now (table .entry))) r (now (out .exit)) ⌝ }
 {
     let params = sights[0];
     let values = sights[1];
@@ -109,11 +112,11 @@ pub fn across(
     table: &[i64],
     n: usize,
     out: &mut [i64],
-) -> Reduced
+) -> Reckoned
     requires { ⌜ Indexed (now places) (now agreement) × (length (now rs) ≤ 4) × (event .time ≤ 4_294_967_296)
         × (length (now out) ≤ 3072) × (length (now agreement) ≤ farthest) ⌝ }
     requires { ⌜ Tree (length (now agreement)) (now sights) (now table) n ⌝ }
-    ensures { λ r. ⌜ Is (treeReduced (modeAt event (now (rs .entry))) (now (agreement .entry)) n (now (sights .entry))
+    ensures { λ r. ⌜ Reckons (treeReckoned (modeAt event (now (rs .entry))) (now (agreement .entry)) n (now (sights .entry))
         (now (table .entry))) r (now (out .exit)) ⌝ }
 {
     if waits(table) {
@@ -123,7 +126,8 @@ pub fn across(
     let seen = &sights[2 + 2 * left..];
     let right = &table[UNIT_CELLS + UNIT_CELLS * left..];
     let r = across(agreement, places, event, rs, seen, right, n - 1 - left, out);
-    let low = room_left(r, out.len());
+    let right_is = r.outcome;
+    let low = room_left(right_is, out.len());
     let l = across(
         agreement,
         places,
@@ -134,5 +138,11 @@ pub fn across(
         left,
         &mut out[..low],
     );
-    join(join_kind(table), l, r, out)
+    let left_is = l.outcome;
+    let kind = join_kind(table);
+    let tally = join_tallies(kind, l.tally, r.tally);
+    Reckoned {
+        outcome: join(kind, left_is, right_is, out),
+        tally,
+    }
 }

@@ -24,7 +24,7 @@ fn watch(input: &mut impl BufRead, output: &mut impl Write) -> io::Result<()> {
         if taken.is_empty() {
             break;
         }
-        // The mark of paper 02, No. 8 is the entry's answer; the program's fields are paper 01's.
+        // The mark and the cost of paper 02, No. 8 and No. 9, are the entry's; the program's fields are paper 01's.
         match reading(&agreement, &mut table, &taken).number {
             0 => writeln!(output, "{line} {} {}", time(&taken), verdict(&agreement, &table))?,
             // "a reading refused with 8, print `-` as time and end the run"

@@ -254,7 +254,7 @@ impl<'a> Marked<'_, 'a> {
             Late::Breach(_) => false,
             Late::Else(otherwise) => {
                 let time = unit.late_time(unit.window().last);
-                rules::activate(agreement, otherwise, time, &unit.scope).finds_early(reading)
+                rules::activate(agreement, otherwise, time, &unit.scope, &mut 0).finds_early(reading)
             }
         })
     }
@@ -330,7 +330,9 @@ impl<'a> Marked<'_, 'a> {
         let (agreement, reading) = (self.accepted.agreement, self.effect.reading);
         match residue {
             Residue::Waiting(_) => false,
-            Residue::Or(..) if matches!(rules::follow(agreement, residue.clone(), reading), Outcome::Fulfilled) => {
+            Residue::Or(..)
+                if matches!(rules::follow(agreement, residue.clone(), reading, &mut 0), Outcome::Fulfilled) =>
+            {
                 residue.finds_early(reading)
             }
             Residue::And(left, right) | Residue::Or(left, right) => self.drops_early(left) || self.drops_early(right),

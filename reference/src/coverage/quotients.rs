@@ -99,7 +99,7 @@ impl<'a> Walk<'a> {
         let Late::Else(otherwise) = &waiting.wait.late else { return };
         self.activation(otherwise, &waiting.scope);
         let time = waiting.late_time(last);
-        if let Outcome::Running(residue) = rules::activate(self.agreement, otherwise, time, &waiting.scope) {
+        if let Outcome::Running(residue) = rules::activate(self.agreement, otherwise, time, &waiting.scope, &mut 0) {
             self.residue(&residue, reading);
         }
     }

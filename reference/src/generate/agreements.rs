@@ -1,6 +1,7 @@
 //! Valid agreements, made so that check accepts them: every clause is made for the spot where it
 //! stands, with its values in sight, possible parties, depth and width.
 
+use super::eventful::{costly, eventful};
 use super::random::Random;
 use crate::agreement::{Operator, Type};
 use crate::build;
@@ -42,6 +43,8 @@ pub fn agreement(random: &mut Random) -> Vec<u8> {
         19..=22 => return taking_turns(random),
         23..=29 => return opening_later(random),
         30..=35 => return early_unaltered(random),
+        36..=43 => return eventful(random),
+        44..=46 => return costly(random),
         _ => {}
     }
     let shape = [&PLAIN, &TINY, &WIDE, &DEEP, &CHAINED, &JOINED, &MANY][random.weighted(&[6, 3, 1, 2, 3, 4, 2])];
@@ -79,9 +82,16 @@ fn growing(random: &mut Random) -> Vec<u8> {
 fn crowded(random: &mut Random) -> Vec<u8> {
     let count = random.pick(&[20, 60, 64, 64, 65, 66, 100, 128]);
     let crowd = crowd(random, count, &mut owed_soon);
-    let main = match random.below(3) {
+    let main = match random.below(4) {
         0 => build::Wait { then: crowd, ..build::simple(100) }.obligation(0),
-        1 if count < 128 => build::or(&crowd, &build::simple(30).obligation(0)),
+        // The reading that brings the crowd also fulfils an `or` and drops what its other side activates.
+        1 => {
+            let crowding = build::Wait { then: crowd, ..build::simple(100) }.obligation(0);
+            let owed = build::simple(30).obligation(0);
+            let dropped = build::Wait { then: owed.clone(), ..build::simple(30) }.obligation(0);
+            build::and(&build::or(&dropped, &owed), &crowding)
+        }
+        2 if count < 128 => build::or(&crowd, &build::simple(30).obligation(0)),
         _ => crowd,
     };
     build::agreement(start(random), 1, &[build::reading_type(&[]), build::reading_type(&[])], &[], &main)
@@ -93,7 +103,7 @@ fn owed_soon(random: &mut Random) -> Vec<u8> {
 }
 
 /// So many clauses joined in balance.
-fn crowd(random: &mut Random, count: usize, clause: &mut impl FnMut(&mut Random) -> Vec<u8>) -> Vec<u8> {
+pub fn crowd(random: &mut Random, count: usize, clause: &mut impl FnMut(&mut Random) -> Vec<u8>) -> Vec<u8> {
     if count == 1 {
         return clause(random);
     }
@@ -245,7 +255,8 @@ fn beside_renewed(random: &mut Random, to_open: &build::Wait, renewed: Vec<u8>) 
     (vec![body], main)
 }
 
-fn start(random: &mut Random) -> u32 {
+/// A start time.
+pub fn start(random: &mut Random) -> u32 {
     let any = random.draw() as u32;
     random.pick(&[0, 1, 100, 1_000, 5_000_000, 4_294_967_000, u32::MAX, any])
 }

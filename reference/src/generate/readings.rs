@@ -1,7 +1,7 @@
 //! Readings that hit windows, and damaged ones.
 
 use super::random::Random;
-use crate::agreement::{Agreement, Expression, Type};
+use crate::agreement::{Agreement, Expression, Late, Type};
 use crate::build;
 use crate::rules::{evaluate, Outcome, Residue, Waiting, Window};
 use crate::table::State;
@@ -12,6 +12,7 @@ pub fn reading(random: &mut Random, agreement: &Agreement, state: &State) -> Vec
         0 | 1 => Some(idle(random, agreement, state)),
         2..=5 => too_soon(random, agreement, state),
         6 => again(random, agreement, state),
+        7 | 8 => overdue(random, agreement, state),
         _ => None,
     };
     let bytes = match (special, target(random, state)) {
@@ -106,6 +107,18 @@ fn too_soon(random: &mut Random, agreement: &Agreement, state: &State) -> Option
     }
     let truth = random.chance(85);
     Some(build::reading(time, kind, &values_for(random, agreement, waiting, truth)))
+}
+
+/// A reading after the last minute of some choice, if there is one, often so soon that its else may take it.
+fn overdue(random: &mut Random, agreement: &Agreement, state: &State) -> Option<Vec<u8>> {
+    let mut choices = waiting_units(state);
+    choices.retain(|unit| matches!(unit.wait.late, Late::Else(_)));
+    let choice = random.any(&choices)?;
+    let late = choice.window().last + random.pick(&[1, 1, 1, 2, 5, 30, 100]);
+    let time = late.max(state.last).clamp(0, i64::from(u32::MAX)) as u32;
+    let any = random.below(agreement.readings.len() + 1) as u8;
+    let kind = if random.chance(50) { choice.wait.reading } else { any };
+    Some(build::reading(time, kind, &values(random, agreement, kind, None)))
 }
 
 /// The last minute of the unit that is late first.

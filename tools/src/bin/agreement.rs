@@ -18,8 +18,10 @@ usage: agreement check FILE                     what is wrong with the text of a
        agreement readings [--for TEXT] FILE     lines `TIME TYPE VALUE..` to reading records
        agreement explain [--for TEXT | --agreement RECORD] TABLE
                                                 a table of 24,640 bytes in words
-       agreement run [--json] TEXT READINGS     what each reading did, what is ahead, how it ends
-       agreement run [--json] --follow TEXT     the same of lines from standard input, as they come
+       agreement run [--json] [--cost] TEXT READINGS
+                                                what each reading did (and cost), what is ahead, how it ends
+       agreement run [--json] [--cost] --follow TEXT
+                                                the same of lines from standard input, as they come
        agreement run --records STREAM           the lines that brinewatch writes for a stream of records
        agreement test FOLDER..                  every *.readings of a folder against the *.out beside it
        agreement timeline [--html] TEXT READINGS

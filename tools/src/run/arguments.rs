@@ -13,14 +13,20 @@ use std::io::{self, Write};
 use std::process::ExitCode;
 
 const USAGE: &str = "\
-agreement run [--json] TEXT READINGS
-       agreement run [--json] --follow TEXT
+agreement run [--json] [--cost] TEXT READINGS
+       agreement run [--json] [--cost] --follow TEXT
        agreement run --records STREAM";
 
 pub fn command(arguments: &[&str]) -> ExitCode {
     let (options, files): (Vec<&str>, Vec<&str>) = arguments.iter().partition(|word| word.starts_with("--"));
-    let form = if options.contains(&"--json") { Form::Json } else { Form::Text };
-    let others: Vec<&str> = options.into_iter().filter(|option| *option != "--json").collect();
+    let asked = |option: &str| options.contains(&option);
+    let form = match (asked("--json"), asked("--cost")) {
+        // The objects have the cost in any case.
+        (true, _) => Form::Json,
+        (false, true) => Form::Costs,
+        (false, false) => Form::Text,
+    };
+    let others: Vec<&str> = options.into_iter().filter(|option| !["--json", "--cost"].contains(option)).collect();
     match (&others[..], &files[..], form) {
         ([], [text, readings], _) => exit(run(text, readings, form)),
         (["--follow"], [text], _) => exit(follow(text, form)),

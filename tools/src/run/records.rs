@@ -13,7 +13,7 @@ pub fn records(input: &mut impl Read, mut told: impl FnMut(Step) -> io::Result<(
         Ok(run) => run,
         Err(refusal) => {
             let verdict = Verdict::Refused(refusal);
-            told(Step { number: 0, time: None, verdict, early: false })?;
+            told(Step { number: 0, time: None, verdict, early: false, cost: None })?;
             return Ok(verdict);
         }
     };

@@ -11,6 +11,8 @@ use std::io::Write;
 #[derive(Clone, Copy, PartialEq, Eq)]
 pub enum Form {
     Text,
+    /// Text, with what each reading cost.
+    Costs,
     /// One JSON object a line.
     Json,
 }
@@ -19,7 +21,7 @@ pub enum Form {
 pub fn opened(text: &str, form: Form) -> Result<Source, String> {
     files::source(text).map_err(|because| {
         let told = match form {
-            Form::Text => Ok(()),
+            Form::Text | Form::Costs => Ok(()),
             Form::Json => output::result(format!("{}\n", objects::refused(None, &because)).as_bytes()),
         };
         told.map_or_else(|lost| format!("{because}\n{lost}"), |()| because.clone())
@@ -42,6 +44,7 @@ impl<'s, W: Write> Teller<'s, W> {
     pub fn event(&mut self, event: &Event) -> Result<(), String> {
         let told = match self.form {
             Form::Text => text::event(&self.words, event),
+            Form::Costs => text::event(&self.words, event) + &text::cost(event),
             Form::Json => format!("{}\n", objects::event(&self.words, event)),
         };
         self.write(&told)
@@ -49,7 +52,7 @@ impl<'s, W: Write> Teller<'s, W> {
 
     pub fn ending(&mut self, ending: &Ending) -> Result<Status, String> {
         let told = match self.form {
-            Form::Text => format!("\n{}", text::ending(&self.words, ending, self.readings)),
+            Form::Text | Form::Costs => format!("\n{}", text::ending(&self.words, ending, self.readings)),
             Form::Json => format!("{}\n", objects::ending(&self.words, ending)),
         };
         self.write(&told)?;

@@ -10,7 +10,7 @@ use givuntha::{Breach, Parties, Refusal};
 
 /// The start or a reading.
 pub fn event(words: &Words, event: &Event) -> Json {
-    let mut members = vec![("number", Json::Number(i64::try_from(event.step.number).unwrap_or(i64::MAX)))];
+    let mut members = vec![("number", count(event.step.number))];
     members.extend(reading(words, event));
     let breach = breach_of(&event.step.verdict);
     members.extend([
@@ -18,6 +18,7 @@ pub fn event(words: &Words, event: &Event) -> Json {
         ("refusal", Json::optional(refusal_of(&event.step.verdict), refusal)),
         ("early", Json::Truth(event.step.early)),
         ("early_for", early_for(words, event)),
+        ("cost", Json::optional(event.step.cost, count)),
         ("breach", Json::optional(breach, |breach| told(words, &breach, &event.broken))),
         ("last_moved", Json::Number(event.last_moved.into())),
         ("last_moved_date", date(words, event.last_moved.into())),
@@ -152,6 +153,10 @@ fn date(words: &Words, minutes: i64) -> Json {
     } else {
         Json::Null
     }
+}
+
+fn count(count: u64) -> Json {
+    Json::Number(i64::try_from(count).unwrap_or(i64::MAX))
 }
 
 fn line(line: Option<usize>) -> Json {

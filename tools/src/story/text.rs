@@ -17,6 +17,11 @@ pub fn event(words: &Words, event: &Event) -> String {
     lines.join("\n") + "\n"
 }
 
+/// What a reading cost, as a line under it; the start has none.
+pub fn cost(event: &Event) -> String {
+    event.step.cost.map_or_else(String::new, |cost| format!("    cost    {cost}\n"))
+}
+
 fn changes(words: &Words, event: &Event) -> Vec<String> {
     match (&event.changes, &event.step.verdict) {
         (_, Verdict::Refused(_)) => Vec::new(),

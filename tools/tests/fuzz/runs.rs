@@ -91,6 +91,9 @@ pub fn run(random: &mut Random, corpus: &Corpus) -> bool {
     let Some((source, readings)) = prepared(random, corpus) else { return false };
     let (words, status) = written(&source, &readings, Form::Text);
     assert!(words.ends_with('\n') && words.chars().all(|c| c == '\n' || !c.is_control()), "{words:?}");
+    let (costs, same) = written(&source, &readings, Form::Costs);
+    let (costs, others): (Vec<&str>, Vec<&str>) = costs.lines().partition(|line| line.starts_with("    cost    "));
+    assert_eq!((costs.len(), others, same), (readings.len(), words.lines().collect(), status));
     let (objects, same) = written(&source, &readings, Form::Json);
     assert_eq!(status, same);
     let mut stream = source.assembled.bytes.clone();

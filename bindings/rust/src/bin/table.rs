@@ -24,7 +24,8 @@ fn run(input: &mut impl Read, output: &mut impl Write) -> Result<(), Box<dyn Err
     let mut table = Table::start(&agreement).map_err(|refusal| told("the agreement is", refusal))?;
     for n in 1u64.. {
         let Some(reading) = record::next(input)? else { break };
-        if let Err(refusal) = table.reading(&agreement, &reading) {
+        if let Err(refused) = table.reading(&agreement, &reading) {
+            let refusal = refused.refusal();
             eprintln!("table: {}", told(&format!("reading {n} is"), refusal));
             if refusal == Refusal::ReadingForm {
                 break;

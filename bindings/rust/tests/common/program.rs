@@ -1,6 +1,6 @@
 //! The paper's program `brinewatch` over this crate.
 
-use givuntha::{record, Refusal, State, Table};
+use givuntha::{record, Refusal, Refused, State, Table};
 
 /// What the program writes for an input.
 pub fn watch(mut input: &[u8]) -> String {
@@ -14,8 +14,8 @@ pub fn watch(mut input: &[u8]) -> String {
         let Some(reading) = next(&mut input) else { break };
         match table.reading(&agreement, &reading) {
             Ok(_) => written += &format!("{line} {} {}\n", time(&reading), verdict(&agreement, &table)),
-            Err(Refusal::ReadingForm) => return written + &format!("{line} - REFUSED 8\n"),
-            Err(refusal) => written += &format!("{line} {} REFUSED {}\n", time(&reading), refusal.number()),
+            Err(Refused::Other(Refusal::ReadingForm)) => return written + &format!("{line} - REFUSED 8\n"),
+            Err(refused) => written += &format!("{line} {} REFUSED {}\n", time(&reading), refused.number()),
         }
     }
     written

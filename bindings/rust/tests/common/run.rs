@@ -1,9 +1,6 @@
 //! An agreement under way.
 
-use givuntha::{Refusal, Table, Taken};
-
-/// The answer to a reading that is accepted and not too early.
-pub const TAKEN: Result<Taken, Refusal> = Ok(Taken { early: false });
+use givuntha::{Refused, Table, Taken};
 
 pub struct Run {
     pub agreement: Vec<u8>,
@@ -16,7 +13,7 @@ impl Run {
         Run { agreement, table }
     }
 
-    pub fn take(&mut self, record: &[u8]) -> Result<Taken, Refusal> {
+    pub fn take(&mut self, record: &[u8]) -> Result<Taken, Refused> {
         self.table.reading(&self.agreement, record)
     }
 }

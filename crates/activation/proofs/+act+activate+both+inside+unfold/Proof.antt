@@ -1,21 +1,31 @@
 -- Each activation within another falls in the pair of template number and clause size, or takes no reading where the
--- one around it did; what its answer says of a part is what the rules say of the whole.
+-- one around it did; what its answer says of a part, with the clause itself counted, is what the rules say of the
+-- whole.
 use Rattle.activation.proofs.Recursion.{ready-within, lighter-within, fits-within, ready-then, lighter-then}
-use Rattle.activation.proofs.Recursion.{fits-then, ready-body, lighter-body, is-as, is-ends, is-breaks, laid}
-use Rattle.activation.proofs.Recursion.{laid-length, fits-body}
+use Rattle.activation.proofs.Recursion.{fits-then, ready-body, lighter-body, fits-body, laid-length}
+use Rattle.activation.proofs.Recursion.{reckons-as, reckons-by, reckons-broken, reckons-waiting, reckons-laid}
 use Rattle.activation.proofs.Walks.{then-is}
-use Rattle.residues.proofs.Reduces.{is-counted}
+use Rattle.residues.proofs.Counts.{reckons-bounded, reckons-counted}
 use native.Mathlib.Nat.{add-sub-cancel-left}
 use native.Mathlib.Omega.{arith}
-use mathlib.Core.Path.{sym, _∙_}
+use mathlib.Core.Path.{_≡_, sym, ap, _∙_, subst}
+use mathlib.Core.List.{List}
+use lib.IntN.{ℤ}
 use lib.ListN.{length, take, drop, length-take}
 use lib.Seq.{length-take-le}
 use Rattle.csl.specs.Bytes.{part}
 use Rattle.arith.proofs.Lists.{length-part}
+use Rattle.csl.specs.Syntax as syntax
 use Rattle.csl.specs.Decode.{clause, headsOf}
-use Rattle.activation.specs.Leads.{Leads, Shaped, reduceAt, innerSite, weight}
+use Rattle.cells.specs.Reduce as cells
+use Rattle.residues.specs.Tallies.{Reckons, endedBy}
+use Rattle.cells.specs.Reduce.{unitOf}
+use Rattle.activation.specs.Leads.{Leads, Shaped, reckonAt, innerSite, weight}
+use Rattle.activation.specs.declared.Next.{Next}
+use Rattle.activation.specs.declared.Next.the-variants.{Takes}
+use Rattle.activation.specs.declared.Shape.{Shape}
 use borrow.Author.Needs.{needs}
-use Prim.Native.Nat.{ℕ, _<_, _+_, _-_, _*_}
+use Prim.Native.Nat.{ℕ, _≤_, _<_, _+_, _-_, _*_}
 use borrow.Fn.Kinds.{In}
 use borrow.Fn.PlainCycle.{Measures, is, falls, and}
 use Rattle.activation.proofs.act.Reads as act
@@ -39,7 +49,13 @@ use Rattle.records.proofs.value_count.Reads as value-count-reads
 use Rattle.activation.proofs.sites.then_event.Reads as then-event-reads
 use Rattle.activation.proofs.sites.then_site.Reads as then-site-reads
 use Rattle.records.proofs.body_span.Reads as body-reads
+use Rattle.residues.proofs.tallies.alone.Reads as alone-reads
+use Rattle.residues.proofs.tallies.beside_ended.Reads as beside-ended-reads
+use Rattle.residues.proofs.tallies.ended.Reads as ended-reads
+use Rattle.residues.proofs.tallies.ended_wait.Reads as ended-wait-reads
 use Rattle.residues.proofs.join.Reads as join-reads
+use Rattle.residues.proofs.tallies.join_tallies.Reads as join-tallies-reads
+use Rattle.residues.proofs.tallies.reached.Reads as reached-reads
 use Rattle.activation.proofs.leads.leads_to.Reads as leads-to-reads
 use Rattle.activation.proofs.leads.outline.Reads as outline-reads
 use Rattle.residues.proofs.put_unit.Reads as put-unit-reads
@@ -100,10 +116,16 @@ abbrev act-claims : ℕ → act-lts.Claims
 act-claims t = (
   leads-to-reads.Asked,
   leads-to-reads.Learnt,
+  ended-reads.Asked,
+  ended-reads.Learnt,
+  alone-reads.Asked,
+  alone-reads.Learnt,
   put-unit-reads.Asked,
   put-unit-reads.Learnt,
   inside-below t,
   inside.Post,
+  reached-reads.Asked,
+  reached-reads.Learnt,
   then-event-reads.Asked,
   then-event-reads.Learnt,
   byte-reads.Asked,
@@ -112,6 +134,8 @@ act-claims t = (
   then-site-reads.Learnt,
   activate-below t,
   activate.Post,
+  ended-wait-reads.Asked,
+  ended-wait-reads.Learnt,
   unfold-below t,
   unfold.Post,
 )
@@ -120,8 +144,12 @@ abbrev activate-claims : ℕ → activate-lts.Claims
 activate-claims t = (
   outline-reads.Asked,
   outline-reads.Learnt,
+  ended-reads.Asked,
+  ended-reads.Learnt,
   inside-below t,
   inside.Post,
+  beside-ended-reads.Asked,
+  beside-ended-reads.Learnt,
   both-below t,
   both.Post,
   act-below t,
@@ -136,6 +164,8 @@ both-claims t = (
   activate.Post,
   room-left-reads.Asked,
   room-left-reads.Learnt,
+  join-tallies-reads.Asked,
+  join-tallies-reads.Learnt,
   join-reads.Asked,
   join-reads.Learnt,
 )
@@ -157,465 +187,425 @@ unfold-claims t = (
   activate.Post,
 )
 
-act-put-unit-requires : (t : ℕ) → act-lts.Need-put-unit-requires (act-claims t) (act-at t) act.Post
-unfolding Leads
-act-put-unit-requires t c κs =
-    let at-leads-to = c .before .before .before .before .before in
-    let s = c .before .before .before .before .before .before .before .before .before .before in
-    let r = s .pre .1 .0 in
-    let f = s .pre .1 .1 in
-    let g = rw (c .before .before .sort .given .1) at (at-leads-to .leads-to .ensures) in (
-      omega (arith, g .1),
-      omega (arith, f .inside, f .near),
-      omega (arith, r .soon),
-      omega (arith, r .params),
-      r .values,
-    )
+-- ---- act, once it is known what the clause leads to
+-- what a wait makes of its `then` or its else
+abbrev later : cells.Reckoned → cells.Reckoned
+later x = cells.reaches (cells.becomes x)
 
-act-inside-requires : (t : ℕ) → act-lts.Need-inside-requires (act-claims t) (act-at t) act.Post
-unfolding Leads
-act-inside-requires t c κs =
-    let at-leads-to = c .before .before .before .before .before in
-    let s = c .before .before .before .before .before .before .before .before .before .before in
-    let r = s .pre .1 .0 in
-    let f = s .pre .1 .1 in
-    let g = rw (c .before .before .x .given .1) at (at-leads-to .leads-to .ensures) in
-    (omega (arith, s .pre .0), (r, f, g .deep, g .order, g .inside, g .soon))
+module _ (t : ℕ) where
+  abbrev Led : Type 0
+  Led = act-lts.After-cells2 (act-claims t) (act-at t) act.Post
 
-act-then-site-requires : (t : ℕ) → act-lts.Need-then-site-requires (act-claims t) (act-at t) act.Post
-unfolding Leads
-act-then-site-requires t c κs =
-    let at-x2 = c .before .before .before in
-    let at-leads-to = at-x2 .before .before .before in
-    let s = c .before .before .before .before .before .before .before .before .before .before .before in
-    let r = s .pre .1 .0 in
-    let f = s .pre .1 .1 in
-    let g = rw (at-x2 .x2 .given .1) at (at-leads-to .leads-to .ensures) in
-    (g .deep, omega (arith, g .order, g .inside, f .inside, f .near))
+  abbrev acting : Led → act-lts.Start (act-claims t) (act-at t) act.Post
+  acting c = c .before .before .before .before .before .before
 
-act-array-share-prefix-cells : (t : ℕ) → act-lts.Need-array-share-prefix-cells (act-claims t) (act-at t) act.Post
-unfolding Leads
-act-array-share-prefix-cells t c =
-    let at-x2 = c .before .before .before .before in
-    let at-leads-to = at-x2 .before .before .before in
-    let s = c .before .before .before .before .before .before .before .before .before .before .before .before in
-    let r = s .pre .1 .0 in
-    let f = s .pre .1 .1 in
-    let g = rw (at-x2 .x2 .given .1) at (at-leads-to .leads-to .ensures) in
-    omega (arith, g .few, at-leads-to .leads-to .kept .1 .1 .1 .1 .1 .1 .1 .1 .0)
+  -- the cells that `leads_to` has written
+  abbrev given : Led → List ℤ
+  given c = c .before .leads-to .last .1 .1 .1 .1 .1 .1 .1 .1 .0
 
-act-slice-aggregate-us : (t : ℕ) → act-lts.Need-slice-aggregate-us (act-claims t) (act-at t) act.Post
-unfolding Leads
-act-slice-aggregate-us t c =
-    let at-x2 = c .before .before .before .before .before in
-    let at-leads-to = at-x2 .before .before .before in
-    let s = c .before .before .before .before .before .before .before .before .before .before .before .before
-    .before in
-    let r = s .pre .1 .0 in
-    let f = s .pre .1 .1 in
-    let g = rw (at-x2 .x2 .given .1) at (at-leads-to .leads-to .ensures) in
-    sym (length-take-le (at-x2 .x2 .given .0 .1 .1 .0) (at-leads-to .leads-to .last .1 .1 .1 .1 .1 .1 .1 .1 .0)
-    (omega (arith, g .few, at-leads-to .leads-to .kept .1 .1 .1 .1 .1 .1 .1 .1 .0)))
+  abbrev LedTo : Led → Next → Type 0
+  LedTo c n = let s = acting c .args in
+      Leads (s .event) (s .rs .now) (s .agreement .now) (s .site .below) (s .s .now) (s .site .place) (s .ps .now)
+      (s .vs .now) (s .site .a) (s .site .depth)
+      (clause (headsOf (s .agreement .now)) (s .site .depth) (s .site .place) (s .s .now)) (given c) n
 
-act-sub-activate : (t : ℕ) → act-lts.Need-sub-activate (act-claims t) (act-at t) act.Post
-unfolding Leads
-act-sub-activate t c =
-    let at-x2 = c .before .before .before .before .before in
-    let at-leads-to = at-x2 .before .before .before in
-    let s = c .before .before .before .before .before .before .before .before .before .before .before .before
-    .before in
-    let r = s .pre .1 .0 in
-    let f = s .pre .1 .1 in
-    let g = rw (at-x2 .x2 .given .1) at (at-leads-to .leads-to .ensures) in
-    g .order
+  led-to : (c : Led) {n : Next} → c .before .leads-to .result ≡ n → LedTo c n
+  led-to c e = rw e at (c .before .leads-to .ensures)
 
-act-part-activate-start : (t : ℕ) → act-lts.Need-part-activate-start (act-claims t) (act-at t) act.Post
-unfolding Leads
-act-part-activate-start t c =
-    let at-x2 = c .before .before .before .before .before in
-    let at-leads-to = at-x2 .before .before .before in
-    let s = c .before .before .before .before .before .before .before .before .before .before .before .before
-    .before in
-    let r = s .pre .1 .0 in
-    let f = s .pre .1 .1 in
-    let g = rw (at-x2 .x2 .given .1) at (at-leads-to .leads-to .ensures) in
-    g .order
+  act-put-unit-requires : act-lts.Need-put-unit-requires (act-claims t) (act-at t) act.Post
+  unfolding Leads
+  act-put-unit-requires c κs =
+      let at-sort = c .before .before in
+      let led = at-sort .before .before in
+      let r = acting led .pre .1 .0 in
+      let f = acting led .pre .1 .1 in
+      let g = led-to led (at-sort .sort .given .1) in (
+        omega (arith, g .1),
+        omega (arith, f .inside, f .near),
+        omega (arith, r .soon),
+        omega (arith, r .params),
+        r .values,
+      )
 
-act-part-activate-end : (t : ℕ) → act-lts.Need-part-activate-end (act-claims t) (act-at t) act.Post
-unfolding Leads
-act-part-activate-end t c =
-    let at-x2 = c .before .before .before .before .before in
-    let at-leads-to = at-x2 .before .before .before in
-    let s = c .before .before .before .before .before .before .before .before .before .before .before .before
-    .before in
-    let r = s .pre .1 .0 in
-    let f = s .pre .1 .1 in
-    let g = rw (at-x2 .x2 .given .1) at (at-leads-to .leads-to .ensures) in
-    g .inside
+  act-inside-requires : act-lts.Need-inside-requires (act-claims t) (act-at t) act.Post
+  unfolding Leads
+  act-inside-requires c κs =
+      let at-x = c .before .before in
+      let s = acting (at-x .before .before) in
+      let g = led-to (at-x .before .before) (at-x .x .given .1) in
+      (omega (arith, s .pre .0), (s .pre .1 .0, s .pre .1 .1, g .deep, g .order, g .inside, g .soon))
 
-act-activate-requires : (t : ℕ) → act-lts.Need-activate-requires (act-claims t) (act-at t) act.Post
-unfolding Leads
-act-activate-requires t c κs =
-    let at-then-site = c .before .before .before in
-    let at-x2 = at-then-site .before .before .before .before in
-    let at-leads-to = at-x2 .before .before .before in
-    let s = c .before .before .before .before .before .before .before .before .before .before .before .before
-    .before .before .before in
-    let r = s .pre .1 .0 in
-    let f = s .pre .1 .1 in
-    let g = rw (at-x2 .x2 .given .1) at (at-leads-to .leads-to .ensures) in
-    let e = at-then-site .before .before .then-event .ensures in
-    let h = at-then-site .then-site .ensures in
-    let n = at-then-site .before .byte .ensures .0 in (
+  -- a `then`: its part of the record, and its values
+  abbrev Taking : Type 0
+  Taking = act-lts.After-from (act-claims t) (act-at t) act.Post
+
+  abbrev thenFrom : Taking → ℕ
+  thenFrom c = c .from .given .0 .0
+
+  abbrev thenTo : Taking → ℕ
+  thenTo c = c .from .given .0 .1 .0
+
+  abbrev thenCount : Taking → ℕ
+  thenCount c = c .from .given .0 .1 .1 .0
+
+  taken : (c : Taking) → LedTo (c .before .before) (Takes (thenFrom c) (thenTo c) (thenCount c))
+  taken c = led-to (c .before .before) (c .from .given .1)
+
+  then-order : (c : Taking) → thenFrom c ≤ thenTo c
+  unfolding Leads
+  then-order c = taken c .order
+
+  then-inside : (c : Taking) → thenTo c ≤ length (acting (c .before .before) .args .s .now)
+  unfolding Leads
+  then-inside c = taken c .inside
+
+  then-few : (c : Taking) → thenCount c ≤ length (given (c .before .before))
+  unfolding Leads
+  then-few c = omega (arith, taken c .few, c .before .before .before .leads-to .kept .1 .1 .1 .1 .1 .1 .1 .1 .0)
+
+  act-then-site-requires : act-lts.Need-then-site-requires (act-claims t) (act-at t) act.Post
+  unfolding Leads
+  act-then-site-requires c κs =
+      let at-from = c .before .before .before in
+      let f = acting (at-from .before .before) .pre .1 .1 in
+      (taken at-from .deep, omega (arith, then-order at-from, then-inside at-from, f .inside, f .near))
+
+  act-slice-aggregate-us : act-lts.Need-slice-aggregate-us (act-claims t) (act-at t) act.Post
+  act-slice-aggregate-us c =
+      let at-from = c .before .before .before .before .before in
+      sym (length-take-le (thenCount at-from) (given (at-from .before .before)) (then-few at-from))
+
+  act-activate-requires : act-lts.Need-activate-requires (act-claims t) (act-at t) act.Post
+  unfolding Leads
+  act-activate-requires c κs =
+      let at-then-site = c .before .before .before in
+      let at-from = at-then-site .before .before .before .before in
+      let led = at-from .before .before in
+      let s = acting led in
+      let r = s .pre .1 .0 in
+      let f = s .pre .1 .1 in
+      let g = taken at-from in
+      let x = thenFrom at-from in
+      let y = thenTo at-from in
+      let e = at-then-site .before .before .then-event .ensures in
+      let h = at-then-site .then-site .ensures in
+      let n = at-then-site .before .byte .ensures .0 in (
+        omega (
+          arith,
+          s .pre .0,
+          lighter-then r x e h n (g .deep) (g .follows) (length (part (s .args .s .now) x y)) (length (s .args .s .now))
+              (omega (arith, length-part (s .args .s .now) x y (g .inside), f .inside, f .near)),
+        ),
+        (
+          ready-then r x e h n (g .deep) (omega (arith, length-take (thenCount at-from) (given led), g .few)),
+          fits-then f h (g .order) (g .inside) (omega arith),
+        ),
+      )
+
+  act-inside-requires-2 : act-lts.Need-inside-requires-2 (act-claims t) (act-at t) act.Post
+  unfolding Leads
+  act-inside-requires-2 c κs =
+      let at-x2 = c .before .before in
+      let s = acting (at-x2 .before .before) in
+      let g = led-to (at-x2 .before .before) (at-x2 .x2 .given .1) in
+      (omega (arith, s .pre .0), (s .pre .1 .0, s .pre .1 .1, g .deep, g .order, g .inside, g .soon))
+
+  act-unfold-requires : act-lts.Need-unfold-requires (act-claims t) (act-at t) act.Post
+  unfolding Leads
+  act-unfold-requires c κs =
+      let at-k = c .before .before .before in
+      let led = at-k .before .before in
+      let s = acting led in
+      let r = s .pre .1 .0 in
+      let f = s .pre .1 .1 in (
+        omega (arith, s .pre .0),
+        (
+          record {
+            indexed = r .indexed;
+            few = r .few;
+            params = omega arith;
+            values = omega arith;
+            reading = r .reading;
+            shallow = r .shallow;
+            soon = r .soon;
+            dated = r .dated;
+          },
+          record { inside = omega (arith, f .inside); near = f .near; room = f .room },
+          led-to led (at-k .k .given .1) .less,
+          led .before .leads-to .kept .1 .1 .1 .1 .1 .1 .1 .1 .0,
+        ),
+      )
+
+  act-returns : act-lts.Need-returns (act-claims t) (act-at t) act.Post
+  unfolding Leads
+  act-returns c =
+      let led = c .before .before .before in
+      reckons-as (led-to led (c .before .enum-told .given .1)) (c .ended .ensures (acting led .args .out .now))
+
+  act-returns-2 : act-lts.Need-returns-2 (act-claims t) (act-at t) act.Post
+  unfolding Leads
+  act-returns-2 c =
+      let at-t = c .before .before in
+      let led = at-t .before .before in
+      reckons-broken (c .alone .ensures) (acting led .args .out .now) (c .before .known-told .given .0 .1)
+      (led-to led (at-t .t .given .1))
+
+  act-returns-3 : act-lts.Need-returns-3 (act-claims t) (act-at t) act.Post
+  unfolding Leads
+  act-returns-3 c =
+      let put-unit = c .before .before .put-unit in
+      let at-sort = c .before .before .before .before .before in
+      let led = at-sort .before .before in
+      let s = acting led .args in
+      reckons-waiting (c .alone2 .ensures) (put-unit .last .0)
+      (unitOf (at-sort .sort .given .0 .0) (s .site .place) (s .site .a) (s .ps .now) (s .vs .now))
+      (led-to led (at-sort .sort .given .1) .0) (put-unit .ensures)
+
+  act-returns-4 : act-lts.Need-returns-4 (act-claims t) (act-at t) act.Post
+  unfolding Leads
+  act-returns-4 c =
+      let at-x = c .before .before .before .before .before in
+      reckons-by cells.reaches (led-to (at-x .before .before) (at-x .x .given .1) .is)
+      (c .before .before .inside .ensures) (search needs)
+
+  act-returns-5 : act-lts.Need-returns-5 (act-claims t) (act-at t) act.Post
+  unfolding Leads
+  act-returns-5 c =
+      let at-then-site = c .before .before .before .before .before .before in
+      let at-from = at-then-site .before .before .before .before in
+      let led = at-from .before .before in
+      let s = acting led .args in
+      let ag = s .agreement .now in
+      let x = thenFrom at-from in
+      let activated = then-is ag (clause (headsOf ag) (s .site .depth - 1) (s .site .place + x)
+      (part (s .s .now) x (thenTo at-from))) (s .ps .now) (take (thenCount at-from) (given led)) (s .event .time) in
+      reckons-by later (taken at-from .is ∙ ap later activated)
+      (rw (
+        at-then-site .before .before .then-event .ensures,
+        at-then-site .then-site .ensures,
+        at-then-site .before .byte .ensures .0,
+      ) at (c .before .before .activate .ensures)) (search needs)
+
+  act-returns-6 : act-lts.Need-returns-6 (act-claims t) (act-at t) act.Post
+  unfolding Leads
+  act-returns-6 c =
+      let at-x2 = c .before .before .before .before .before in
+      reckons-by later (led-to (at-x2 .before .before) (at-x2 .x2 .given .1) .is)
+      (c .before .before .inside2 .ensures) (search needs)
+
+  act-returns-7 : act-lts.Need-returns-7 (act-claims t) (act-at t) act.Post
+  unfolding Leads
+  act-returns-7 c =
+      let at-k = c .before .before .before .before .before .before in
+      reckons-by cells.reaches (led-to (at-k .before .before) (at-k .k .given .1) .is)
+      (c .before .before .«unfold» .ensures) (search needs)
+
+-- ---- activate, once it is known what the record shows
+module _ (t : ℕ) where
+  abbrev Seen : Type 0
+  Seen = activate-lts.After-outline (activate-claims t) (activate-at t) activate.Post
+
+  abbrev activating : Seen → activate-lts.Start (activate-claims t) (activate-at t) activate.Post
+  activating c = c .before .before .before .before
+
+  abbrev Shows : Seen → Shape → Type 0
+  Shows c r = let s = activating c .args in
+      Shaped (s .event) (s .rs .now) (s .agreement .now) (s .site .below) (s .s .now) (s .site .place) (s .ps .now)
+      (s .vs .now) (s .site .a) (s .site .depth)
+      (clause (headsOf (s .agreement .now)) (s .site .depth) (s .site .place) (s .s .now)) r
+
+  shown : (c : Seen) {r : Shape} → c .outline .result ≡ r → Shows c r
+  shown c e = let s = activating c .args in
+      subst (Shows c) e (c .outline .ensures (s .event) (s .rs .now) (s .agreement .now) (s .site .below)
+      (s .site .place) (s .ps .now) (s .vs .now) (s .site .a))
+
+  activate-ended-requires : activate-lts.Need-ended-requires (activate-claims t) (activate-at t) activate.Post
+  unfolding Shaped
+  activate-ended-requires c κs =
+      let at-n = c .before in
+      omega (arith, shown (at-n .before .before) (at-n .n .given .1) .1)
+
+  activate-inside-requires : activate-lts.Need-inside-requires (activate-claims t) (activate-at t) activate.Post
+  unfolding Shaped
+  activate-inside-requires c κs =
+      let at-x = c .before .before in
+      let s = activating (at-x .before .before) in
+      let g = shown (at-x .before .before) (at-x .x .given .1) in
+      (omega (arith, s .pre .0), (s .pre .1 .0, s .pre .1 .1, g .deep, g .order, g .inside, g .soon))
+
+  activate-both-requires : activate-lts.Need-both-requires (activate-claims t) (activate-at t) activate.Post
+  unfolding Shaped
+  activate-both-requires c κs =
+      let at-k = c .before .before in
+      let s = activating (at-k .before .before) in
+      let g = shown (at-k .before .before) (at-k .k .given .1) in (
+        omega (arith, s .pre .0),
+        (
+          s .pre .1 .0,
+          s .pre .1 .1,
+          record { deep = g .deep; from = g .from; to = g .to; order = g .order; inside = g .inside },
+        ),
+      )
+
+  activate-act-requires : activate-lts.Need-act-requires (activate-claims t) (activate-at t) activate.Post
+  unfolding Shaped
+  activate-act-requires c κs =
+      let seen = c .before .before .before in
+      let s = activating seen in
+      (omega (arith, s .pre .0), (s .pre .1 .0, s .pre .1 .1, shown seen (c .before .enum-told .given .1)))
+
+  activate-returns : activate-lts.Need-returns (activate-claims t) (activate-at t) activate.Post
+  unfolding Shaped
+  activate-returns c =
+      let at-n = c .before .before in
+      let seen = at-n .before .before in
+      reckons-as (shown seen (at-n .n .given .1) .0) (c .ended .ensures (activating seen .args .out .now))
+
+  activate-returns-2 : activate-lts.Need-returns-2 (activate-claims t) (activate-at t) activate.Post
+  unfolding Shaped
+  activate-returns-2 c =
+      let at-x = c .before .before .before .before .before in
+      reckons-by (λ x. cells.reaches (cells.joins syntax.and (endedBy 1) x))
+      (shown (at-x .before .before) (at-x .x .given .1) .is) (c .before .before .inside .ensures) (search needs)
+
+  activate-returns-3 : activate-lts.Need-returns-3 (activate-claims t) (activate-at t) activate.Post
+  unfolding Shaped
+  activate-returns-3 c =
+      let at-k = c .before .before .before .before in
+      reckons-as (shown (at-k .before .before) (at-k .k .given .1) .is) (c .before .both .ensures)
+
+-- ---- both: the right side's answer, then the left side's
+module _ (t : ℕ) where
+  abbrev Right : Type 0
+  Right = both-lts.After-activate (both-claims t) (both-at t) both.Post
+
+  abbrev Left : Type 0
+  Left = both-lts.After-activate2 (both-claims t) (both-at t) both.Post
+
+  abbrev joining : Right → both-lts.Start (both-claims t) (both-at t) both.Post
+  joining c = c .before .before .before .before .before .before .before
+
+  abbrev rightOut : Right → List ℤ
+  rightOut c = c .activate .last .1 .1 .1 .1 .1 .1 .1 .1 .0
+
+  abbrev leftOut : Left → List ℤ
+  leftOut c = c .activate2 .last .1 .1 .1 .1 .1 .1 .1 .1 .0
+
+  abbrev rightOf : Left → Right
+  rightOf c = c .before .before .before .before .before .before
+
+  right-room : (c : Right) → length (rightOut c) ≤ 3072
+  right-room c = omega (arith, joining c .pre .1 .1 .room, c .activate .kept .1 .1 .1 .1 .1 .1 .1 .1 .0)
+
+  -- what the side at x does
+  abbrev does : Right → ℕ → List ℕ → cells.Reckoned
+  does c x bytes = let s = joining c .args in
+      reckonAt (s .event) (s .rs .now) (s .agreement .now) (innerSite (s .site) x (s .site .a)) bytes (s .ps .now)
+      (s .vs .now)
+
+  right-answer : (c : Right) → let s = joining c .args in
+      Reckons (does c (s .f) (part (s .s .now) (s .f) (length (s .s .now)))) (c .activate .result) (rightOut c)
+  right-answer c = rw (c .before .before .before .inner-site .ensures) at (c .activate .ensures)
+
+  left-answer : (c : Left) → let s = joining (rightOf c) .args in
+      Reckons (does (rightOf c) 4 (part (s .s .now) 4 (s .f))) (c .activate2 .result) (leftOut c)
+  left-answer c = rw (c .before .before .before .inner-site2 .ensures) at (c .activate2 .ensures)
+
+  left-room : (c : Left) → length (leftOut c) ≡ c .before .before .before .before .room-left .result
+  left-room c =
+      let room = c .before .before .before .before .room-left in
       omega (
         arith,
-        s .pre .0,
-        lighter-then r (at-x2 .x2 .given .0 .0) e h n (g .deep) (g .follows)
-            (length (part (s .args .s .now) (at-x2 .x2 .given .0 .0) (at-x2 .x2 .given .0 .1 .0)))
-            (length (s .args .s .now)) (omega (
-              arith,
-              length-part (s .args .s .now) (at-x2 .x2 .given .0 .0)
-                  (at-x2 .x2 .given .0 .1 .0) (g .inside),
-              f .inside,
-              f .near,
-            )),
-      ),
-      (
-        ready-then r (at-x2 .x2 .given .0 .0) e h n (g .deep)
-            (omega (
-              arith,
-              length-take (at-x2 .x2 .given .0 .1 .1 .0)
-                  (at-leads-to .leads-to .last .1 .1 .1 .1 .1 .1 .1 .1 .0),
-              g .few,
-            )),
-        fits-then f h (g .order) (g .inside)
-            (omega arith),
-      ),
-    )
+        length-take (room .result) (rightOut (rightOf c)),
+        room .ensures .1,
+        c .activate2 .kept .1 .1 .1 .1 .1 .1 .1 .1 .0,
+      )
 
-act-unfold-requires : (t : ℕ) → act-lts.Need-unfold-requires (act-claims t) (act-at t) act.Post
-unfolding Leads
-act-unfold-requires t c κs =
-    let at-k = c .before .before .before in
-    let at-leads-to = at-k .before .before .before in
-    let s = c .before .before .before .before .before .before .before .before .before .before .before in
-    let r = s .pre .1 .0 in
-    let f = s .pre .1 .1 in
-    let g = rw (at-k .k .given .1) at (at-leads-to .leads-to .ensures) in (
-      omega (arith, s .pre .0),
-      (
-        record {
-          indexed = r .indexed;
-          few = r .few;
-          params = omega arith;
-          values = omega
-              arith;
-          reading = r .reading;
-          shallow = r .shallow;
-          soon = r .soon;
-          dated = r .dated;
-        },
-        record
-            { inside = omega (arith, f .inside); near = f .near; room = f .room },
-        g .less,
-        at-leads-to .leads-to .kept .1 .1 .1 .1 .1 .1 .1 .1 .0,
-      ),
-    )
+  both-activate-requires : both-lts.Need-activate-requires (both-claims t) (both-at t) both.Post
+  both-activate-requires c κs =
+      let s = c .before .before .before .before .before .before in
+      let r = s .pre .1 .0 in
+      let d = s .pre .1 .2 in
+      let e = c .before .before .inner-site .ensures in
+      let bytes = s .args .s .now in (
+        omega (
+          arith,
+          s .pre .0,
+          lighter-within r (s .args .f) e (d .deep) (length (part bytes (s .args .f) (length bytes))) (length bytes)
+              (omega (
+                arith,
+                length-part bytes (s .args .f) (length bytes) (omega arith),
+                d .order,
+                d .inside,
+              )),
+        ),
+        (
+          ready-within r (s .args .f) e (d .deep) (omega arith),
+          fits-within (s .pre .1 .1) e (d .inside) (omega arith) (omega arith),
+        ),
+      )
 
-act-returns : (t : ℕ) → act-lts.Need-returns (act-claims t) (act-at t) act.Post
-unfolding Leads
-act-returns t c =
-    let at-leads-to = c .before .before .before in
-    let s = c .before .before .before .before .before .before .before .before in
-    let r = s .pre .1 .0 in
-    let f = s .pre .1 .1 in
-    let g = rw (c .enum-told .given .1) at (at-leads-to .leads-to .ensures) in
-    is-ends (s .args .out .now) g
+  both-slice-aggregate-activate : both-lts.Need-slice-aggregate-activate (both-claims t) (both-at t) both.Post
+  both-slice-aggregate-activate c =
+      let at-room-left = c .before .before .before in
+      sym (length-take-le (at-room-left .room-left .result) (rightOut (at-room-left .before .before))
+      (omega (arith, at-room-left .room-left .ensures .1)))
 
-act-returns-2 : (t : ℕ) → act-lts.Need-returns-2 (act-claims t) (act-at t) act.Post
-unfolding Leads
-act-returns-2 t c =
-    let at-leads-to = c .before .before .before .before in
-    let s = c .before .before .before .before .before .before .before .before .before in
-    let r = s .pre .1 .0 in
-    let f = s .pre .1 .1 in
-    let g = rw (c .before .t .given .1) at (at-leads-to .leads-to .ensures) in
-    is-breaks (s .args .out .now) (c .known-told .given .0 .1) g
+  both-activate-requires-2 : both-lts.Need-activate-requires-2 (both-claims t) (both-at t) both.Post
+  both-activate-requires-2 c κs =
+      let at-room-left = c .before .before .before in
+      let right = at-room-left .before .before in
+      let s = joining right in
+      let r = s .pre .1 .0 in
+      let d = s .pre .1 .2 in
+      let e = c .before .before .inner-site2 .ensures in
+      let bytes = s .args .s .now in (
+        omega (
+          arith,
+          s .pre .0,
+          lighter-within r 4 e (d .deep) (length (part bytes 4 (s .args .f))) (length bytes)
+              (omega (arith, length-part bytes 4 (s .args .f) (d .inside), d .order, d .inside)),
+        ),
+        (
+          ready-within r 4 e (d .deep) (omega arith),
+          fits-within (s .pre .1 .1) e (d .order) (d .inside)
+              (omega (
+                arith,
+                length-take (at-room-left .room-left .result) (rightOut right),
+                right .activate .kept .1 .1 .1 .1 .1 .1 .1 .1 .0,
+              )),
+        ),
+      )
 
-act-returns-3 : (t : ℕ) → act-lts.Need-returns-3 (act-claims t) (act-at t) act.Post
-unfolding Leads
-act-returns-3 t c =
-    let put-unit = c .before .put-unit in
-    let at-sort = c .before .before .before .before in
-    let at-leads-to = at-sort .before .before .before in
-    let s = c .before .before .before .before .before .before .before .before .before .before .before .before in
-    let r = s .pre .1 .0 in
-    let f = s .pre .1 .1 in
-    let g = rw (at-sort .sort .given .1) at (at-leads-to .leads-to .ensures) in
-    is-as (put-unit .result) (put-unit .last .0) (g .0) (put-unit .ensures)
+  both-join-tallies-requires : both-lts.Need-join-tallies-requires (both-claims t) (both-at t) both.Post
+  both-join-tallies-requires c κs =
+      let left = c .before in
+      let right = rightOf left in
+      let d = joining right .pre .1 .2 in
+      (d .from, d .to, reckons-bounded (left-answer left), reckons-bounded (right-answer right))
 
-act-returns-4 : (t : ℕ) → act-lts.Need-returns-4 (act-claims t) (act-at t) act.Post
-unfolding Leads
-act-returns-4 t c =
-    let inside = c .before .inside in
-    let at-x = c .before .before .before .before in
-    let at-leads-to = at-x .before .before .before in
-    let g = rw (at-x .x .given .1) at (at-leads-to .leads-to .ensures) in
-    is-as (inside .result) (inside .last .1 .1 .1 .1 .1 .1 .1 .1 .1 .1 .1 .0) (g .is) (inside .ensures)
+  both-join-requires : both-lts.Need-join-requires (both-claims t) (both-at t) both.Post
+  both-join-requires c κs =
+      let left = c .before .before .before in
+      let right = rightOf left in
+      let room = left .before .before .before .before .room-left in
+      let d = joining right .pre .1 .2 in (
+        d .from,
+        d .to,
+        reckons-counted (left-answer left),
+        reckons-counted (right-answer right),
+        rw (laid-length (rightOut right) (leftOut left) (right .activate .result .outcome) (room .result)
+            (room .ensures .0) (room .ensures .1) (left-room left) (right-room right)) (right-room right),
+      )
 
-act-returns-5 : (t : ℕ) → act-lts.Need-returns-5 (act-claims t) (act-at t) act.Post
-unfolding Leads
-act-returns-5 t c =
-    let activate = c .before .activate in
-    let at-then-site = c .before .before .before .before .before in
-    let at-x2 = at-then-site .before .before .before .before in
-    let at-leads-to = at-x2 .before .before .before in
-    let s = c .before .before .before .before .before .before .before .before .before .before .before .before
-    .before .before .before .before .before in
-    let r = s .pre .1 .0 in
-    let f = s .pre .1 .1 in
-    let g = rw (at-x2 .x2 .given .1) at (at-leads-to .leads-to .ensures) in
-    is-as (activate .result) (activate .last .1 .1 .1 .1 .1 .1 .1 .1 .0)
-    (g .is ∙ then-is (s .args .agreement .now)
-    (clause (headsOf (s .args .agreement .now)) (s .args .site .depth - 1)
-    (s .args .site .place + (at-x2 .x2 .given .0 .0))
-    (part (s .args .s .now) (at-x2 .x2 .given .0 .0) (at-x2 .x2 .given .0 .1 .0))) (s .args .ps .now)
-    (take (at-x2 .x2 .given .0 .1 .1 .0) (at-leads-to .leads-to .last .1 .1 .1 .1 .1 .1 .1 .1 .0))
-    (s .args .event .time)) (rw (
-      at-then-site .before .before .then-event .ensures,
-      at-then-site .then-site .ensures,
-      at-then-site .before .byte .ensures .0,
-    ) at (activate .ensures))
-
-act-returns-6 : (t : ℕ) → act-lts.Need-returns-6 (act-claims t) (act-at t) act.Post
-unfolding Leads
-act-returns-6 t c =
-    let at-k = c .before .before .before .before .before in
-    let at-leads-to = at-k .before .before .before in
-    let s = c .before .before .before .before .before .before .before .before .before .before .before .before
-    .before in
-    let r = s .pre .1 .0 in
-    let f = s .pre .1 .1 in
-    let g = rw (at-k .k .given .1) at (at-leads-to .leads-to .ensures) in
-    is-as (c .before .«unfold» .result) (c .before .«unfold» .last .1 .1 .1 .1 .1 .1 .1 .0) (g .is)
-    (c .before .«unfold» .ensures)
-
-activate-inside-requires : (t : ℕ) → activate-lts.Need-inside-requires (activate-claims t) (activate-at t) activate.Post
-unfolding Shaped
-activate-inside-requires t c κs =
-    let at-outline = c .before .before .before .before in
-    let s = c .before .before .before .before .before .before .before .before in
-    let r = s .pre .1 .0 in
-    let f = s .pre .1 .1 in
-    let g = rw (c .before .before .x .given .1) at
-    (at-outline .outline .ensures (s .args .event) (s .args .rs .now) (s .args .agreement .now)
-    (s .args .site .below) (s .args .site .place) (s .args .ps .now) (s .args .vs .now) (s .args .site .a)) in
-    (omega (arith, s .pre .0), (r, f, g .deep, g .order, g .inside, g .soon))
-
-activate-both-requires : (t : ℕ) → activate-lts.Need-both-requires (activate-claims t) (activate-at t) activate.Post
-unfolding Shaped
-activate-both-requires t c κs =
-    let at-outline = c .before .before .before .before in
-    let s = c .before .before .before .before .before .before .before .before in
-    let r = s .pre .1 .0 in
-    let f = s .pre .1 .1 in
-    let g = rw (c .before .before .k .given .1) at
-    (at-outline .outline .ensures (s .args .event) (s .args .rs .now) (s .args .agreement .now)
-    (s .args .site .below) (s .args .site .place) (s .args .ps .now) (s .args .vs .now) (s .args .site .a)) in (
-      omega (arith, s .pre .0),
-      (
-        r,
-        f,
-        record
-            { deep = g .deep; from = g .from; to = g .to; order = g .order; inside = g .inside },
-      ),
-    )
-
-activate-act-requires : (t : ℕ) → activate-lts.Need-act-requires (activate-claims t) (activate-at t) activate.Post
-unfolding Shaped
-activate-act-requires t c κs =
-    let at-outline = c .before .before .before in
-    let s = c .before .before .before .before .before .before .before in
-    let r = s .pre .1 .0 in
-    let f = s .pre .1 .1 in
-    let g = rw (c .before .enum-told2 .given .1) at
-    (at-outline .outline .ensures (s .args .event) (s .args .rs .now) (s .args .agreement .now)
-    (s .args .site .below) (s .args .site .place) (s .args .ps .now) (s .args .vs .now) (s .args .site .a)) in
-    (omega (arith, s .pre .0), (r, f, g))
-
-activate-returns : (t : ℕ) → activate-lts.Need-returns (activate-claims t) (activate-at t) activate.Post
-unfolding Shaped
-activate-returns t c =
-    let s = c .before .before .before .before .before .before in let r = s .pre .1 .0 in let f = s .pre .1 .1 in let
-    g = rw (c .enum-told .given .1) at (c .before .before .outline .ensures (s .args .event) (s .args .rs .now)
-    (s .args .agreement .now) (s .args .site .below) (s .args .site .place) (s .args .ps .now)
-    (s .args .vs .now) (s .args .site .a)) in is-ends (s .args .out .now) g
-
-activate-returns-2 : (t : ℕ) → activate-lts.Need-returns-2 (activate-claims t) (activate-at t) activate.Post
-unfolding Shaped
-activate-returns-2 t c =
-    let inside = c .before .inside in
-    let at-x = c .before .before .before .before in
-    let s = c .before .before .before .before .before .before .before .before .before .before in
-    let g = rw (at-x .x .given .1) at (at-x .before .before .outline .ensures (s .args .event) (s .args .rs .now)
-    (s .args .agreement .now) (s .args .site .below) (s .args .site .place) (s .args .ps .now)
-    (s .args .vs .now) (s .args .site .a)) in
-    is-as (inside .result) (inside .last .1 .1 .1 .1 .1 .1 .1 .1 .1 .1 .1 .0) (g .is) (inside .ensures)
-
-activate-returns-3 : (t : ℕ) → activate-lts.Need-returns-3 (activate-claims t) (activate-at t) activate.Post
-unfolding Shaped
-activate-returns-3 t c =
-    let both = c .before .both in
-    let at-k = c .before .before .before .before in
-    let s = c .before .before .before .before .before .before .before .before .before .before in
-    let r = s .pre .1 .0 in
-    let f = s .pre .1 .1 in
-    let g = rw (at-k .k .given .1) at (at-k .before .before .outline .ensures (s .args .event) (s .args .rs .now)
-    (s .args .agreement .now) (s .args .site .below) (s .args .site .place) (s .args .ps .now)
-    (s .args .vs .now) (s .args .site .a)) in
-    is-as (both .result) (both .last .1 .1 .1 .1 .1 .1 .1 .1 .1 .1 .0) (g .is) (both .ensures)
-
-both-activate-requires : (t : ℕ) → both-lts.Need-activate-requires (both-claims t) (both-at t) both.Post
-both-activate-requires t c κs =
-    let s = c .before .before .before .before .before .before in let r = s .pre .1 .0 in let f = s .pre .1 .1 in let
-    d = s .pre .1 .2 in let e = c .before .before .inner-site .ensures in (
-      omega (
-        arith,
-        s .pre .0,
-        lighter-within r (s .args .f) e (d .deep)
-            (length (part (s .args .s .now) (s .args .f) (length (s .args .s .now)))) (length (s .args .s .now))
-            (omega (
-              arith,
-              length-part (s .args .s .now) (s .args .f) (length (s .args .s .now)) (omega arith),
-              d .order,
-              d .inside,
-            )),
-      ),
-      (
-        ready-within r (s .args .f) e (d .deep) (omega arith),
-        fits-within f e (d .inside)
-            (omega arith) (omega arith),
-      ),
-    )
-
-both-room-left-requires : (t : ℕ) → both-lts.Need-room-left-requires (both-claims t) (both-at t) both.Post
-both-room-left-requires t c κs =
-    let activate = c .before .activate in
-    let at-inner-site = c .before .before .before .before in
-    let s = c .before .before .before .before .before .before .before .before in
-    is-counted (activate .last .1 .1 .1 .1 .1 .1 .1 .1 .0)
-    (reduceAt (s .args .event) (s .args .rs .now) (s .args .agreement .now) (at-inner-site .inner-site .result)
-    (part (s .args .s .now) (s .args .f) (length (s .args .s .now))) (s .args .ps .now) (s .args .vs .now))
-    (activate .result) (activate .ensures)
-
-both-slice-aggregate-activate : (t : ℕ) → both-lts.Need-slice-aggregate-activate (both-claims t) (both-at t) both.Post
-both-slice-aggregate-activate t c =
-    let at-room-left = c .before .before .before in
-    sym (length-take-le (at-room-left .room-left .result)
-    (at-room-left .before .before .activate .last .1 .1 .1 .1 .1 .1 .1 .1 .0)
-    (omega (arith, at-room-left .room-left .ensures .1)))
-
-both-activate-requires-2 : (t : ℕ) → both-lts.Need-activate-requires-2 (both-claims t) (both-at t) both.Post
-both-activate-requires-2 t c κs =
-    let at-room-left = c .before .before .before in
-    let activate = at-room-left .before .before .activate in
-    let s = c .before .before .before .before .before .before .before .before .before .before .before .before in
-    let r = s .pre .1 .0 in
-    let f = s .pre .1 .1 in
-    let d = s .pre .1 .2 in
-    let e = c .before .before .inner-site2 .ensures in (
-      omega (
-        arith,
-        s .pre .0,
-        lighter-within r 4 e (d .deep) (length (part (s .args .s .now) 4 (s .args .f)))
-            (length (s .args .s .now)) (omega (
-              arith,
-              length-part (s .args .s .now) 4 (s .args .f) (d .inside),
-              d .order,
-              d .inside,
-            )),
-      ),
-      (
-        ready-within r 4 e (d .deep) (omega arith),
-        fits-within f e (d .order) (d .inside)
-            (omega (
-              arith,
-              length-take (at-room-left .room-left .result) (activate .last .1 .1 .1 .1 .1 .1 .1 .1 .0),
-              activate .kept .1 .1 .1 .1 .1 .1 .1 .1 .0,
-            )),
-      ),
-    )
-
-both-join-requires : (t : ℕ) → both-lts.Need-join-requires (both-claims t) (both-at t) both.Post
-both-join-requires t c κs =
-    let activate2 = c .before .before .activate2 in
-    let at-inner-site2 = c .before .before .before .before .before in
-    let room-left = at-inner-site2 .before .room-left in
-    let at-activate = at-inner-site2 .before .before .before in
-    let at-inner-site = at-activate .before .before .before in
-    let s = c .before .before .before .before .before .before .before .before .before .before .before .before
-    .before .before .before in
-    let r = s .pre .1 .0 in
-    let f = s .pre .1 .1 in
-    let d = s .pre .1 .2 in
-    let o = at-activate .activate .last .1 .1 .1 .1 .1 .1 .1 .1 .0 in
-    let u = activate2 .last .1 .1 .1 .1 .1 .1 .1 .1 .0 in (
-      d .from,
-      d .to,
-      is-counted u (reduceAt (s .args .event) (s .args .rs .now) (s .args .agreement .now)
-          (at-inner-site2 .inner-site2 .result) (part (s .args .s .now) 4 (s .args .f))
-          (s .args .ps .now) (s .args .vs .now))
-          (activate2 .result) (activate2 .ensures),
-      is-counted o
-          (reduceAt (s .args .event) (s .args .rs .now) (s .args .agreement .now) (at-inner-site .inner-site .result)
-          (part (s .args .s .now) (s .args .f) (length (s .args .s .now))) (s .args .ps .now) (s .args .vs .now))
-          (at-activate .activate .result) (at-activate .activate .ensures),
-      rw
-          (laid-length o u (at-activate .activate .result) (room-left .result) (room-left .ensures .0)
-          (room-left .ensures .1) (omega (
-            arith,
-            length-take (room-left .result) o,
-            room-left .ensures .1,
-            activate2 .kept .1 .1 .1 .1 .1 .1 .1 .1 .0,
-          ))
-          (omega (arith, f .room, at-activate .activate .kept .1 .1 .1 .1 .1 .1 .1 .1 .0)))
-          (omega (arith, f .room, at-activate .activate .kept .1 .1 .1 .1 .1 .1 .1 .1 .0)),
-    )
-
-both-returns : (t : ℕ) → both-lts.Need-returns (both-claims t) (both-at t) both.Post
-both-returns t c =
-    let at-activate2 = c .before .before .before .before in
-    let at-inner-site2 = at-activate2 .before .before .before in
-    let at-activate = at-inner-site2 .before .before .before in
-    let at-inner-site = at-activate .before .before .before in
-    let s = c .before .before .before .before .before .before .before .before .before .before .before .before
-    .before .before .before .before .before in
-    let r = s .pre .1 .0 in
-    let f = s .pre .1 .1 in
-    let d = s .pre .1 .2 in
-    let o = at-activate .activate .last .1 .1 .1 .1 .1 .1 .1 .1 .0 in
-    let u = at-activate2 .activate2 .last .1 .1 .1 .1 .1 .1 .1 .1 .0 in
-    let m = at-inner-site2 .before .room-left in
-    c .before .join .ensures .is (reduceAt (s .args .event) (s .args .rs .now) (s .args .agreement .now)
-    (innerSite (s .args .site) 4 (s .args .site .a)) (part (s .args .s .now) 4 (s .args .f)) (s .args .ps .now)
-    (s .args .vs .now)) (reduceAt (s .args .event) (s .args .rs .now) (s .args .agreement .now)
-    (innerSite (s .args .site) (s .args .f) (s .args .site .a))
-    (part (s .args .s .now) (s .args .f) (length (s .args .s .now))) (s .args .ps .now) (s .args .vs .now))
-    (laid o u (at-activate .activate .result) (m .result) (m .ensures .0) (m .ensures .1)
-    (omega (
-      arith,
-      length-take (m .result) o,
-      m .ensures .1,
-      at-activate2 .activate2 .kept .1 .1 .1 .1 .1 .1 .1 .1 .0,
-    ))
-    (omega (arith, f .room, at-activate .activate .kept .1 .1 .1 .1 .1 .1 .1 .1 .0))
-    (reduceAt (s .args .event) (s .args .rs .now) (s .args .agreement .now)
-    (innerSite (s .args .site) 4 (s .args .site .a)) (part (s .args .s .now) 4 (s .args .f)) (s .args .ps .now)
-    (s .args .vs .now)) (reduceAt (s .args .event) (s .args .rs .now) (s .args .agreement .now)
-    (innerSite (s .args .site) (s .args .f) (s .args .site .a))
-    (part (s .args .s .now) (s .args .f) (length (s .args .s .now))) (s .args .ps .now) (s .args .vs .now))
-    (rw (at-inner-site2 .inner-site2 .ensures) at (at-activate2 .activate2 .ensures))
-    (rw (at-inner-site .inner-site .ensures) at (at-activate .activate .ensures)))
+  both-returns : both-lts.Need-returns (both-claims t) (both-at t) both.Post
+  both-returns c =
+      let left = c .before .before .before .before .before in
+      let right = rightOf left in
+      let room = left .before .before .before .before .room-left in
+      reckons-laid (rightOut right) (leftOut left) (room .result) (room .ensures .0) (room .ensures .1)
+      (left-room left) (right-room right) (c .before .join .ensures) (c .before .before .before .join-tallies .ensures)
+      (left-answer left) (right-answer right)
 
 inside-inner-site-requires : (t : ℕ) → inside-lts.Need-inner-site-requires (inside-claims t) (inside-at t) inside.Post
 inside-inner-site-requires t c κs =
@@ -706,26 +696,44 @@ unfold-returns t c =
     (c .before .activate .ensures)
 
 pub +act+activate+both+inside+unfold-spec : {M : Type 1} → statement M
-+act+activate+both+inside+unfold-spec = close μ-act μ-activate μ-both μ-inside μ-unfold (λ t. act-lts.spec
-    (act-claims t) (act-at t) act.Post
-    (λ c. search needs) (λ c κs. search needs) (λ c. search needs) (λ c. search needs) (λ c. search needs)
-    (act-put-unit-requires t) (λ c. search needs) (act-inside-requires t)
++act+activate+both+inside+unfold-spec = close μ-act μ-activate μ-both μ-inside μ-unfold
+    (λ t. act-lts.spec (act-claims t) (act-at t) act.Post
+    (λ c. search needs) (λ c κs. search needs)
+    -- an end, a breach, a waiting unit
+    (λ c. search needs) (λ c κs. search needs) (λ c. search needs) (λ c κs. search needs) (λ c. search needs)
+    (act-put-unit-requires t) (λ c κs. search needs)
+    -- a side that is picked
+    (λ c. search needs) (act-inside-requires t) (λ c κs. reckons-bounded (c .before .inside .ensures))
+    -- a `then`
     (λ c. search needs) (λ c κs. search needs) (λ c κs. search needs) (act-then-site-requires t)
-    (act-array-share-prefix-cells t) (act-slice-aggregate-us t) (act-sub-activate t)
-    (act-part-activate-start t) (act-part-activate-end t) (act-activate-requires t)
-    (λ c. search needs) (λ c. search needs) (act-unfold-requires t) (act-returns t) (act-returns-2 t)
-    (λ c. search needs) (act-returns-3 t) (λ c. search needs) (act-returns-4 t) (λ c. search needs)
-    (act-returns-5 t) (λ c. search needs) (act-returns-6 t))
+    (λ c. then-few t (c .before .before .before .before)) (act-slice-aggregate-us t)
+    (λ c. then-order t (c .before .before .before .before .before))
+    (λ c. then-order t (c .before .before .before .before .before))
+    (λ c. then-inside t (c .before .before .before .before .before)) (act-activate-requires t)
+    (λ c κs. reckons-bounded (c .before .activate .ensures))
+    -- an else
+    (λ c. search needs) (act-inside-requires-2 t) (λ c κs. reckons-bounded (c .before .inside2 .ensures))
+    -- a template
+    (λ c. search needs) (λ c. search needs) (act-unfold-requires t)
+    (λ c κs. reckons-bounded (c .before .«unfold» .ensures))
+    (act-returns t) (act-returns-2 t) (λ c. search needs) (act-returns-3 t) (λ c. search needs) (act-returns-4 t)
+    (λ c. search needs) (act-returns-5 t) (λ c. search needs) (act-returns-6 t) (λ c. search needs)
+    (act-returns-7 t))
     (λ t. activate-lts.spec (activate-claims t) (activate-at t) activate.Post
-    (λ c κs. search needs) (λ c. search needs) (λ c. search needs) (activate-inside-requires t)
-    (λ c. search needs) (activate-both-requires t) (λ c. search needs)
-    (activate-act-requires t) (activate-returns t) (λ c. search needs) (activate-returns-2 t)
-    (λ c. search needs) (activate-returns-3 t) (λ c. search needs) (λ c. search needs))
+    (λ c κs. search needs) (λ c. search needs) (activate-ended-requires t) (λ c. search needs)
+    (activate-inside-requires t) (λ c κs. reckons-bounded (c .before .inside .ensures)) (λ c. search needs)
+    (activate-both-requires t) (λ c. search needs) (activate-act-requires t) (activate-returns t)
+    (λ c. search needs) (activate-returns-2 t) (λ c. search needs) (activate-returns-3 t) (λ c. search needs)
+    (λ c. search needs))
     (λ t. both-lts.spec (both-claims t) (both-at t) both.Post (λ c κs. search needs)
     (λ c. search needs) (λ c. search needs) (λ c. search needs) (both-activate-requires t)
-    (both-room-left-requires t) (λ c κs. search needs) (λ c. search needs) (λ c. search needs)
-    (λ c. search needs) (λ c. search needs) (both-slice-aggregate-activate t) (both-activate-requires-2 t)
-    (both-join-requires t) (λ c. search needs) (both-returns t))
+    (λ c κs. reckons-counted (c .before .activate .ensures)) (λ c κs. search needs)
+    (λ c. joining t (c .before .before .before) .pre .1 .2 .order)
+    (λ c. joining t (c .before .before .before) .pre .1 .2 .order)
+    (λ c. joining t (c .before .before .before) .pre .1 .2 .inside) (λ c. search needs)
+    (both-slice-aggregate-activate t)
+    (both-activate-requires-2 t) (both-join-tallies-requires t) (both-join-requires t) (λ c. search needs)
+    (both-returns t))
     (λ t. inside-lts.spec (inside-claims t) (inside-at t) inside.Post (inside-inner-site-requires t)
     (λ c. search needs) (λ c. search needs) (λ c. search needs) (inside-activate-requires t)
     (λ c. search needs) (inside-returns t))

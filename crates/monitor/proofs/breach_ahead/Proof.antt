@@ -22,14 +22,15 @@ minutes-requires : tie.Need-minutes-requires
 minutes-requires c κs =
     let at-across = c .before .before .before .before in
     let at-start = at-across .before .before .before .before .before .before .before in
-    ahead-time (at-start .pre) _ _ (at-across .across .ensures) (c .known-told .given .0 .1) (c .before .due .given .1)
+    ahead-time (at-start .pre) _ _ (at-across .across .ensures) (c .known-told .given .0 .1)
+    (c .before .outcome .given .1)
 
 returns-2 : tie.Need-returns-2
 returns-2 c =
     let at-across = c .before .before .before .before .before in
     let at-start = at-across .before .before .before .before .before .before .before in
     ahead-breach (at-start .pre) _ _ (at-across .across .ensures) (c .before .known-told .given .0 .1)
-    (c .before .before .due .given .1) (c .minutes .ensures)
+    (c .before .before .outcome .given .1) (c .minutes .ensures)
 
 pub breach-ahead-spec : {M : Type 1} → statement M
 breach-ahead-spec = tie.close (tie.spec

@@ -21,11 +21,11 @@ came-early-requires c κs =
 
 returns : tie.Need-returns
 returns c =
-    let at-advance = c .before .before .before in
+    let at-advance = c .before .before .before .before in
     let at-run = at-advance .before .before .before in
     let at-start = at-run .before .before .before .before .before in
     follow-no (opened-as (at-start .pre .0) (at-run .run .given .1)) (at-advance .advance .ensures)
-    (c .enum-told .given .1)
+    (c .before .cost .given .1)
 
 returns-2 : tie.Need-returns-2
 returns-2 c =
@@ -37,11 +37,11 @@ returns-2 c =
 
 returns-3 : tie.Need-returns-3
 returns-3 c = let at-start = c .before .before .before .before .before .before in
-    read-done (opened-as (at-start .pre .0) (c .before .enum-told2 .given .1))
+    read-done (opened-as (at-start .pre .0) (c .before .enum-told .given .1))
 
 returns-4 : tie.Need-returns-4
 returns-4 c = let at-start = c .before .before .before .before .before in
-    read-breached (opened-as (at-start .pre .0) (c .enum-told3 .given .1))
+    read-breached (opened-as (at-start .pre .0) (c .enum-told2 .given .1))
 
 pub step-spec : {M : Type 1} → statement M
 step-spec = tie.close (tie.spec

@@ -7,8 +7,8 @@ use Rattle.reduction.proofs.advance_widely.Tie as tie
 
 returns : tie.Need-returns
 returns c =
-    let at-try = c .before .before .before .before in
-    let short = is-short _ _ _ _ _ _ _ _ _ (at-try .reduce-into .ensures) (c .enum-told .given .1) in
+    let at-try = c .before .before .before .before .before in
+    let short = is-short _ _ _ _ _ _ _ _ _ (at-try .reduce-into .ensures) (c .before .cost .given .1) in
     tried-over short (omega (arith, short .short))
 
 returns-2 : tie.Need-returns-2

@@ -1,7 +1,7 @@
 -- At the start the main clause is activated, else the table's units go through the rules.
 use borrow.Author.Needs.{needs}
 use native.Mathlib.Omega.{arith}
-use Rattle.reduction.proofs.Advances.{units-due, reduced-main, reduced-units}
+use Rattle.reduction.proofs.Advances.{units-due, reckoned-main, reckoned-units}
 use Rattle.reduction.proofs.reduce.Statement.{statement}
 use Rattle.reduction.proofs.reduce.Tie as tie
 
@@ -9,7 +9,7 @@ returns : tie.Need-returns
 returns c =
     let at-step = c .before .before .before in
     let at-start = at-step .before .before .before .before .before in
-    reduced-main (at-start .pre .0) _ _ (at-step .enum-told .given .1) (c .before .activate-main .ensures)
+    reckoned-main (at-start .pre .0) _ _ (at-step .enum-told .given .1) (c .before .activate-main .ensures)
 
 across-requires : tie.Need-across-requires
 across-requires c κs =
@@ -24,7 +24,7 @@ returns-2 : tie.Need-returns-2
 returns-2 c =
     let at-step = c .before .before .before .before in
     let at-start = at-step .before .before .before .before in
-    reduced-units (at-start .pre .0) _ _ (at-step .match .keys2) (c .before .across .ensures)
+    reckoned-units (at-start .pre .0) _ _ (at-step .match .keys2) (c .before .across .ensures)
 
 pub reduce-spec : {M : Type 1} → statement M
 reduce-spec = tie.close (tie.spec

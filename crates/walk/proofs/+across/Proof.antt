@@ -9,10 +9,10 @@ use lib.IntN.{ℤ}
 use lib.ListN.{length, getD, drop, length-take}
 use lib.Seq.{length-take-le}
 use Rattle.waits.specs.Fates.{modeAt}
-use Rattle.residues.specs.Reduces.{Is, Counted}
-use Rattle.walk.specs.Tree.{treeReduced}
-use Rattle.residues.proofs.Reduces.{is-counted}
-use Rattle.activation.proofs.Recursion.{laid, laid-length}
+use Rattle.residues.specs.Tallies.{Reckons}
+use Rattle.walk.specs.Tree.{treeReckoned}
+use Rattle.residues.proofs.Counts.{reckons-bounded, reckons-counted}
+use Rattle.activation.proofs.Recursion.{laid-length, reckons-laid}
 use Rattle.walk.proofs.Trees.{SidesAt, tree-front, tree-sides, tree-waits, tree-unit}
 use Rattle.laws.proofs.Lists.{part-from}
 use borrow.Fn.Kinds.{In}
@@ -24,6 +24,7 @@ use Rattle.walk.proofs.join_kind.Reads as join-kind-reads
 use Rattle.walk.proofs.waiting_unit.Reads as waiting-unit-reads
 use Rattle.walk.proofs.waits.Reads as waits-reads
 use Rattle.residues.proofs.join.Reads as join-reads
+use Rattle.residues.proofs.tallies.join_tallies.Reads as join-tallies-reads
 use Rattle.residues.proofs.room_left.Reads as room-left-reads
 use Rattle.walk.proofs.+across.{statement}
 use Rattle.walk.proofs.+across.Tie.{close}
@@ -52,6 +53,8 @@ claims t = (
   room-left-reads.Learnt,
   join-kind-reads.Asked,
   join-kind-reads.Learnt,
+  join-tallies-reads.Asked,
+  join-tallies-reads.Learnt,
   join-reads.Asked,
   join-reads.Learnt,
 )
@@ -94,25 +97,23 @@ module _ (t : ℕ) where
       SidesAt (length (s .agreement .now)) (s .sights .now) (s .table .now) (s .n) (left-units c)
   sides c = tree-sides (begun c .pre .1 .1) (sym (c .before .before .waits .ensures) ∙ c .before .if1 .left) refl
 
-  -- what becomes of each side, and that its units are counted
+  -- what becomes of each side
   right : (c : RightDone) → let s = begun (joins c) .args in let k = left-units (joins c) in
-      Is (treeReduced (modeAt (s .event) (s .rs .now)) (s .agreement .now) (s .n - 1 - k)
+      Reckons (treeReckoned (modeAt (s .event) (s .rs .now)) (s .agreement .now) (s .n - 1 - k)
       (drop (2 + 2 * k) (s .sights .now)) (drop (24 + 24 * k) (s .table .now))) (c .before .across .result)
-      (right-out c) × Counted (c .before .across .result)
+      (right-out c)
   right c =
       let s = begun (joins c) .args in
       let k = left-units (joins c) in
-      let is = rw (part-from (2 + 2 * k) (s .sights .now), part-from (24 + 24 * k) (s .table .now)) at
-      (c .before .across .ensures) in
-      (is, is-counted (right-out c) _ (c .before .across .result) is)
+      rw (part-from (2 + 2 * k) (s .sights .now), part-from (24 + 24 * k) (s .table .now)) at
+      (c .before .across .ensures)
 
   left : (c : LeftDone) → let j = joins (right-done c) in let s = begun j .args in
-      Is (treeReduced (modeAt (s .event) (s .rs .now)) (s .agreement .now) (left-units j) (drop 2 (s .sights .now))
-      (drop 24 (s .table .now))) (c .before .across2 .result) (left-out c) × Counted (c .before .across2 .result)
+      Reckons (treeReckoned (modeAt (s .event) (s .rs .now)) (s .agreement .now) (left-units j)
+      (drop 2 (s .sights .now)) (drop 24 (s .table .now))) (c .before .across2 .result) (left-out c)
   left c =
       let s = begun (joins (right-done c)) .args in
-      let is = rw (part-from 2 (s .sights .now), part-from 24 (s .table .now)) at (c .before .across2 .ensures) in
-      (is, is-counted (left-out c) _ (c .before .across2 .result) is)
+      rw (part-from 2 (s .sights .now), part-from 24 (s .table .now)) at (c .before .across2 .ensures)
 
   -- the left side's cells are the room that the right side leaves
   room : (c : LeftDone) → (length (left-out c) ≡ c .before .before .before .before .before .room-left .result)
@@ -195,35 +196,42 @@ module _ (t : ℕ) where
         ),
       )
 
+  join-tallies-requires : across-lts.Need-join-tallies-requires (claims t) (across-at t) across.Post
+  join-tallies-requires c κs =
+      let l = c .before in
+      let k = c .join-kind .ensures in
+      (k .0, k .1, reckons-bounded (left l), reckons-bounded (right (right-done l)))
+
   join-requires : across-lts.Need-join-requires (claims t) (across-at t) across.Post
   join-requires c κs =
-      let l = c .before .before in
+      let k = c .before .before .join-kind .ensures in
+      let l = c .before .before .before in
       let r = right-done l in
       let m = l .before .before .before .before .before .room-left in
-      let k = c .before .join-kind .ensures in
       let z = room l in (
         k .0,
         k .1,
-        left l .1,
-        right r .1,
+        reckons-counted (left l),
+        reckons-counted (right r),
         rw
-            (laid-length (right-out r) (left-out l) (r .before .across .result) (m .result) (m .ensures .0)
+            (laid-length (right-out r) (left-out l) (r .before .across .result .outcome) (m .result) (m .ensures .0)
             (m .ensures .1) (z .0) (z .1)) (z .1),
       )
 
   returns-2 : across-lts.Need-returns-2 (claims t) (across-at t) across.Post
   returns-2 c =
-      let l = c .before .before .before .before in
+      let at-kind = c .before .before .before .before in
+      let l = at-kind .before in
       let r = right-done l in
       let s = begun (joins r) in
       let m = l .before .before .before .before .before .room-left in
       let z = room l in
       rw (
         ← sides (joins r) .make (modeAt (s .args .event) (s .args .rs .now)) (s .args .agreement .now),
-        ← c .before .before .before .join-kind .ensures .2,
+        ← at-kind .join-kind .ensures .2,
       )
-      (c .before .join .ensures .is _ _ (laid (right-out r) (left-out l) (r .before .across .result) (m .result)
-      (m .ensures .0) (m .ensures .1) (z .0) (z .1) _ _ (left l .0) (right r .0)))
+      (reckons-laid (right-out r) (left-out l) (m .result) (m .ensures .0) (m .ensures .1) (z .0) (z .1)
+      (c .before .join .ensures) (c .before .before .before .join-tallies .ensures) (left l) (right r))
 
 pub +across-spec : {M : Type 1} → statement M
 +across-spec = close μ-across λ t. across-lts.spec (claims t) (across-at t) across.Post
@@ -243,7 +251,7 @@ pub +across-spec : {M : Type 1} → statement M
     (λ c. omega (arith, sides t (c .before) .room))
     (λ c. omega (arith, sides t (c .before .before) .fewer))  -- its units
     (λ c. omega (arith, sides t (c .before .before) .fewer))
-    (right-requires t) (λ c κs. right t c .1)
+    (right-requires t) (λ c κs. reckons-counted (right t c))
     (λ c. omega (arith, sides t (joins t (c .before)) .seen))  -- the left side's sights
     (λ c. omega (arith, sides t (joins t (c .before)) .seen))
     (λ c. omega (arith, sides t (joins t (c .before)) .seen))
@@ -253,4 +261,4 @@ pub +across-spec : {M : Type 1} → statement M
     (λ c. search needs) (left-part t) (left-requires t)
     (λ c κs. let at-start = c .before .before .before .before .before .before .before .before .before .before
     .before .before .before .before .before .before .before in tree-front (at-start .pre .1 .1) .0)
-    (join-requires t) (λ c. search needs) (returns-2 t)
+    (join-tallies-requires t) (join-requires t) (λ c. search needs) (returns-2 t)
