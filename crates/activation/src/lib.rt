@@ -20,7 +20,7 @@ use waits::{Event, SIGHT_CELLS};
 
 // Where a clause is activated: the number that the templates are below which it may name, its byte place, its time,
 // and the depths that are left within it.
-#[derive(Drop)]
+#[derive(Clone, Copy)]
 pub struct Site {
     pub below: usize,
     pub place: usize,
@@ -31,7 +31,7 @@ pub struct Site {
 // What a record shows by kinds alone: that there is nothing to do, in so many clauses; an `and` whose one side has
 // nothing to do, and the part of its bytes that is the other; the kind of a join and where its right side begins; a
 // clause that acts.
-#[derive(Drop)]
+#[derive(Clone, Copy)]
 pub enum Shape {
     Ends(usize),
     Goes { from: usize, to: usize },
@@ -42,7 +42,7 @@ pub enum Shape {
 // What a clause that acts leads to: an end, a breach, a waiting unit of a sort; of an `if` the side that is picked, in
 // a part of its bytes; of a late choice the else, in a part of its bytes at a time; a `then` in a part of its bytes,
 // with so many values; a template.
-#[derive(Drop)]
+#[derive(Clone, Copy)]
 pub enum Next {
     Ends,
     Breaks {

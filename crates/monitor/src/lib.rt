@@ -31,7 +31,7 @@ const VALUES: usize = 4;
 const SIGHTS: usize = 2 * MOST_UNITS;
 
 // Why an entry refuses. The paper's numbers are given by `number_of`.
-#[derive(Drop)]
+#[derive(Clone, Copy)]
 pub enum Refusal {
     AgreementLength,
     AgreementForm,
@@ -47,13 +47,13 @@ pub enum Refusal {
 }
 
 // The main clause's parties by bit, or why not.
-#[derive(Drop)]
+#[derive(Clone, Copy)]
 pub enum Checked {
     Accepted(usize),
     Refused(Refusal),
 }
 
-#[derive(Drop)]
+#[derive(Clone, Copy)]
 pub enum Started {
     Begun,
     Refused(Refusal),
@@ -61,14 +61,14 @@ pub enum Started {
 
 // `early` says that the reading came too early: nothing altered, and some unit waits for it and opens later. `cost` is
 // what the reading cost, which of the refusals only `Units` has.
-#[derive(Drop)]
+#[derive(Clone, Copy)]
 pub enum Taken {
     Accepted { early: bool, cost: usize },
     Refused { why: Refusal, cost: usize },
 }
 
 // No breach ahead, or when and by whom, by bit.
-#[derive(Drop)]
+#[derive(Clone, Copy)]
 pub enum Foretold {
     Nothing,
     Breach { time: u64, parties: usize },
@@ -124,7 +124,7 @@ fn admit(agreement: &[u8], table: &[i64], places: &mut [usize]) -> Checked
 }
 
 // The run that a table shows: with so many units in use; fulfilled; breached at a time, by parties by bit.
-#[derive(Drop)]
+#[derive(Clone, Copy)]
 enum Run {
     Running(usize),
     Fulfilled,
@@ -132,7 +132,7 @@ enum Run {
 }
 
 // What is lent is refused, or shows a run.
-#[derive(Drop)]
+#[derive(Clone, Copy)]
 enum Opening {
     Refused(Refusal),
     Shows(Run),

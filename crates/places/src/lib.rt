@@ -15,7 +15,7 @@ use records::{
 };
 
 // A place's clause: its kind, 17 or 18, how many party parameters it has, and how many values are in sight.
-#[derive(Drop)]
+#[derive(Clone, Copy)]
 pub enum Located {
     Nothing,
     At {
@@ -27,7 +27,7 @@ pub enum Located {
 
 // Where the search goes on: nowhere, at a clause of a kind, or in the clause from a place up to a place, with so many
 // values in sight.
-#[derive(Drop)]
+#[derive(Clone, Copy)]
 enum Step {
     Absent,
     Here(usize),

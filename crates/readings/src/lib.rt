@@ -10,7 +10,7 @@ use records::values::values_ok;
 use records::{PARTIES_AT, READINGS_AT, reading_place};
 
 // A reading as its bytes say; `count` is how many values it has.
-#[derive(Drop)]
+#[derive(Clone, Copy)]
 enum Raw {
     Malformed,
     Read {
@@ -21,7 +21,7 @@ enum Raw {
 }
 
 // The same of a reading that fits the agreement.
-#[derive(Drop)]
+#[derive(Clone, Copy)]
 pub enum Taken {
     Malformed,
     Untyped,

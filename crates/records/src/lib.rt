@@ -46,7 +46,7 @@ const FIRST_TEMPLATE: usize = 16;
 const MAIN_CLAUSE: usize = 48;
 
 // Where a template's body begins and ends.
-#[derive(Drop)]
+#[derive(Clone, Copy)]
 pub struct Span {
     pub from: usize,
     pub to: usize,

@@ -25,7 +25,7 @@ const FEW_ROOM: usize = FEW_UNITS * UNIT_CELLS;
 
 // A try in some room: too short for so many units, counted up to 129; or written, and whether a unit or the state
 // altered. Both have what the step costs.
-#[derive(Drop)]
+#[derive(Clone, Copy)]
 enum Attempt {
     Short { units: usize, cost: usize },
     Wrote { altered: bool, cost: usize },
@@ -33,7 +33,7 @@ enum Attempt {
 
 // Where a step leads: to more units than a table has; or to a table that is written, and whether a unit or the state
 // altered. Both have what it costs.
-#[derive(Drop)]
+#[derive(Clone, Copy)]
 pub enum Advanced {
     TooMany { cost: usize },
     Wrote { altered: bool, cost: usize },

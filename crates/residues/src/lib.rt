@@ -12,7 +12,7 @@ use arith::lesser;
 use cells::{FIRST_PARAM, FIRST_VALUE, UNIT_CELLS};
 
 // Fulfilled; a breach's time and its parties by bit; a residue of so many units, counted up to 129.
-#[derive(Drop)]
+#[derive(Clone, Copy)]
 pub enum Reduced {
     Done,
     Breach { at: i64, by: usize },
@@ -21,7 +21,7 @@ pub enum Reduced {
 
 // What is counted of a clause: whether it is fulfilled as soon as it is activated, the clauses activated with it, and
 // those that a reading activates beyond them. Both numbers are counted up to the most that a reading costs.
-#[derive(Drop)]
+#[derive(Clone, Copy)]
 pub struct Tally {
     pub once: bool,
     pub activated: usize,
@@ -29,7 +29,7 @@ pub struct Tally {
 }
 
 // What a clause becomes, with what is counted on the way.
-#[derive(Drop)]
+#[derive(Clone, Copy)]
 pub struct Reckoned {
     pub outcome: Reduced,
     pub tally: Tally,

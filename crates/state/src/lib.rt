@@ -26,7 +26,7 @@ const NO_PARTIES: usize = 65_536;
 const NO_TIME: usize = 4_294_967_296;
 
 // The first unit: one that waits or a join, of a kind, or no unit.
-#[derive(Drop)]
+#[derive(Clone, Copy)]
 enum First {
     Waits(usize),
     Joins(usize),
@@ -34,14 +34,14 @@ enum First {
 }
 
 // The tree of units at the front: damaged, or of so many units, with its parties by bit.
-#[derive(Drop)]
+#[derive(Clone, Copy)]
 enum Walk {
     Damaged,
     Tree { units: usize, bits: usize },
 }
 
 // What a table shows: running with so many units, fulfilled, or breached at a time by parties by bit.
-#[derive(Drop)]
+#[derive(Clone, Copy)]
 pub enum State {
     Damaged,
     Running(usize),

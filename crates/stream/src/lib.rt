@@ -68,7 +68,7 @@ pub fn read_part(buf: &mut [u8], from: usize, to: usize) -> usize {
 }
 
 // What is next: a record of so many bytes, or more input is needed, or the input has ended after a whole record.
-#[derive(Drop)]
+#[derive(Clone, Copy)]
 pub enum Next {
     Record(usize),
     Wait,
@@ -115,7 +115,7 @@ pub fn keep(buf: &mut [u8], from: usize, to: usize) -> usize
 }
 
 // What one read brought: bytes, or the input is over, or the read failed.
-#[derive(Drop)]
+#[derive(Clone, Copy)]
 pub enum Got {
     Bytes(usize),
     Over,

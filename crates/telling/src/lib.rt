@@ -75,7 +75,7 @@ fn put_timeless(out: &mut [u8], at: usize, n: u64) -> usize
 }
 
 // Whether to go on, and how many bytes of the output's buffer are in use.
-#[derive(Drop)]
+#[derive(Clone, Copy)]
 pub struct Told {
     pub go: bool,
     pub at: usize,

@@ -14,7 +14,7 @@ const ROOM: usize = 65_536;
 const MOST_CELLS: usize = 4096;
 
 // Whether to go on; the lengths of agreement, reading and table; how many bytes of the output's buffer are in use.
-#[derive(Drop)]
+#[derive(Clone, Copy)]
 struct Turn {
     go: bool,
     agreement: usize,

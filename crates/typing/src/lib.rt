@@ -28,7 +28,7 @@ use records::{
 const UNSEEN: usize = 17;
 
 // A clause's parties by bit, where it is typed.
-#[derive(Drop)]
+#[derive(Clone, Copy)]
 pub enum Typed {
     Parties(usize),
     Untyped,

@@ -29,7 +29,7 @@ const CELLS: usize = cells::UNIT_CELLS - 1;
 const NO_PLACE: usize = 9_223_372_036_854_775_808;
 
 // What a waiting unit shows: its parties by bit, and how many party parameters and values it has.
-#[derive(Drop)]
+#[derive(Clone, Copy)]
 pub enum Waiting {
     Damaged,
     Of {

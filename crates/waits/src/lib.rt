@@ -17,7 +17,7 @@ use residues::copy;
 pub const SIGHT_CELLS: usize = 24;
 
 // What a clause does that is activated: it waits, it follows a reading, or it tells its breach.
-#[derive(Drop)]
+#[derive(Clone, Copy)]
 pub enum Step {
     Activate,
     Forecast,
@@ -25,7 +25,7 @@ pub enum Step {
 }
 
 // A step, and for a reading that is followed its time and its type's number, the tag.
-#[derive(Drop)]
+#[derive(Clone, Copy)]
 pub struct Event {
     pub step: Step,
     pub time: usize,
@@ -33,14 +33,14 @@ pub struct Event {
 }
 
 // The first and the last minute of a wait.
-#[derive(Drop)]
+#[derive(Clone, Copy)]
 struct Window {
     first: i64,
     last: i64,
 }
 
 // How a time stands to a window. One that ends before it begins is late, never early.
-#[derive(Drop)]
+#[derive(Clone, Copy)]
 enum Timing {
     Early,
     OnTime,
@@ -48,7 +48,7 @@ enum Timing {
 }
 
 // What becomes of a wait, with its last minute.
-#[derive(Drop)]
+#[derive(Clone, Copy)]
 pub enum Fate {
     Waits,
     Late(i64),

@@ -14,7 +14,7 @@ use telling::{LINE_ROOM, Told, begin, follow};
 const ROOM: usize = 65_536;
 
 // Where a run stands: a record may be there, or more input is needed, or it has ended.
-#[derive(Drop)]
+#[derive(Clone, Copy)]
 enum Stage {
     Ready,
     Waiting,
@@ -22,7 +22,7 @@ enum Stage {
 }
 
 // The stage; how many bytes of the input are taken, and of the output's buffer in use; the next line's number.
-#[derive(Drop)]
+#[derive(Clone, Copy)]
 struct Turn {
     stage: Stage,
     from: usize,
@@ -121,7 +121,7 @@ fn drain(
 // ---- what follows only reads and writes: no contract can say which bytes come and go
 
 // The bytes at hand stand at the front of a buffer: how many; whether the input has ended there; whether a read failed.
-#[derive(Drop)]
+#[derive(Clone, Copy)]
 struct Held {
     size: usize,
     ended: bool,
@@ -153,7 +153,7 @@ fn wait(buf: &mut [u8], size: usize) -> Held
 }
 
 // A run after a turn: whether it goes on, the bytes at hand, the next line's number.
-#[derive(Drop)]
+#[derive(Clone, Copy)]
 struct Served {
     go: bool,
     size: usize,
@@ -244,7 +244,7 @@ fn run(agreement: &[u8], table: &mut [i64], buf: &mut [u8], held: usize, over: b
 }
 
 // What is found of the input's first record: whether to stop looking, its size, and the bytes at hand.
-#[derive(Drop)]
+#[derive(Clone, Copy)]
 struct First {
     found: bool,
     record: usize,
