@@ -1,6 +1,6 @@
 -- The ones of a set's bits are its members, since each member has a bit of its own; and a number below 2^20 is the bits
 -- of its lower 16 bits' parties and its upper 4 bits' party parameters.
-use mathlib.Core.Bool.{false, ◌||◌, or_false}
+use mathlib.Core.Bool.{false, ◌||◌, or-false}
 use mathlib.Core.List.{List, ◌++◌}
 use mathlib.Core.Logic.{inr}
 use mathlib.Core.Path.{◌≡◌, ◌∙◌}
@@ -34,7 +34,7 @@ upper_valid n = record {
 set_bits : (n : ℕ) → n < mask_end → mask_of (lower n ++ upper n) ≡ n
 unfolding mask_of bits_of members
 set_bits n h = rw (
-  joined_bits 16 0 (lower n) (upper n) (lower n) (λ p l u. rw (no_upper p l u) (or_false (member p (lower n)))),
+  joined_bits 16 0 (lower n) (upper n) (lower n) (λ p l u. rw (no_upper p l u) (or-false (member p (lower n)))),
   joined_bits 4 128 (lower n) (upper n) (upper n) (λ p l u. rw (no_lower p l u)),
   members_bits 16 0 (n % 65_536) (omega arith),
   members_bits 4 128 (n / 65_536) (omega arith),

@@ -3,11 +3,7 @@ use mathlib.Core.Path.{refl, ap, ◌∙◌}
 use Prim.Native.Nat.{◌%◌}
 use native.Mathlib.Omega.{arith}
 use Rattle.parties.proofs.Masks.{mask_constants}
-use Rattle.parties.proofs.constants.Statement.{statement}
-use Rattle.parties.proofs.constants.Tie as tie
+use Rattle.parties.proofs.constants.Goals as goal
 
-returns : tie.Need-returns
+pub returns : goal.returns
 returns c = (refl, omega arith, λ ps e. ap (λ x. x % 65_536) e ∙ mask_constants ps)
-
-pub constants-spec : {M : Type 1} → statement M
-constants-spec = tie.close (tie.spec returns)
