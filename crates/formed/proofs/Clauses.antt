@@ -1,6 +1,6 @@
 -- Whether the tree of a clause is whole, by what the code found of its record.
 use mathlib.Core.Path.{◌≡◌, refl, sym, ◌∙◌}
-use mathlib.Core.Bool.{Bool, true, false, cond, ◌&&◌, and_true, and_false, and_assoc}
+use mathlib.Core.Bool.{Bool, true, false, cond, ◌&&◌, and-true, and-false, and_assoc}
 use mathlib.Core.List.{List}
 use mathlib.Core.Option.{Option, none, some}
 use Prim.Native.Nat.{ℕ, zero, suc, ◌+◌, ◌-◌, ◌≤◌, ◌<◌}
@@ -125,8 +125,8 @@ module _ (hs : List Head) (d : ℕ) (s : List ℕ) {b : Bool} {k : ℕ} (n : d �
 counted : (t : Bool) (k : ℕ) (es : List Expr) (bs : List ℕ)
     → (all whole_expr es && t) ≡ whole (cond t (instance k es bs) bad_clause)
 unfolding whole
-counted true k es bs = and_true (all whole_expr es)
-counted false k es bs = and_false (all whole_expr es)
+counted true k es bs = and-true (all whole_expr es)
+counted false k es bs = and-false (all whole_expr es)
 
 module _ (d : ℕ) (s : List ℕ) where
   instance_is : (h : Head)

@@ -1,6 +1,6 @@
 -- Cells read as numbers, parties and values.
 use mathlib.Core.Path.{◌≡◌, refl, sym, ap, ◌∙◌}
-use mathlib.Core.Bool.{true, false, ◌&&◌, and_true, and_assoc}
+use mathlib.Core.Bool.{true, false, ◌&&◌, and-true, and_assoc}
 use mathlib.Core.List.{List, [], ◌∷◌, ◌++◌, append-nil, append_assoc}
 use mathlib.Core.Option.{Option, none, some}
 use Prim.Native.Nat.{ℕ, zero, suc, ◌+◌, ◌-◌, ◌^◌, ◌≤◌, ◌<◌}
@@ -84,7 +84,7 @@ module _ (zs : List ℤ) where
   pub zeros_last : (ones : ℕ) {i : ℕ} → length zs ≤ i → From ones i → eqb ones 0 ≡ all is_zero zs
   unfolding all
   zeros_last ones {i} l f = let e : i ≡ length zs = omega arith in
-      sym (f.1 ∙ rw (e, drop-length zs, and_true (eqb ones 0)))
+      sym (f.1 ∙ rw (e, drop-length zs, and-true (eqb ones 0)))
 
 -- ---- parties
 party_is : {r : ℕ} (ps : ℕ) (z : ℤ) (rest : List ℤ) → r ≡ number_below ps z → r ≤ ps → (r ≡ ps → ⊥)

@@ -1,0 +1,13 @@
+-- The template that is named says how many arguments and blames there must be.
+use Rattle.formed.proofs.Clauses.{instances}
+use borrow.Author.Rules.{rules}
+use Rattle.formed.proofs.instance_formed.Goals as goal
+
+pub returns-then-s-lt5 : goal.returns-then-s-lt5
+returns-then-s-lt5 c = search instances
+
+pub returns-then-k-byte : goal.returns-then-k-byte
+returns-then-k-byte c = search instances
+
+pub returns : goal.returns
+returns c = search instances
