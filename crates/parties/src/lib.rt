@@ -1,4 +1,6 @@
 // Sets of parties by bit: bit n for party n, bit 16 + n for the party parameter n.
+#![tactic(auto)]
+
 ghost use Rattle.std.specs.Prelude.{◌≡◌, List, [], ◌∷◌, ◌++◌, ℕ, ◌^◌, ◌%◌, ◌≤◌, ◌<◌, eqb, ltb};
 ghost use Rattle.std.specs.Int.Bits.{bit_or};
 ghost use Rattle.std.specs.Int.Count.{ones};

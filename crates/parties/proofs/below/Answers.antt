@@ -1,7 +1,6 @@
 -- A set below 2^k has no bit from k on, so each of its members is below k.
 use mathlib.Core.Path.{sym, ap, ◌∙◌}
 use native.Mathlib.Omega.{arith}
-use borrow.Author.Rules.{rules}
 use lib.Dec.{ltb}
 use Rattle.parties.proofs.Masks.{declared_below}
 use Rattle.parties.proofs.below.Goals as goal

@@ -1,5 +1,4 @@
 -- A shift by less than 64 places loses nothing.
-use borrow.Author.Rules.{rules}
 use native.Mathlib.Omega.{arith}
 use Rattle.parties.proofs.Masks.{shifted}
 use Rattle.parties.proofs.bit.Goals as goal

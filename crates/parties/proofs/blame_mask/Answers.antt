@@ -1,5 +1,4 @@
 -- A party's bit stands at its number and a parameter's 16 places above its own, and no other byte has one.
-use borrow.Author.Rules.{rules}
 use Rattle.parties.proofs.Masks.{blames}
 use Rattle.parties.proofs.blame_mask.Goals as goal
 

@@ -1,5 +1,4 @@
 -- A party's bit stands at its number; above 15 there is none.
-use borrow.Author.Rules.{rules}
 use Rattle.parties.proofs.Masks.{bit_party, bit_none}
 use Rattle.parties.proofs.party_bit.Goals as goal
 
