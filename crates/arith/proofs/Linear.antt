@@ -2,14 +2,14 @@
 -- is said of those.
 use mathlib.Core.Path.{◌≡◌, sym, ap, subst}
 use mathlib.Core.Bool.{true, false}
-use Prim.Native.Nat.{ℕ, suc, ◌+◌, ◌-◌, ◌≤◌, ◌<◌, min}
+use Prim.Native.Nat.{ℕ, suc, ◌+◌, ◌≤◌, ◌<◌, min}
 use native.Mathlib.Omega.{arith, by_contra}
 use lib.IntN.{ℤ, pos, negsuc, nat_abs}
-use lib.Dec.{T, ltb, ltb→lt, lt→ltb, leb→le, le→leb}
+use lib.Dec.{T, ltb→lt, lt→ltb, leb→le, le→leb}
 use lib.Signed.{mag, lt_z, le_z, ◌<ℤ◌, ◌≤ℤ◌}
 use mir.Syntax.{w64}
 use mir.Val.{SFits}
-use Rattle.laws.proofs.Bools.{T→true, not_T→false, by}
+use Rattle.laws.proofs.Bools.{T→true, not_T→false}
 use Rattle.arith.proofs.Ints.{seen, read}
 
 -- z where it is above 0, and -z where it is below

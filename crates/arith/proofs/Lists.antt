@@ -3,7 +3,7 @@ use mathlib.Core.Path.{◌≡◌, sym}
 use mathlib.Core.List.{List, [], ◌∷◌, ◌++◌, append-nil}
 use Prim.Native.Nat.{ℕ, zero, suc, ◌+◌, ◌-◌, ◌<◌, ◌≤◌}
 use native.Mathlib.Omega.{arith}
-use lib.ListN.{length, get_or, set, take, drop}
+use lib.ListN.{length, get_or, take, drop}
 use lib.Seq.{drop-length, get_or-take, get_or-drop, take-take, take-nil, drop-drop}
 use borrow.Rule.Slice.PartMut.{put_mid, Post-is}
 pub use Rattle.laws.proofs.Lists.{length_part}

@@ -1,6 +1,6 @@
 -- Paper 01, "Refusal table", 1 to 5: "The lowest number that applies is returned."
-use Rattle.std.specs.Prelude.{◌≡◌, Bool, true, false, List, [], ℕ}
-use Rattle.std.proofs.Math.Option.{Option, none, some}
+use Rattle.std.specs.Prelude.{◌≡◌, true, false, List, [], ℕ}
+use Rattle.std.proofs.Math.Option.{none, some}
 use Rattle.csl.specs.Parties.{bits_of}
 use Rattle.csl.specs.Syntax.{Agreement}
 use Rattle.csl.specs.Decode.{decode, sized, agreement_of}

@@ -1,10 +1,10 @@
 -- Paper 01, "Refusal table": the entries start, reading and forecast, on bytes and cells. (check stands in Check.)
 -- "Check uses 1 to 5, start 1 to 6 and 11, forecast 1 to 7, a reading all."; a refusal leaves the table.
 use Rattle.std.specs.Prelude.{Bool, true, false, List, ℕ, zero, suc, eqb, ℤ, length}
-use Rattle.std.proofs.Math.Option.{Option, none, some}
+use Rattle.std.proofs.Math.Option.{none, some}
 use Rattle.csl.specs.Parties.{bits_of}
 use Rattle.csl.specs.Syntax.{Agreement}
-use Rattle.csl.specs.Check.{CheckResult, refused, accepted, checked}
+use Rattle.csl.specs.Check.{refused, accepted, checked}
 use Rattle.csl.specs.Outcomes.{Outcome, done, breach, running, stuck}
 use Rattle.csl.specs.Rules.{forecast}
 use Rattle.csl.specs.Run.{Stepped, started, step}

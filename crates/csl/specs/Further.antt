@@ -5,7 +5,7 @@ use Rattle.std.specs.Prelude.{Bool, true, false, List, [], ◌∷◌, ◌++◌, 
 use Rattle.std.proofs.Math.Option.{Option, none, some}
 use Prim.Native.String.{String}
 use Rattle.csl.specs.Numbers.{plus}
-use Rattle.csl.specs.Syntax.{number, truth, party, arithmetic, conj, less, equal, Expr, number_lit, truth_lit}
+use Rattle.csl.specs.Syntax.{number, arithmetic, conj, equal, Expr, number_lit, truth_lit}
 use Rattle.csl.specs.Syntax.{party_lit, binary, bad_expr, Op, Join, and, or, Wait, Clause, fulfilled, obligation}
 use Rattle.csl.specs.Syntax.{choice, if, join, instance, bad_clause, Template, Agreement}
 use Rattle.csl.specs.Bytes.{byte}

@@ -1,7 +1,7 @@
 -- Paper 01, "Typing", and refusal 4; CSL's well-formedness (section 3.3).
 -- "A position is guarded if it lies in some `then` of kind 17 or 18. In template n's body an unguarded
 -- instance names only a template below n."
-use Rattle.std.specs.Prelude.{Bool, true, false, ◌&&◌, List, [], ◌∷◌, ℕ, suc, ltb}
+use Rattle.std.specs.Prelude.{Bool, true, ◌&&◌, List, [], ◌∷◌, ℕ, suc, ltb}
 use Rattle.csl.specs.Syntax.{Clause, fulfilled, obligation, choice, if, join, instance, bad_clause, Template}
 
 unfoldable pub guarded_in : ℕ → Clause → Bool

@@ -1,6 +1,6 @@
 -- Residues and outcomes, and how `and` and `or` join them: paper 01, "Following a reading";
 -- CSL's verdicts (Defs. 2 and 4).
-use Rattle.std.specs.Prelude.{Bool, true, false, List, [], ◌∷◌, ◌++◌, ℕ, ◌+◌, ltb}
+use Rattle.std.specs.Prelude.{true, false, List, ◌++◌, ℕ, ◌+◌, ltb}
 use Rattle.std.proofs.Math.Option.{Option, none, some}
 use Rattle.csl.specs.Parties.{is_same_set}
 use Rattle.csl.specs.Syntax.{Join, and, or}

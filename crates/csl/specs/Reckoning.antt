@@ -3,7 +3,7 @@
 -- What is reckoned on the way is left open: `Rules` reckons the outcome, `Cost` what a reading costs. Each decision is
 -- taken once, here.
 use Rattle.std.specs.Prelude.{true, false, List, [], ◌∷◌, ◌++◌, ℕ, zero, suc, eqb, pos, ◌-ℤ◌, length}
-use Rattle.std.proofs.Math.Option.{Option, none, some}
+use Rattle.std.proofs.Math.Option.{Option, some}
 use Rattle.csl.specs.Lists.{◌>>=◌, at}
 use Rattle.csl.specs.Numbers.{later_of}
 use Rattle.csl.specs.Syntax.{Join, Wait, Clause, fulfilled, obligation, choice, if, join, instance, bad_clause}

@@ -1,7 +1,7 @@
 -- Paper 01, "Typing", and refusal 5.
 -- "Width: 1 for kinds 16 and 17; 1 and the else's for 18; 1 and both clauses' for 19, 20, 21; 1 and the body's for 22.
 -- The main clause, each template body and each `then` has width at most 256."
-use Rattle.std.specs.Prelude.{Bool, true, false, ◌&&◌, List, [], ◌∷◌, ◌++◌, ℕ, ◌+◌, leb}
+use Rattle.std.specs.Prelude.{Bool, true, ◌&&◌, List, [], ◌∷◌, ◌++◌, ℕ, ◌+◌, leb}
 use Rattle.std.proofs.Math.Option.{Option, none, some}
 use Rattle.csl.specs.Lists.{all, at}
 use Rattle.csl.specs.Syntax.{Clause, fulfilled, obligation, choice, if, join, instance, bad_clause, Template}

@@ -1,4 +1,6 @@
 // The value of an expression, over the bytes of an agreement and cells.
+#![tactic(auto)]
+
 ghost use Rattle.std.specs.Prelude.{◌≡◌, ◌≤◌};
 ghost use Rattle.csl.specs.Numbers.{Held, calculate};
 ghost use Rattle.csl.specs.Syntax.{conj};

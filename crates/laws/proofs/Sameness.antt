@@ -3,7 +3,7 @@ use mathlib.Core.Bool.{◌&&◌, Bool, false, true}
 use mathlib.Core.List.{◌++◌, List, [], ◌∷◌}
 use mathlib.Core.Path.{◌≡◌, ap, ap₂, refl}
 use native.Mathlib.Omega.{arith}
-use lib.Dec.{T, eqb, eqb→eq, eqb_refl}
+use lib.Dec.{T, eqb→eq, eqb_refl}
 use lib.IntN.{negsuc, pos, ℤ}
 use lib.ListN.{length}
 use Rattle.csl.specs.Numbers.{eq_z}

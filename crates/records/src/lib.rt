@@ -1,4 +1,6 @@
 // The parts of an agreement: where its records stand, and what the heads of its templates say.
+#![tactic(auto)]
+
 pub mod values;
 
 ghost use Rattle.std.specs.Prelude.{◌≡◌, true, ◌&&◌, ◌++◌, ℕ, ◌+◌, ◌≤◌, ◌<◌, min, eqb, length, get_or, take};

@@ -1,4 +1,6 @@
 // What a clause becomes: fulfilled, a breach, or a residue of units that grows downward from the end of its room.
+#![tactic(auto)]
+
 pub mod tallies;
 
 ghost use Rattle.std.specs.Prelude.{◌≡◌, ◌++◌, ◌+◌, ◌≤◌, ◌<◌, pos, length, get_or, drop};

@@ -1,4 +1,6 @@
 // What becomes of a wait: its window, its `where`, and what a reading or time alone makes of it.
+#![tactic(auto)]
+
 ghost use Rattle.std.specs.Prelude.{◌≡◌, ◌++◌, ℕ, ◌+◌, ◌-◌, ◌≤◌, ℤ, pos, ◌-ℤ◌, length, take, drop};
 ghost use Rattle.csl.specs.Decode.{expr, wait_at};
 ghost use Rattle.arith.specs.Near.{Near};

@@ -1,5 +1,4 @@
 -- Two held numbers differ by at most 2,000,000,000, so nothing overflows, and `held` gives the definition's answer.
-use borrow.Author.Rules.{rules}
 use mathlib.Core.Path.{◌∙◌}
 use Rattle.csl.specs.Numbers.{minus}
 use Rattle.arith.proofs.Ints.{read! }

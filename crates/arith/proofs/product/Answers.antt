@@ -1,5 +1,4 @@
 -- Two held numbers multiply to at most 10^18, which fits 64 bits, and `held` gives the definition's answer.
-use borrow.Author.Rules.{rules}
 use mathlib.Core.Path.{◌∙◌}
 use Rattle.csl.specs.Numbers.{times}
 use Rattle.arith.proofs.Ints.{read! }

@@ -1,5 +1,4 @@
 -- Two held numbers add to at most 2,000,000,000, so nothing overflows, and `held` gives the definition's answer.
-use borrow.Author.Rules.{rules}
 use mathlib.Core.Path.{◌∙◌}
 use Rattle.csl.specs.Numbers.{plus}
 use Rattle.arith.proofs.Ints.{read! }

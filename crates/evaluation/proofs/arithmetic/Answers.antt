@@ -1,6 +1,5 @@
 -- One kind, one operator, each held at both ends.
 use Rattle.records.specs.Kinds.{arithmetic_of}
-use borrow.Author.Rules.{rules}
 use Rattle.arith.proofs.Conds.{keys}
 use Rattle.evaluation.proofs.Evaluates.{as_arithmetic}
 use Rattle.evaluation.proofs.arithmetic.Goals as goal

@@ -1,5 +1,4 @@
 -- A truth is any cell but 0, and the second one counts only where the first is true.
-use borrow.Author.Rules.{rules}
 use mathlib.Core.Path.{◌∙◌, ap}
 use Rattle.arith.proofs.Ints.{read}
 use Rattle.arith.proofs.Conds.{conds, on_told}

@@ -1,5 +1,4 @@
 -- A truth is any cell but 0.
-use borrow.Author.Rules.{rules}
 use Rattle.arith.proofs.Ints.{read}
 use Rattle.cells.specs.Evaluate.{is_true_cell}
 use Rattle.evaluation.proofs.Evaluates.{true_is}

@@ -1,5 +1,4 @@
 -- A literal's bytes or a value in sight; a record of another length has the value 0 on both sides.
-use borrow.Author.Rules.{rules}
 use mathlib.Core.Path.{◌∙◌, ap}
 use lib.ListN.{get_or}
 use lib.IntN.{pos}

@@ -1,5 +1,4 @@
 -- A truth is any cell but 0, so its negation is 1 for 0 alone.
-use borrow.Author.Rules.{rules}
 use Rattle.arith.proofs.Ints.{read}
 use Rattle.arith.proofs.Conds.{conds}
 use Rattle.evaluation.specs.Parts.{negated_cell}

@@ -1,5 +1,4 @@
 -- One kind, one operator; the arithmetic ones are left for `arithmetic`.
-use borrow.Author.Rules.{rules}
 use mathlib.Core.Path.{◌∙◌, ap}
 use Rattle.arith.proofs.Conds.{keys}
 use Rattle.csl.specs.Syntax.{conj, less, equal, arithmetic}

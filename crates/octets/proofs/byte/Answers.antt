@@ -1,5 +1,4 @@
 -- Inside the slice the cast loses nothing; past its end the definition reads 0 too.
-use borrow.Author.Rules.{rules}
 use native.Mathlib.Omega.{arith}
 use Rattle.octets.proofs.Bytes.{byte_past}
 use Rattle.octets.proofs.byte.Goals as goal

@@ -1,5 +1,4 @@
 -- The bytes are a record where there are four of them and the first two give their length.
-use borrow.Author.Rules.{rules}
 use Rattle.octets.proofs.Bytes.{record_yes, record_no}
 use Rattle.octets.proofs.is_record.Goals as goal
 

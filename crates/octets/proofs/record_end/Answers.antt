@@ -1,5 +1,4 @@
 -- The end is where the length says, or the end of the bytes where that comes first; it never lies before the record.
-use borrow.Author.Rules.{rules}
 use native.Mathlib.Omega.{arith}
 use Rattle.csl.specs.Bytes.{record_end}
 use Rattle.octets.proofs.record_end.Goals as goal

@@ -1,5 +1,4 @@
 -- Below 2^31 the number is itself; from there on 2^32 is taken away, as two's complement has it.
-use borrow.Author.Rules.{rules}
 use Rattle.csl.specs.Bytes.{signed32}
 use Rattle.octets.proofs.Bytes.{low, high_asked, high_given}
 use Rattle.octets.proofs.signed32.Goals as goal

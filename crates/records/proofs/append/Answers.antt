@@ -1,10 +1,8 @@
 -- At each turn what was there and the first i of `from` stand at the front.
 use borrow.Author.Rules.{rules}
-use mathlib.Core.Path.{◌≡◌, refl}
-use mathlib.Core.List.{◌++◌}
-use Prim.Native.Nat.{◌+◌, ◌-◌, ◌≤◌}
+use mathlib.Core.Path.{refl}
 use native.Mathlib.Omega.{arith}
-use lib.ListN.{length, take, length-set}
+use lib.ListN.{length-set}
 use Rattle.laws.proofs.Lists.{append_none, append_more, append_done}
 use Rattle.records.proofs.append.Goals as goal
 

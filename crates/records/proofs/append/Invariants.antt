@@ -1,10 +1,7 @@
-use borrow.Author.Rules.{rules}
-use mathlib.Core.Path.{◌≡◌, refl}
+use mathlib.Core.Path.{◌≡◌}
 use mathlib.Core.List.{◌++◌}
 use Prim.Native.Nat.{◌+◌, ◌-◌, ◌≤◌}
-use native.Mathlib.Omega.{arith}
-use lib.ListN.{length, take, length-set}
-use Rattle.laws.proofs.Lists.{append_none, append_more, append_done}
+use lib.ListN.{length, take}
 use Rattle.records.proofs.append.Given as goal
 
 abbrev pub invariant-loop-i : goal.invariant-loop-i

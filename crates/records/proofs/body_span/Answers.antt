@@ -1,5 +1,4 @@
 -- A body stands behind its template's head and ends with the template.
-use borrow.Author.Rules.{rules}
 use Rattle.records.proofs.Index.{spans}
 use Rattle.records.proofs.body_span.Goals as goal
 

@@ -1,5 +1,4 @@
 -- Each kind has its own parts before its first clause, and the arms are the definition's.
-use borrow.Author.Rules.{rules}
 use native.Mathlib.Omega.{arith}
 use Rattle.arith.proofs.Conds.{keys}
 use Rattle.records.specs.Index.{first_clause}

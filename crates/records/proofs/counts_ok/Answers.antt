@@ -1,7 +1,6 @@
 -- Each test refuses what the definition refuses, and the last of them is the definition's last part.
 use mathlib.Core.Bool.{not}
 use mathlib.Core.Path.{ap}
-use borrow.Author.Rules.{rules}
 use Rattle.records.proofs.Listed.{counted_no_kind, counted_no_parties, counted_no_readings, counted_last}
 use Rattle.records.proofs.counts_ok.Goals as goal
 

@@ -1,5 +1,4 @@
 -- The index has the template's place, and the two bytes behind its parameter count are its declared parties.
-use borrow.Author.Rules.{rules}
 use Rattle.records.proofs.Index.{declared_read}
 use Rattle.records.proofs.declared_bits.Goals as goal
 

@@ -1,7 +1,6 @@
 -- Each test refuses what `listed` refuses, and the two walks store the places that the index asks for.
 use mathlib.Core.Bool.{not}
 use mathlib.Core.Path.{ap}
-use borrow.Author.Rules.{rules}
 use mathlib.Core.Path.{◌≡◌, ◌∙◌}
 use mathlib.Core.Bool.{false≢true}
 use native.Mathlib.Omega.{arith}

@@ -1,5 +1,4 @@
 -- The part from 0 on is the slice itself, so this is `clause_part`'s answer.
-use borrow.Author.Rules.{rules}
 use Rattle.laws.proofs.Lists.{part_from}
 use Rattle.records.proofs.first_clause.Goals as goal
 

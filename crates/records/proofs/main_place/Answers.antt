@@ -1,5 +1,4 @@
 -- Place 48 of the index is the main clause's.
-use borrow.Author.Rules.{rules}
 use native.Mathlib.Omega.{arith}
 use Rattle.records.proofs.Index.{main_within}
 use Rattle.records.proofs.main_place.Goals as goal

@@ -1,5 +1,4 @@
 -- The index has the template's place, and the byte behind its value types is its parameter count.
-use borrow.Author.Rules.{rules}
 use Rattle.records.proofs.Index.{params_read}
 use Rattle.records.proofs.param_count.Goals as goal
 

@@ -1,9 +1,8 @@
 -- At each turn the cells below i hold where the records begin, and a is where the next begins.
-use borrow.Author.Rules.{rules}
 use mathlib.Core.Path.{◌≡◌, refl, ap, sym, ◌∙◌}
-use Prim.Native.Nat.{ℕ, ◌+◌, ◌≤◌, ◌<◌, ◌-◌}
+use Prim.Native.Nat.{◌+◌}
 use native.Mathlib.Omega.{arith}
-use lib.ListN.{length, get_or, length-set}
+use lib.ListN.{length-set}
 use Rattle.csl.specs.Bytes.{record_end}
 use Rattle.csl.specs.Decode.{records_end}
 use Rattle.laws.proofs.RecordEnds.{pieces_within}

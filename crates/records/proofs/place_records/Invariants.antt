@@ -1,14 +1,7 @@
-use borrow.Author.Rules.{rules}
-use mathlib.Core.Path.{◌≡◌, refl, ap, sym, ◌∙◌}
+use mathlib.Core.Path.{◌≡◌}
 use Prim.Native.Nat.{ℕ, ◌+◌, ◌≤◌, ◌<◌, ◌-◌}
-use native.Mathlib.Omega.{arith}
-use lib.ListN.{length, get_or, length-set}
-use Rattle.csl.specs.Bytes.{record_end}
+use lib.ListN.{length, get_or}
 use Rattle.csl.specs.Decode.{records_end}
-use Rattle.laws.proofs.RecordEnds.{pieces_within}
-use borrow.Author.Count.{below_none}
-use Rattle.records.proofs.Index.{pieces_more, pieces_none}
-use Rattle.records.proofs.Listed.{stored_more, others_more}
 use Rattle.records.proofs.place_records.Given as goal
 
 abbrev pub invariant-loop-i : goal.invariant-loop-i

@@ -1,7 +1,6 @@
 -- Each test refuses what the definition refuses, and the types that are left decide.
 use mathlib.Core.Bool.{not}
 use mathlib.Core.Path.{ap}
-use borrow.Author.Rules.{rules}
 use mathlib.Core.Path.{sym, ◌∙◌}
 use native.Mathlib.Omega.{arith}
 use Rattle.laws.proofs.Bools.{true→T, told_yes}

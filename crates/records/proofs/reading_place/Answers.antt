@@ -1,5 +1,4 @@
 -- Place k of the index is reading type k + 1's.
-use borrow.Author.Rules.{rules}
 use native.Mathlib.Omega.{arith}
 use Rattle.records.proofs.Index.{reading_within}
 use Rattle.records.proofs.reading_place.Goals as goal

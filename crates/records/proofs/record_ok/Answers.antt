@@ -1,5 +1,4 @@
 -- Kind 2 is asked of reading types, any other of templates, as the definition does.
-use borrow.Author.Rules.{rules}
 use Rattle.arith.proofs.Conds.{conds}
 use Rattle.records.specs.Index.{record_ok}
 use Rattle.records.proofs.record_ok.Goals as goal

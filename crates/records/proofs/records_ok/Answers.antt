@@ -1,12 +1,9 @@
 -- The records still to be looked at decide, at each turn, what all of them decide.
 use mathlib.Core.Bool.{not}
 use mathlib.Core.Path.{ap}
-use borrow.Author.Rules.{rules}
-use mathlib.Core.Path.{◌≡◌, refl, sym, ◌∙◌}
-use Prim.Native.Nat.{◌≤◌}
+use mathlib.Core.Path.{refl, sym, ◌∙◌}
 use native.Mathlib.Omega.{arith}
-use lib.ListN.{length}
-use Rattle.records.proofs.Listed.{AllOk, records_no, records_more, records_end_lem}
+use Rattle.records.proofs.Listed.{records_no, records_more, records_end_lem}
 use Rattle.records.proofs.records_ok.Goals as goal
 
 pub loop-left-init : goal.loop-left-init

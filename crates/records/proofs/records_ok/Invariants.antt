@@ -1,11 +1,7 @@
-use mathlib.Core.Bool.{not}
-use mathlib.Core.Path.{ap}
-use borrow.Author.Rules.{rules}
-use mathlib.Core.Path.{◌≡◌, refl, sym, ◌∙◌}
+use mathlib.Core.Path.{◌≡◌}
 use Prim.Native.Nat.{◌≤◌}
-use native.Mathlib.Omega.{arith}
 use lib.ListN.{length}
-use Rattle.records.proofs.Listed.{AllOk, records_no, records_more, records_end_lem}
+use Rattle.records.proofs.Listed.{AllOk}
 use Rattle.records.proofs.records_ok.Given as goal
 
 -- the records before a are as listed, so that all are where those from a on are

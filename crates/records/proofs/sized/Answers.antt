@@ -1,7 +1,6 @@
 -- The two tests are what refusal 1 asks.
 use mathlib.Core.Bool.{not}
 use mathlib.Core.Path.{ap}
-use borrow.Author.Rules.{rules}
 use Rattle.records.proofs.Listed.{sized_no, sized_yes}
 use Rattle.records.proofs.sized.Goals as goal
 

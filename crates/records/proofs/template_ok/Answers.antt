@@ -1,6 +1,5 @@
 -- Each test refuses what the definition refuses, and the parameter count, tested last, decides.
 use mathlib.Core.Bool.{not}
-use borrow.Author.Rules.{rules}
 use Prim.Native.Nat.{◌+◌}
 use mathlib.Core.Path.{sym, ap, ◌∙◌}
 use native.Mathlib.Omega.{arith}

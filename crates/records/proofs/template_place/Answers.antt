@@ -1,5 +1,4 @@
 -- Place 16 + k of the index is template k's.
-use borrow.Author.Rules.{rules}
 use native.Mathlib.Omega.{arith}
 use Rattle.records.proofs.Index.{template_within}
 use Rattle.records.proofs.template_place.Goals as goal

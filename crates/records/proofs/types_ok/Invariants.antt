@@ -1,13 +1,8 @@
-use mathlib.Core.Bool.{not}
-use mathlib.Core.Path.{ap}
-use borrow.Author.Rules.{rules}
-use mathlib.Core.Path.{◌≡◌, refl}
+use mathlib.Core.Path.{◌≡◌}
 use Prim.Native.Nat.{◌≤◌, ◌-◌}
-use native.Mathlib.Omega.{arith}
 use lib.ListN.{length, drop}
 use Rattle.csl.specs.Lists.{all}
 use Rattle.csl.specs.Decode.{is_type}
-use Rattle.records.proofs.Listed.{types_no, types_more, types_end}
 use Rattle.records.proofs.types_ok.Given as goal
 
 -- the bytes before i are types, so that all are where those from i on are

@@ -1,5 +1,4 @@
 -- The index has the template's place, and its fifth byte is its value count.
-use borrow.Author.Rules.{rules}
 use Rattle.records.proofs.Index.{count_read}
 use Rattle.records.proofs.value_count.Goals as goal
 

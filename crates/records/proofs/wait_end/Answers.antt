@@ -1,5 +1,4 @@
 -- Three records follow each other, and each ends where its length says.
-use borrow.Author.Rules.{rules}
 use mathlib.Core.Path.{ap, ◌∙◌}
 use native.Mathlib.Omega.{arith}
 use Rattle.csl.specs.Bytes.{record_end}

@@ -1,5 +1,4 @@
 -- A cell that is not there reads as 0 on both sides.
-use borrow.Author.Rules.{rules}
 use mathlib.Core.Path.{sym}
 use lib.IntN.{pos}
 use lib.ListN.{get_or-eq_default}

@@ -1,11 +1,8 @@
 -- After i cells the first i are the source's, and behind them nothing has changed.
-use borrow.Author.Rules.{rules}
-use mathlib.Core.Path.{◌≡◌, ◌∙◌}
-use mathlib.Core.List.{◌++◌}
-use Prim.Native.Nat.{◌≤◌, ◌-◌}
+use mathlib.Core.Path.{◌∙◌}
 use native.Mathlib.Omega.{arith}
 use lib.IntN.{pos}
-use lib.ListN.{length, get_or, take, drop, length-set}
+use lib.ListN.{get_or, length-set}
 use Rattle.arith.proofs.Ints.{read! }
 use Rattle.residues.proofs.Cells.{copy_more, copied_all}
 use Rattle.residues.proofs.copy.Goals as goal

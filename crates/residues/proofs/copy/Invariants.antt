@@ -1,12 +1,7 @@
-use borrow.Author.Rules.{rules}
-use mathlib.Core.Path.{◌≡◌, ◌∙◌}
+use mathlib.Core.Path.{◌≡◌}
 use mathlib.Core.List.{◌++◌}
 use Prim.Native.Nat.{◌≤◌, ◌-◌}
-use native.Mathlib.Omega.{arith}
-use lib.IntN.{pos}
-use lib.ListN.{length, get_or, take, drop, length-set}
-use Rattle.arith.proofs.Ints.{read! }
-use Rattle.residues.proofs.Cells.{copy_more, copied_all}
+use lib.ListN.{length, take, drop}
 use Rattle.residues.proofs.copy.Given as goal
 
 abbrev pub invariant-loop-i : goal.invariant-loop-i

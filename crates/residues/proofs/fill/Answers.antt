@@ -1,11 +1,9 @@
 -- After the source's cells come zeros: the first loop copies, the second clears.
-use borrow.Author.Rules.{rules}
 use mathlib.Core.Path.{◌≡◌, refl, sym, ap, ◌∙◌}
-use mathlib.Core.List.{◌++◌}
-use Prim.Native.Nat.{ℕ, ◌≤◌, ◌-◌}
+use Prim.Native.Nat.{ℕ}
 use native.Mathlib.Omega.{arith}
 use lib.IntN.{pos}
-use lib.ListN.{length, get_or, take, drop, length-set, get_or-eq_default}
+use lib.ListN.{length, get_or, length-set, get_or-eq_default}
 use Rattle.arith.proofs.Ints.{read! }
 use Rattle.csl.specs.Table.{padded}
 use Rattle.residues.proofs.Cells.{copy_more, left_over, filled_all, padded_at}

@@ -1,14 +1,8 @@
-use borrow.Author.Rules.{rules}
-use mathlib.Core.Path.{◌≡◌, refl, sym, ap, ◌∙◌}
+use mathlib.Core.Path.{◌≡◌}
 use mathlib.Core.List.{◌++◌}
-use Prim.Native.Nat.{ℕ, ◌≤◌, ◌-◌}
-use native.Mathlib.Omega.{arith}
-use lib.IntN.{pos}
-use lib.ListN.{length, get_or, take, drop, length-set, get_or-eq_default}
-use Rattle.arith.proofs.Ints.{read! }
+use Prim.Native.Nat.{◌≤◌, ◌-◌}
+use lib.ListN.{length, take, drop}
 use Rattle.csl.specs.Table.{padded}
-use Rattle.residues.proofs.Cells.{copy_more, left_over, filled_all, padded_at}
-use Rattle.laws.proofs.Cells.{length_padded}
 use Rattle.residues.proofs.fill.Given as goal
 
 abbrev pub invariant-loop-i : goal.invariant-loop-i

@@ -1,6 +1,5 @@
 -- Kind 20 is `and`, and kind 21 is `or`.
 use Rattle.residues.proofs.Reduces.{as_join, join_first, join_second}
-use borrow.Author.Rules.{rules}
 use Rattle.residues.proofs.join.Goals as goal
 
 pub returns-then-kind-eq-AND : goal.returns-then-kind-eq-AND

@@ -1,7 +1,6 @@
 -- The two residues stand one below the other at the end, so the join's unit below them makes one residue in prefix
 -- order; without room only the count is kept.
 use Rattle.residues.proofs.Reduces.{join_full, join_put}
-use borrow.Author.Rules.{rules}
 use Rattle.residues.proofs.put_join.Goals as goal
 
 pub returns-then-used-out : goal.returns-then-used-out

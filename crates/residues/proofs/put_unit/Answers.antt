@@ -1,5 +1,4 @@
 -- The unit takes the last 24 cells; without room only the count is kept.
-use borrow.Author.Rules.{rules}
 use Rattle.residues.proofs.Reduces.{put_short, put_long}
 use Rattle.residues.proofs.put_unit.Goals as goal
 

@@ -1,5 +1,4 @@
 -- Three cells, five for the parameters and sixteen for the values are the unit's 24, in this order.
-use borrow.Author.Rules.{rules}
 use mir.Syntax.{w64}
 use mir.Val.{to_z}
 use native.Mathlib.Omega.{arith}

@@ -1,5 +1,4 @@
 -- A number lies between the ends, a truth is 0 or 1, a party is below the count.
-use borrow.Author.Rules.{rules}
 use Rattle.records.proofs.TypedValues.{number_ok, negative, cast_asked, truth_ok, party_ok}
 use Rattle.records.proofs.values.value_ok.Goals as goal
 

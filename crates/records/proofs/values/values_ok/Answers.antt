@@ -1,14 +1,9 @@
 -- The values before i are of their types, so those from i on decide.
 use mathlib.Core.Bool.{not}
 use mathlib.Core.Path.{ap}
-use borrow.Author.Rules.{rules}
-use mathlib.Core.Path.{◌≡◌}
-use Prim.Native.Nat.{◌-◌, ◌≤◌}
 use native.Mathlib.Omega.{arith}
 use lib.IntN.{pos}
-use lib.ListN.{length, drop, get_or}
-use Rattle.csl.specs.Decode.{tys_of}
-use Rattle.records.specs.TypedValues.{values_ok}
+use lib.ListN.{get_or}
 use Rattle.arith.proofs.Ints.{read! }
 use Rattle.records.proofs.TypedValues.{values_first, values_more, values_not, values_last}
 use Rattle.records.proofs.values.values_ok.Goals as goal

@@ -1,15 +1,8 @@
-use mathlib.Core.Bool.{not}
-use mathlib.Core.Path.{ap}
-use borrow.Author.Rules.{rules}
 use mathlib.Core.Path.{◌≡◌}
 use Prim.Native.Nat.{◌-◌, ◌≤◌}
-use native.Mathlib.Omega.{arith}
-use lib.IntN.{pos}
-use lib.ListN.{length, drop, get_or}
+use lib.ListN.{length, drop}
 use Rattle.csl.specs.Decode.{tys_of}
 use Rattle.records.specs.TypedValues.{values_ok}
-use Rattle.arith.proofs.Ints.{read! }
-use Rattle.records.proofs.TypedValues.{values_first, values_more, values_not, values_last}
 use Rattle.records.proofs.values.values_ok.Given as goal
 
 abbrev pub invariant-loop-i : goal.invariant-loop-i

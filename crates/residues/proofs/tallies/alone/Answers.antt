@@ -1,6 +1,5 @@
 -- The answer is handed on, and the clause is counted once.
 use Rattle.residues.proofs.Counts.{reckons_alone}
-use borrow.Author.Rules.{rules}
 use Rattle.residues.proofs.tallies.alone.Goals as goal
 
 pub returns : goal.returns

@@ -3,7 +3,6 @@ use Rattle.residues.proofs.Counts.{reckons_beside}
 use Rattle.residues.proofs.Reduces.{join_of_both}
 use Rattle.residues.specs.Tallies.{ended_by}
 use mathlib.Core.Path.{refl}
-use borrow.Author.Rules.{rules}
 use Rattle.residues.proofs.tallies.beside_ended.Goals as goal
 
 pub returns : goal.returns

@@ -1,6 +1,5 @@
 -- The answer is handed on, and what is counted of it stands beyond the wait itself.
 use Rattle.residues.proofs.Counts.{reckons_ended_wait}
-use borrow.Author.Rules.{rules}
 use Rattle.residues.proofs.tallies.ended_wait.Goals as goal
 
 pub returns : goal.returns

@@ -1,7 +1,6 @@
 -- A join that is fulfilled at once adds nothing further; any other adds what its sides add.
 use Rattle.residues.proofs.Counts.{join_once, join_later}
 use Rattle.laws.specs.Joins.{join_of}
-use borrow.Author.Rules.{rules}
 use Rattle.residues.proofs.tallies.join_tallies.Goals as goal
 
 pub returns-then-once : goal.returns-then-once

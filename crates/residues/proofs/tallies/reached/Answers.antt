@@ -1,6 +1,5 @@
 -- The answer is handed on, with one clause more.
 use Rattle.residues.proofs.Counts.{reckons_reached}
-use borrow.Author.Rules.{rules}
 use Rattle.residues.proofs.tallies.reached.Goals as goal
 
 pub returns : goal.returns

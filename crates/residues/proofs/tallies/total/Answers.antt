@@ -1,6 +1,5 @@
 -- Two numbers that are each counted up to the most are, added up, counted up to the most.
 use Rattle.residues.proofs.Counts.{tally_total}
-use borrow.Author.Rules.{rules}
 use Rattle.residues.proofs.tallies.total.Goals as goal
 
 pub returns : goal.returns
