@@ -1,4 +1,6 @@
 // The rules: what a clause becomes that is activated, follows a reading or tells its breach.
+#![tactic(auto)]
+
 pub mod blames;
 pub mod instances;
 pub mod leads;

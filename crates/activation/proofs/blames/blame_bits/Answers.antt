@@ -2,7 +2,7 @@
 use Rattle.activation.proofs.Arguments.{bits_below, bits_of_lem}
 use Rattle.arith.proofs.Linear.{not_negative}
 use mathlib.Core.Path.{◌∙◌}
-use borrow.Author.Rules.{sfits_of, rules}
+use borrow.Author.Rules.{sfits_of}
 use Rattle.arith.proofs.Ints.{read!, index_asked, index_given}
 use Rattle.activation.proofs.blames.blame_bits.Goals as goal
 

@@ -2,7 +2,6 @@
 use Rattle.activation.proofs.Arguments.{blamed_party, blamed_param}
 use mathlib.Core.Path.{◌∙◌}
 use Rattle.arith.proofs.Ints.{read! }
-use borrow.Author.Rules.{rules}
 use Rattle.activation.proofs.blames.blamed.Goals as goal
 
 pub returns-then-b-lt-PARAMS_FROM : goal.returns-then-b-lt-PARAMS_FROM

@@ -1,13 +1,9 @@
 -- After i bytes the first i cells are the parties that they stand for.
 use Rattle.activation.proofs.Arguments.{blames_more, blames_all}
 use native.Mathlib.Omega.{arith}
-use mathlib.Core.Path.{◌≡◌, ◌∙◌}
-use mathlib.Core.List.{◌++◌}
-use Prim.Native.Nat.{◌≤◌, ◌-◌}
-use lib.ListN.{length, take, drop, length-set}
-use Rattle.cells.specs.Reduce.{blamed_cells}
+use mathlib.Core.Path.{◌∙◌}
+use lib.ListN.{length-set}
 use Rattle.arith.proofs.Ints.{read! }
-use borrow.Author.Rules.{rules}
 use Rattle.activation.proofs.blames.blames.Goals as goal
 
 pub loop-i-preserved : goal.loop-i-preserved

@@ -1,12 +1,8 @@
-use Rattle.activation.proofs.Arguments.{blames_more, blames_all}
-use native.Mathlib.Omega.{arith}
-use mathlib.Core.Path.{◌≡◌, ◌∙◌}
+use mathlib.Core.Path.{◌≡◌}
 use mathlib.Core.List.{◌++◌}
 use Prim.Native.Nat.{◌≤◌, ◌-◌}
-use lib.ListN.{length, take, drop, length-set}
+use lib.ListN.{length, take, drop}
 use Rattle.cells.specs.Reduce.{blamed_cells}
-use Rattle.arith.proofs.Ints.{read! }
-use borrow.Author.Rules.{rules}
 use Rattle.activation.proofs.blames.blames.Given as goal
 
 abbrev pub invariant-loop-i : goal.invariant-loop-i

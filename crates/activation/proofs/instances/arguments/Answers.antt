@@ -1,10 +1,9 @@
 -- After i expressions the first i cells are their values, and the next one begins where the last ended.
-use Rattle.activation.proofs.Arguments.{Argued, argued_none, argued_more, argued_all}
+use Rattle.activation.proofs.Arguments.{argued_none, argued_more, argued_all}
 use native.Mathlib.Omega.{arith}
 use Rattle.waits.proofs.Waits.{clamped}
-use mathlib.Core.Path.{◌≡◌, ◌∙◌, ap}
-use Prim.Native.Nat.{◌≤◌, ◌-◌, ◌+◌}
-use lib.ListN.{length, length-set}
+use mathlib.Core.Path.{◌∙◌, ap}
+use lib.ListN.{length-set}
 use Rattle.arith.proofs.Ints.{read! }
 use Rattle.csl.specs.Decode.{expr}
 use Rattle.cells.specs.Evaluate.{eval_cells}

@@ -1,13 +1,7 @@
-use Rattle.activation.proofs.Arguments.{Argued, argued_none, argued_more, argued_all}
-use native.Mathlib.Omega.{arith}
-use Rattle.waits.proofs.Waits.{clamped}
-use mathlib.Core.Path.{◌≡◌, ◌∙◌, ap}
+use Rattle.activation.proofs.Arguments.{Argued}
+use mathlib.Core.Path.{◌≡◌}
 use Prim.Native.Nat.{◌≤◌, ◌-◌, ◌+◌}
-use lib.ListN.{length, length-set}
-use Rattle.arith.proofs.Ints.{read! }
-use Rattle.csl.specs.Decode.{expr}
-use Rattle.cells.specs.Evaluate.{eval_cells}
-use borrow.Author.Rules.{rules}
+use lib.ListN.{length}
 use Rattle.activation.proofs.instances.arguments.Given as goal
 
 abbrev pub invariant-loop-i : goal.invariant-loop-i

@@ -6,7 +6,6 @@ use mathlib.Core.Path.{refl}
 use Prim.Native.Nat.{◌-◌}
 use lib.ListN.{length}
 use borrow.Rule.Slice.PartMut.{put_mid}
-use borrow.Author.Rules.{rules}
 use Rattle.activation.proofs.instances.instance.Goals as goal
 
 pub returns-then-k-below : goal.returns-then-k-below

@@ -2,7 +2,6 @@
 use Rattle.activation.proofs.Walks.{chosen_then, chosen_else}
 use native.Mathlib.Omega.{arith}
 use mathlib.Core.Path.{sym, ◌∙◌}
-use borrow.Author.Rules.{rules}
 use Rattle.activation.proofs.leads.chosen.Goals as goal
 
 pub returns-then-is_true : goal.returns-then-is_true

@@ -1,5 +1,4 @@
 -- A record of any other kind decodes to a clause that does nothing, at every depth.
-use borrow.Author.Rules.{rules}
 use mathlib.Core.Bool.{false≢true}
 use native.Mathlib.Omega.{arith}
 use Rattle.activation.proofs.Walks.{ended}

@@ -4,7 +4,6 @@ use Rattle.activation.proofs.Walks.{leads_body, acting_last}
 use Rattle.evaluation.proofs.Evaluates.{room}
 use native.Mathlib.Omega.{arith}
 use Rattle.records.proofs.Trees.{kind_obligation, kind_choice, kind_if, kind_instance}
-use borrow.Author.Rules.{rules}
 use Rattle.activation.proofs.leads.leads_to.Goals as goal
 
 pub obligation-requires : goal.obligation-requires

@@ -1,6 +1,5 @@
 -- The later of a natural time and any other is a natural time.
 use Rattle.waits.proofs.Waits.{moved_asked, moved_is}
-use borrow.Author.Rules.{rules}
 use Rattle.activation.proofs.leads.moved.Goals as goal
 
 pub overflow_cast-result : goal.overflow_cast-result

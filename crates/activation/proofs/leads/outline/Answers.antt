@@ -1,13 +1,11 @@
 -- Two sides that do nothing do nothing together, and beside one of them an `and` is its other side; all else is as the
 -- kind says.
-use mathlib.Core.Bool.{not, true}
-use mathlib.Core.Path.{◌≡◌, ap, sym, ◌∙◌}
+use mathlib.Core.Bool.{not}
+use mathlib.Core.Path.{ap, sym, ◌∙◌}
 use native.Mathlib.Omega.{arith}
-use borrow.Author.Tests.{not-true, not-false}
 use Rattle.evaluation.proofs.Evaluates.{room}
 use Rattle.activation.proofs.Walks.{Told, Paired, shows_zero, shows_none, shows_idle, shows_acts}
 use Rattle.activation.proofs.Walks.{shows_sides, shows_both_ended, shows_right, shows_left}
-use borrow.Author.Rules.{rules}
 use Rattle.activation.proofs.leads.outline.Goals as goal
 use Rattle.activation.proofs.leads.outline.Goals.{After-kind-k, After-record_end-f}
 
