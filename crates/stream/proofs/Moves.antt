@@ -1,17 +1,12 @@
--- Bytes moved to the front of a buffer, one by one, and a part read into.
+-- Bytes moved to the front of a buffer, one by one.
 use mathlib.Core.Path.{◌≡◌, refl, sym, ap, ◌∙◌}
 use mathlib.Core.List.{List}
-use Prim.Native.Nat.{ℕ, suc, ◌+◌, ◌-◌, ◌≤◌, ◌<◌}
+use Prim.Native.Nat.{ℕ, suc, ◌+◌, ◌-◌, ◌<◌}
 use native.Mathlib.Numerals.{add-one}
 use native.Mathlib.Omega.{arith}
 use lib.ListN.{length, get_or, take, drop, set, length-drop}
-use borrow.Rule.Slice.PartMut.{put_mid}
 use Rattle.csl.specs.Bytes.{part}
-use Rattle.arith.proofs.Lists.{tail_put, length_part}
-use Rattle.stream.specs.Next.{Comes}
-use Rattle.stream.specs.declared.Got.{Got}
-use Rattle.stream.specs.declared.Got.TheVariants.{Bytes, Over, Failed}
-use lib.Seq.{take-suc, take-suc-set, take-append-le, drop-set-lt, drop-drop, get_or-drop, length-take-le, take-take}
+use lib.Seq.{take-suc, take-suc-set, drop-set-lt, drop-drop, get_or-drop}
 
 -- after i bytes, of those from `from` on: what is moved, and that nothing from i on has changed
 pub record Moved (before now : List ℕ) (from i : ℕ) : Type 0 where
@@ -49,17 +44,3 @@ moved_all before now from to i e m = rw (sym e) m.front
 
 pub stays : (l : List ℕ) (from to : ℕ) → from ≡ 0 → take to l ≡ part l from to
 stays l from to e = let n : to - 0 ≡ to = omega arith in rw (e, n)
-
--- ---- a part read into, from `at` to the end
-pub before_part : (l part : List ℕ) (at : ℕ) → at ≤ length l → take at (put_mid at (length l - at) l part) ≡ take at l
-before_part l part at h = rw (
-  tail_put at l part h,
-  take-append-le at (take at l) part (omega (arith, length-take-le at l h)),
-  take-take at at l (omega arith),
-)
-
-pub comes_within : (l : List ℕ) (at : ℕ) (r : Got) → at ≤ length l → Comes 0 (length (part l at (length l))) r
-    → Comes at (length l) r
-comes_within l at (Bytes k) h e = omega (arith, length_part l at (length l) (omega arith))
-comes_within l at Over h e = tt
-comes_within l at Failed h e = tt

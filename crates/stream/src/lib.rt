@@ -1,71 +1,16 @@
-// Bytes in from standard input, cut into records, and bytes out through a buffer: what the programs share.
-ghost use Rattle.std.specs.Prelude.{◌≡◌, ◌-◌, ◌<◌, ◌≤◌, length, take};
+// The input, read piece by piece and cut into records, and what is written.
+#![tactic(auto)]
+
+ghost use Rattle.std.specs.Prelude.{◌≡◌, ◌-◌, ◌<◌, ◌≤◌, length, take, drop, IfOk, OnOk, OnErr};
+ghost use Rattle.std.specs.Io.KnownBytes.{Appends, Keeps};
 ghost use Rattle.csl.specs.Bytes.{part};
 ghost use Rattle.stream.specs.Records.{size_of};
-ghost use Rattle.stream.specs.Next.{next_of, Comes};
+ghost use Rattle.stream.specs.Next.{next_of, Comes, Brings};
 ghost use Rattle.stream.specs.declared.Next.TheVariants.{Wait};
 
-use libc::{STDIN_FILENO, STDOUT_FILENO};
 use octets::unsigned16;
-
-// Puts b at `at`, where there is room, and answers the place after it.
-pub fn put(out: &mut [u8], at: usize, b: u8) -> usize {
-    if at < out.len() {
-        out[at] = b;
-        return at + 1;
-    }
-    at
-}
-
-// Puts all of s.
-pub fn put_all(out: &mut [u8], at: usize, s: &[u8]) -> usize {
-    let mut to = at;
-    for i in 0..s.len() {
-        to = put(out, to, s[i]);
-    }
-    to
-}
-
-// Puts a number in decimal.
-pub fn put_decimal(out: &mut [u8], at: usize, n: u64) -> usize {
-    let mut text = [0u8; 20];
-    let k = io::decimal(n, &mut text);
-    put_all(out, at, &text[..k])
-}
-
-// Puts a space and a number.
-pub fn put_next(out: &mut [u8], at: usize, n: u64) -> usize {
-    let to = put(out, at, b' ');
-    put_decimal(out, to, n)
-}
-
-// Writes what the buffer holds from `from` up to `at`.
-pub fn flush(out: &[u8], from: usize, at: usize) {
-    if from <= at {
-        if at <= out.len() {
-            io::write_all(STDOUT_FILENO, &out[from..at]);
-        }
-    }
-}
-
-// Writes a buffer of 65,536 bytes where it is nearly full, and answers how much of it is in use then.
-pub fn make_room(out: &[u8], at: usize) -> usize {
-    if at < 65_000 {
-        return at;
-    }
-    flush(out, 0, at);
-    0
-}
-
-// Reads into buf from `from` on, up to `to`, and answers how many bytes came.
-pub fn read_part(buf: &mut [u8], from: usize, to: usize) -> usize {
-    if from <= to {
-        if to <= buf.len() {
-            return io::read_full(STDIN_FILENO, &mut buf[from..to]);
-        }
-    }
-    0
-}
+use std::io;
+use std::io::{Read, Write};
 
 // What is next: a record of so many bytes, or more input is needed, or the input has ended after a whole record.
 #[derive(Clone, Copy)]
@@ -77,7 +22,8 @@ pub enum Next {
 
 // What is next in s, of an input that has ended there or has not.
 pub fn next_record(s: &[u8], ended: bool) -> Next
-    ensures { (result ≡ next_of s.now ended) × (result ≡ Wait → length s.now < 65_535) }
+    ensures next { result ≡ next_of s.now ended }
+    ensures waits { result ≡ Wait → length s.now < 65_535 }
 {
     let size = record_size(s);
     if size <= s.len() {
@@ -94,7 +40,8 @@ pub fn next_record(s: &[u8], ended: bool) -> Next
 
 // What the first record's length field says; the field itself has two bytes.
 fn record_size(s: &[u8]) -> usize
-    ensures { (result ≡ size_of s.now) × (result < 65_536) }
+    ensures size { result ≡ size_of s.now }
+    ensures bound { result < 65_536 }
 {
     let said = unsigned16(s, 0);
     if said < 2 { 2 } else { said }
@@ -103,7 +50,8 @@ fn record_size(s: &[u8]) -> usize
 // Moves the bytes from `from` up to `to` to the front, and answers how many they are.
 pub fn keep(buf: &mut [u8], from: usize, to: usize) -> usize
     requires { (from ≤ to) × (to ≤ length buf.old) }
-    ensures { (result ≡ to - from) × (take result buf.new ≡ part buf.old from to) }
+    ensures size { result ≡ to - from }
+    ensures bytes { take result buf.new ≡ part buf.old from to }
 {
     if from == 0 {
         return to;
@@ -114,40 +62,43 @@ pub fn keep(buf: &mut [u8], from: usize, to: usize) -> usize
     to - from
 }
 
-// What one read brought: bytes, or the input is over, or the read failed.
+// What one read brought: bytes, or the input is over.
 #[derive(Clone, Copy)]
 pub enum Got {
     Bytes(usize),
     Over,
-    Failed,
 }
 
 // One read, for as many bytes as are there and fit.
-fn read_some(rest: &mut [u8]) -> Got
-    ensures { Comes 0 (length rest.old) result }
+fn read_some<R: Read>(reader: &mut R, rest: &mut [u8]) -> io::Result<Got>
+    requires { 0 < length rest.old }
+    ensures comes { IfOk result (Comes 0 (length rest.old)) }
+    ensures brings { IfOk result (Brings (R.remaining reader.old) (R.remaining reader.new) rest.new) }
+    ensures fails { OnErr result (Keeps (R.remaining reader.old) (R.remaining reader.new)) }
 {
-    let got = libc::read(STDIN_FILENO, rest);
-    if got < 0 {
-        return Got::Failed;
-    }
-    let n = io::count(got, rest);
+    let n = reader.read(rest)?;
     if n == 0 {
-        return Got::Over;
+        return Ok(Got::Over);
     }
-    Got::Bytes(n)
+    Ok(Got::Bytes(n))
 }
 
-// One read into buf from `at` on. What stands before `at` stays.
-pub fn read_more(buf: &mut [u8], at: usize) -> Got
+// One read into buf from `at` on. What stands before `at` stays, and where the bytes to come are known, the first of
+// them are what was read.
+pub fn read_more<R: Read>(reader: &mut R, buf: &mut [u8], at: usize) -> io::Result<Got>
     requires { at < length buf.old }
-    ensures { (take at buf.new ≡ take at buf.old) × Comes at (length buf.old) result }
+    ensures kept { take at buf.new ≡ take at buf.old }
+    ensures comes { IfOk result (Comes at (length buf.old)) }
+    ensures brings { IfOk result (Brings (R.remaining reader.old) (R.remaining reader.new) (drop at buf.new)) }
+    ensures fails { OnErr result (Keeps (R.remaining reader.old) (R.remaining reader.new)) }
 {
-    read_some(&mut buf[at..])
+    read_some(reader, &mut buf[at..])
 }
 
-// Writes the first `at` bytes of out, and answers whether all of them were taken.
-pub fn emit(out: &[u8], at: usize) -> bool
+// Writes the first `at` bytes of out.
+pub fn emit<W: Write>(writer: &mut W, out: &[u8], at: usize) -> io::Result<()>
     requires { at ≤ length out.now }
+    ensures { OnOk result (Appends (W.contents writer.old) (W.contents writer.new) (take at out.now)) }
 {
-    io::write_all(STDOUT_FILENO, &out[..at])
+    writer.write_all(&out[..at])
 }

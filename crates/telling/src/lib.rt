@@ -1,4 +1,6 @@
 // The line that a start or a reading tells.
+#![tactic(auto)]
+
 ghost use Rattle.std.specs.Prelude.{◌≡◌, ◌∷◌, ◌++◌, ◌+◌, ◌≤◌, pos, length, get_or};
 ghost use Rattle.lines.specs.Text.{decimal, fields, line, space, dash};
 ghost use Rattle.lines.specs.Lines.{forecast_fields, verdict_fields, reading_time, refusal_fields};
@@ -18,7 +20,8 @@ pub const LINE_ROOM: usize = 96;
 // A forecast's time and parties, or NONE, and the line's end.
 fn put_forecast(out: &mut [u8], at: usize, foretold: Foretold) -> usize
     requires { at + 43 ≤ length out.old }
-    ensures { Put (fields (forecast_fields (forecast_answer foretold))) out.old at out.new result × (result ≤ at + 43) }
+    ensures puts { Put (fields (forecast_fields (forecast_answer foretold))) out.old at out.new result }
+    ensures room { result ≤ at + 43 }
 {
     match foretold {
         Foretold::Breach { time, parties } => {
@@ -41,7 +44,8 @@ fn state_of(table: &[i64]) -> i64
 // The word for a table's state, and the forecast unless it is fulfilled.
 fn put_verdict(out: &mut [u8], at: usize, agreement: &[u8], table: &[i64]) -> usize
     requires { at + 50 ≤ length out.old }
-    ensures { Put (fields (verdict_fields agreement.now table.now)) out.old at out.new result × (result ≤ at + 50) }
+    ensures puts { Put (fields (verdict_fields agreement.now table.now)) out.old at out.new result }
+    ensures room { result ≤ at + 50 }
 {
     let state = state_of(table);
     if equal(state, 2) {
@@ -59,7 +63,8 @@ fn put_verdict(out: &mut [u8], at: usize, agreement: &[u8], table: &[i64]) -> us
 // A line's number and time.
 fn put_time(out: &mut [u8], at: usize, n: u64, time: usize) -> usize
     requires { at + 41 ≤ length out.old }
-    ensures { Put (decimal n ++ (space ∷ decimal time)) out.old at out.new result × (result ≤ at + 41) }
+    ensures puts { Put (decimal n ++ (space ∷ decimal time)) out.old at out.new result }
+    ensures room { result ≤ at + 41 }
 {
     let a = put_decimal(out, at, n);
     put_next(out, a, time as u64)
@@ -68,7 +73,8 @@ fn put_time(out: &mut [u8], at: usize, n: u64, time: usize) -> usize
 // A line's number, and `-` for a record that has no time.
 fn put_timeless(out: &mut [u8], at: usize, n: u64) -> usize
     requires { at + 22 ≤ length out.old }
-    ensures { Put (decimal n ++ (space ∷ dash)) out.old at out.new result × (result ≤ at + 22) }
+    ensures puts { Put (decimal n ++ (space ∷ dash)) out.old at out.new result }
+    ensures room { result ≤ at + 22 }
 {
     let a = put_decimal(out, at, n);
     put_bytes(out, a, b" -")
@@ -107,8 +113,8 @@ pub fn begin(agreement: &[u8], table: &mut [i64], out: &mut [u8]) -> Told
 // The line of a refused reading: one refused with 8 has no time.
 fn put_refused(out: &mut [u8], at: usize, n: u64, reading: &[u8], number: u32) -> usize
     requires { at + line_room ≤ length out.old }
-    ensures { Put (line n (reading_time reading.now number ∷ refusal_fields number))
-        out.old at out.new result × (result ≤ at + line_room) }
+    ensures puts { Put (line n (reading_time reading.now number ∷ refusal_fields number)) out.old at out.new result }
+    ensures room { result ≤ at + line_room }
 {
     if number == 8 {
         let a = put_timeless(out, at, n);
