@@ -1,6 +1,7 @@
 #!/usr/bin/env python3
 """Counts the instructions that `check` takes on agreements of about 2,048 and 16,384 bytes, and the least stack that
-the program `trials` runs in on a valid and on a hostile agreement. Needs target/bin/trials (rt check trials) and valgrind."""
+the program `trials` runs in on a valid and on a hostile agreement. Needs the program (cd crates/trials && rt run <stdin)
+and valgrind."""
 import resource
 import subprocess
 

@@ -40,7 +40,7 @@ def agreement(main, templates=(), parties=2):
     return rec(1, head + b"".join(templates) + main)
 
 
-def program(name): return os.path.join(ROOT, "target", "bin", name)
+def program(name): return os.path.join(ROOT, "crates", name, "out", name)
 
 
 def instructions(path, data):

@@ -1,4 +1,4 @@
-//! Links the proved library, which `rt staticlib givuntha` writes.
+//! Links the proved library, which `bindings/staticlib` makes.
 
 use std::path::PathBuf;
 
@@ -7,7 +7,7 @@ fn main() {
     let folder = root.join("../target/staticlib");
     let library = folder.join("libgivuntha.a");
     if !library.exists() {
-        panic!("{} is missing: run rt staticlib givuntha", library.display());
+        panic!("{} is missing: run bindings/staticlib", library.display());
     }
     println!("cargo:rerun-if-changed={}", library.display());
     println!("cargo:rustc-link-search=native={}", folder.display());

@@ -1,4 +1,4 @@
-//! Links the proved library, which `rt staticlib givuntha` makes.
+//! Links the proved library, which `bindings/staticlib` makes.
 
 use std::env;
 use std::path::PathBuf;
@@ -12,7 +12,7 @@ fn main() {
     // The linker runs in another folder, so a relative path would not do.
     let Ok(folder) = folder.canonicalize().and_then(|folder| library.metadata().map(|_| folder)) else {
         eprintln!("error: there is no library at {}", library.display());
-        eprintln!("`rt staticlib givuntha` at the root of the repository makes it;");
+        eprintln!("`bindings/staticlib` at the root of the repository makes it;");
         eprintln!("GIVUNTHA_LIB may name another folder that holds libgivuntha.a");
         exit(1);
     };

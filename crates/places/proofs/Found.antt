@@ -237,7 +237,7 @@ module _ (s : List ℕ) (hs : List Head) (rs : List (List Ty)) (p : ℕ) (f : Fo
       (omega (arith, record_end_after s i l, record_end_within s i)) (rw g at t₁) (rw g at o))
       (λ o. in_templates n e (record_end_within s i) ok₂ t₂ o)
 
--- what the finder finds at a place of a well_formed_lem agreement is the clause recorded there, and whole
+-- what the finder finds at a place of a well-formed agreement is the clause recorded there, and whole
 pub found_is : (s : List ℕ) (p : ℕ) (f : Found) → T (well_formed s) → clause_at (agreement_of s) p ≡ some f
     → (f.clause ≡ clause (heads_of s) 23 p (part s p (record_end s p))) × T (whole f.clause)
 unfolding clause_at agreement_of main_of template_pieces templates_place between

@@ -31,7 +31,7 @@ lines_are = watched_is
 lines_tried : map (λ t. watched t.input) trials ≡ map (λ t. t.written) trials
 lines_tried = trials_pass
 
--- 7 does not apply to 3,080 cells if and only if they are the table of a well_typed run
+-- 7 does not apply to 3,080 cells if and only if they are the table of a well-typed run
 tables_typed : (a : Agreement) (mains : List ℕ) (cells : List ℤ) → Fair a mains → length cells ≡ 3080
     → ((q : Run) × (run_of a mains cells ≡ some q))
     ↔ ((q : Run) × Inv a mains q.last_time q.last_moved q.outcome × (cells ≡ table_of q))

@@ -453,7 +453,7 @@ table_back a mains cells q e l =
     sym (i.0 ∙ ap (λ x. x ++ s.1) (head_is s.0 h a₂ i.1)
     ∙ (state_is a mains h s.1 h.state o a₄).1 (omega (arith, i.2)) ∙ ap table_of (some_inj b₄))
 
--- 7 does not apply to 3080 cells if and only if they are the table of a well_typed run
+-- 7 does not apply to 3080 cells if and only if they are the table of a well-typed run
 pub well_typed : (a : Agreement) (mains : List ℕ) (cells : List ℤ) → Fair a mains → length cells ≡ 3080
     → ((q : Run) × (run_of a mains cells ≡ some q))
     ↔ ((q : Run) × Inv a mains q.last_time q.last_moved q.outcome × (cells ≡ table_of q))
