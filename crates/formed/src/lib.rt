@@ -1,5 +1,7 @@
 // Refusal 2, for any bytes: 'record, count, type byte or nesting not as under Records, or an instance naming no
 // template'.
+#![tactic(auto)]
+
 ghost use Rattle.std.specs.Prelude.{◌≡◌, true, ◌&&◌, ◌≤◌, ◌<◌, length};
 ghost use Rattle.csl.specs.Bytes as bytes;
 ghost use Rattle.csl.specs.Lists.{at};

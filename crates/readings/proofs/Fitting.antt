@@ -1,5 +1,5 @@
 -- Laws for a reading against the agreement's reading types.
-use mathlib.Core.Path.{◌≡◌, refl, sym, ap, subst, ◌∙◌}
+use mathlib.Core.Path.{◌≡◌, refl, sym, ap, ◌∙◌}
 use mathlib.Core.Bool.{Bool, true, false, ◌&&◌}
 use mathlib.Core.List.{List, []}
 use mathlib.Core.Option.{none, some}
@@ -26,9 +26,7 @@ use Rattle.laws.proofs.Options.{some_inj, from_bind, from_need}
 use Rattle.laws.proofs.Types.{types_length}
 use Rattle.records.specs.Index.{Indexed, reading_place, piece_at}
 use Rattle.records.proofs.Index.{readings_at, readings_past, reading_end, reading_types, part_piece}
-use Rattle.readings.specs.declared.Raw.{Raw}
-use Rattle.readings.specs.declared.Raw.TheVariants.{Malformed, Read}
-use Rattle.readings.specs.Taking.{given, RawRead, RawIs, TypedIs, UntypedRead, FittingRead}
+use Rattle.readings.specs.Taking.{given, RawRead, TypedIs, UntypedRead, FittingRead}
 use Rattle.readings.proofs.Options.{given_some, given_none, given_then}
 use Rattle.records.specs.TypedValues.{values_ok}
 use Rattle.readings.proofs.Values.{all_given, values_cells}
@@ -152,13 +150,6 @@ module _ {places s : List ℕ} (x : Indexed places s) {k b a e : ℕ} (f : k ≡
       }
 
 -- ---- the answer
-module _ (bytes : List ℕ) (vs : List ℤ) {r : Raw} where
-  pub was_bad : r ≡ Malformed → RawIs bytes vs r → raw_reading bytes ≡ none
-  was_bad e x = subst (RawIs bytes vs) e x
-
-  pub was_read : {t k n : ℕ} → r ≡ Read t k n → RawIs bytes vs r → RawRead bytes vs t k n
-  was_read e x = subst (RawIs bytes vs) e x
-
 module _ {s bytes : List ℕ} {vs : List ℤ} {t k n : ℕ} {u : Bool} (x : RawRead bytes vs t k n)
     (y : TypedIs s k (take n vs) u) where
   told : u ≡ given (typed_reading (agreement_of s) x.raw)

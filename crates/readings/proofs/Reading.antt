@@ -1,6 +1,6 @@
 -- Laws for a reading's bytes: when they are a reading, and its numbers as they are stored.
 use mathlib.Core.Path.{◌≡◌, refl, sym, ap, ◌∙◌}
-use mathlib.Core.Bool.{Bool, true, false, not, ◌&&◌}
+use mathlib.Core.Bool.{Bool, true, false, ◌&&◌}
 use mathlib.Core.List.{List, [], ◌∷◌, ◌++◌}
 use mathlib.Core.Option.{none}
 use Prim.Native.Nat.{ℕ, zero, suc, ◌+◌, ◌-◌, ◌*◌, ◌/◌, ◌%◌, ◌≤◌, ◌<◌}
@@ -15,7 +15,7 @@ use Rattle.csl.specs.Bytes.{byte, le32, signed32, is_record, kind_number}
 use Rattle.csl.specs.Decode.{between}
 use Rattle.csl.specs.Run as run
 use Rattle.csl.specs.Run.{raw_reading, numbers_from}
-use Rattle.laws.proofs.Bools.{both_true, T→true, true→T, told_yes, told_no, refused}
+use Rattle.laws.proofs.Bools.{both_true, T→true, true→T, refused}
 use Rattle.readings.specs.Taking.{given, RawRead}
 use Rattle.readings.proofs.Options.{given_none, given_needs, some_needs}
 
@@ -86,18 +86,18 @@ pub numbers_more : (s : List ℕ) (vs : List ℤ) (i : ℕ) {a : ℕ} {z : ℤ} 
 numbers_more s vs i {z} h p q l = rw (add-one i, take-suc-set vs i z l, h, q, p) (sym (numbers_suc i s 9))
 
 -- ---- u is what the code was told
-pub raw_bad : (s : List ℕ) {u : Bool} → u ≡ given (raw_reading s) → not u ≡ true → raw_reading s ≡ none
-raw_bad s e f = given_none (raw_reading s) (told_no e f)
+pub raw_bad : (s : List ℕ) {u : Bool} → u ≡ given (raw_reading s) → u ≡ false → raw_reading s ≡ none
+raw_bad s e f = given_none (raw_reading s) (sym e ∙ f)
 
-pub raw_long : (s : List ℕ) {u : Bool} → u ≡ given (raw_reading s) → not u ≡ false → Holds s
-raw_long s e f = holds s (told_yes e f)
+pub raw_long : (s : List ℕ) {u : Bool} → u ≡ given (raw_reading s) → u ≡ true → Holds s
+raw_long s e f = holds s (sym e ∙ f)
 
-pub raw_read : (s : List ℕ) (vs : List ℤ) {u : Bool} {t k n : ℕ} → u ≡ given (raw_reading s) → not u ≡ false
+pub raw_read : (s : List ℕ) (vs : List ℤ) {u : Bool} {t k n : ℕ} → u ≡ given (raw_reading s) → u ≡ true
     → n ≡ (length s - 9) / 4 → take n vs ≡ numbers_from n s 9 → t ≡ le32 s 4 → t < 4_294_967_296 → k ≡ byte s 8
     → RawRead s vs t k n
 unfolding raw_reading
 raw_read s vs {n} e f p q g l h =
-    let y = told_yes e f in
+    let y = sym e ∙ f in
     record {
       raw = raw_of s;
       is = some_needs (is_kind s) (in_length s) (raw_of s) y;

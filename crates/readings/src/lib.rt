@@ -1,4 +1,6 @@
 // Refusals 8 and 9: what a reading's bytes are, and whether they fit the agreement.
+#![tactic(auto)]
+
 ghost use Rattle.std.specs.Prelude.{◌≡◌, ◌≤◌, length};
 ghost use Rattle.std.proofs.Math.ListN as lists;
 ghost use Rattle.csl.specs.Run.{raw_reading, numbers_from};

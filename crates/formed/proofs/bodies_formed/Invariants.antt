@@ -1,7 +1,7 @@
 use mathlib.Core.Path.{◌≡◌}
 use Prim.Native.Nat.{◌-◌, ◌≤◌}
 use Rattle.formed.specs.Tests.{bodies_whole}
-use Rattle.formed.proofs.Bodies.{Left, bodies}
+use Rattle.formed.proofs.Bodies.{Left}
 use Rattle.formed.proofs.bodies_formed.Given as goal
 
 abbrev pub invariant-loop-k : goal.invariant-loop-k

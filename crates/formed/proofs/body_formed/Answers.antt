@@ -1,5 +1,4 @@
 -- A body stands behind the head of its template, and may nest 22 deep.
-use borrow.Author.Rules.{rules}
 use Rattle.formed.proofs.Bodies.{body_whole}
 use Rattle.formed.proofs.body_formed.Goals as goal
 

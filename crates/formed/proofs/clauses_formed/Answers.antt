@@ -1,5 +1,4 @@
 -- The main clause may nest 23 deep and a body 22, and both must be whole.
-use borrow.Author.Rules.{rules}
 use Rattle.formed.proofs.Bodies.{mains}
 use Rattle.formed.proofs.clauses_formed.Goals as goal
 

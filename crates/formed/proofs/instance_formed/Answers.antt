@@ -1,6 +1,5 @@
 -- The template that is named says how many arguments and blames there must be.
 use Rattle.formed.proofs.Clauses.{instances}
-use borrow.Author.Rules.{rules}
 use Rattle.formed.proofs.instance_formed.Goals as goal
 
 pub returns-then-s-lt5 : goal.returns-then-s-lt5

@@ -1,14 +1,16 @@
 -- What is listed and whole is well formed, and the index is filled on the way.
 use mathlib.Core.Path.{refl, ◌∙◌}
-use borrow.Author.Tests.{not-true, not-false}
-use borrow.Author.Rules.{rules}
 use Rattle.formed.proofs.Bodies.{not_listed, is_listed}
 use Rattle.formed.proofs.well_formed.Goals as goal
 
 pub returns-then-not-fill_index : goal.returns-then-not-fill_index
 returns-then-not-fill_index c =
     let f = c.fill_index in let e = c.if-not-fill_index.true in
-    (not_listed _ f.ensures.answer e refl, (f.ensures.room, λ h. f.ensures.indexed (e ∙ h)))
+    record {
+      answer = not_listed _ f.ensures.answer e refl;
+      room = f.ensures.room;
+      indexed = λ h. f.ensures.indexed (e ∙ h);
+    }
 
 pub clauses_formed-requires : goal.clauses_formed-requires
 clauses_formed-requires c =
@@ -17,4 +19,8 @@ clauses_formed-requires c =
 pub returns : goal.returns
 returns c =
     let f = c.fill_index in let e = c.if-not-fill_index.false in
-    (is_listed _ f.ensures.answer e c.clauses_formed.ensures, (f.ensures.room, λ h. f.ensures.indexed e))
+    record {
+      answer = is_listed _ f.ensures.answer e c.clauses_formed.ensures;
+      room = f.ensures.room;
+      indexed = λ h. f.ensures.indexed e;
+    }
