@@ -9,7 +9,7 @@ use lib.ListN.{length, take, set, length-append, length-take, length-map}
 use lib.Seq.{take-suc-set}
 use Rattle.arith.proofs.Lists.{length_part}
 use Rattle.octets.proofs.Bytes.{record_end_within}
-use Rattle.csl.specs.Lists.{or_nil, at}
+use Rattle.csl.specs.Lists.{or_nil}
 use Rattle.csl.specs.Bytes.{byte, part, record_end}
 use Rattle.csl.specs.Syntax.{Ty, number}
 use Rattle.csl.specs.Decode.{ty_of, tys_of, reading_type, agreement_of}

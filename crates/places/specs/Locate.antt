@@ -1,12 +1,11 @@
 -- What the search for a clause at a byte place answers.
-use Rattle.std.specs.Prelude.{◌≡◌, List, [], ℕ, ◌+◌, ◌-◌, ◌≤◌, length, take}
+use Rattle.std.specs.Prelude.{◌≡◌, List, ℕ, ◌+◌, ◌-◌, ◌≤◌, length, take}
 use Rattle.std.proofs.Math.Option.{Option, none, some}
 use Rattle.csl.specs.Bytes.{part}
 use Rattle.csl.specs.Lists.{or_nil}
 use Rattle.csl.specs.Syntax.{Ty, Clause, fulfilled, obligation, choice, if, join, instance, bad_clause}
 use Rattle.csl.specs.Decode.{tys_of, clause, heads_of, body_of, agreement_of}
 use Rattle.csl.specs.Typing.{names_of, type_clause, reading_of_type, then_sight}
-use Rattle.csl.specs.Check.{CheckResult, refused, accepted, checked}
 use Rattle.csl.specs.Places.{Found, find}
 use Rattle.records.specs.Index.{template_place, piece_at, head_at}
 use Rattle.places.specs.declared.Located.{Located}

@@ -1,4 +1,6 @@
 // The waiting clause at a byte place of the agreement, and what is in sight there.
+#![tactic(auto)]
+
 ghost use Rattle.std.specs.Prelude.{◌≡◌, List, ℕ, ◌+◌, ◌^◌, ◌≤◌, ◌<◌, length};
 ghost use Rattle.csl.specs.Bytes as bytes;
 ghost use Rattle.csl.specs.Bytes.{kind_number};
@@ -68,7 +70,7 @@ fn from_obligation(
     types: &mut [u8],
 ) -> Step
     requires indexed { Indexed places.now agreement.now × Stands agreement.now base s.now types.old count }
-    requires s_value { kind_number s.now ≡ 17 }
+    requires is_obligation { kind_number s.now ≡ 17 }
     ensures { StepIs agreement.now base s.now place count types.old types.new result }
 {
     if place == base {
@@ -94,7 +96,7 @@ fn from_choice(
     types: &mut [u8],
 ) -> Step
     requires indexed { Indexed places.now agreement.now × Stands agreement.now base s.now types.old count }
-    requires s_value { kind_number s.now ≡ 18 }
+    requires is_choice { kind_number s.now ≡ 18 }
     ensures { StepIs agreement.now base s.now place count types.old types.new result }
 {
     if place == base {

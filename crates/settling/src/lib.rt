@@ -1,4 +1,6 @@
 // A run's table after a reading.
+#![tactic(auto)]
+
 ghost use Rattle.std.specs.Prelude.{◌≡◌, cond, not, ◌||◌, ◌++◌, ◌∷◌, [], ◌+◌, ◌*◌, ◌≤◌, ◌<◌, pos, length, drop, get_or, take};
 ghost use Rattle.csl.specs.Run.{same_numbers};
 ghost use Rattle.csl.specs.Table.{padded};

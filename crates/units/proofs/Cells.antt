@@ -6,18 +6,19 @@ use mathlib.Core.Option.{Option, none, some}
 use Prim.Native.Nat.{ℕ, zero, suc, ◌+◌, ◌-◌, ◌^◌, ◌≤◌, ◌<◌}
 use native.Mathlib.Numerals.{add-one}
 use native.Mathlib.Omega.{arith}
-use borrow.Author.Tests.{lt-ltb, le-ltb, ne_eqb, ltb-true}
-use lib.Dec.{T, eqb}
+use borrow.Author.Tests.{lt-ltb, le-ltb, ne_eqb, ltb-true, ltb-false}
+use lib.Dec.{T, eqb, ltb}
 use lib.IntN.{ℤ, pos, negsuc, nat_abs}
 use lib.ListN.{length, get_or, take, drop, set}
 use lib.Seq.{drop-cons, take-suc-set, drop-length}
 use lib.Bits.{bit_or, or_zero_l, or_add_and, and_le_r}
 use lib.Signed.{mag, lt_z, non_neg}
 use mir.Syntax.{w64}
-use mir.Val.{Fits, SFits, of_z}
-use Rattle.arith.proofs.Ints.{seen, index_asked, index_given, read}
+use mir.Val.{Fits, SFits, sel, of_z, to_z}
+use Rattle.arith.proofs.Ints.{seen, index_asked, index_given}
 use Rattle.arith.proofs.Linear.{not_negative}
 use Rattle.csl.specs.Lists.{◌>>=◌, need, all}
+use Rattle.laws.proofs.Bools.{by}
 use Rattle.csl.specs.Values.{as_nat}
 use Rattle.csl.specs.Table.{is_zero}
 use Rattle.units.specs.Cells.{number_below, parties_in}
@@ -62,9 +63,15 @@ or_none zero b = ap (λ (n : ℕ). eqb n 0) (or_zero_l b)
 or_none (suc a) b = rw (ne_eqb (suc a) 0 (λ e. omega arith))
     (ne_eqb (bit_or (suc a) b) 0 (λ e. omega (arith, or_add_and (suc a) b, and_le_r (suc a) b)))
 
+-- the ones seen so far, read as a cell
+bits_none : (n : ℕ) → eqb n 0 ≡ is_zero (to_z w64 n)
+unfolding is_zero
+bits_none n = by (λ t. eqb n 0 ≡ is_zero (sel t (pos n) (negsuc (2 ^ 64 - suc n)))) (ltb n (2 ^ 63))
+    (λ e. refl) (λ e. ne_eqb n 0 (λ z. omega (arith, ltb-false n (2 ^ 63) e)))
+
 module _ (zs : List ℤ) where
   abbrev From : ℕ → ℕ → Type 0
-  From ones i = (i ≤ length zs) × (all is_zero zs ≡ (eqb ones 0 && all is_zero (drop i zs)))
+  From ones i = (i ≤ length zs) × (all is_zero zs ≡ (is_zero (to_z w64 ones) && all is_zero (drop i zs)))
 
   pub zeros_more : (ones : ℕ) {i : ℕ} → i < length zs → mag (get_or zs i (pos 0)) < 2 ^ 63 → From ones i
       → From (bit_or ones (of_z w64 (get_or zs i (pos 0)))) (i + 1)
@@ -73,6 +80,8 @@ module _ (zs : List ℤ) where
       let x = get_or zs i (pos 0) in (
         omega arith,
         f.1 ∙ rw (
+          ← bits_none ones,
+          ← bits_none (bit_or ones (of_z w64 x)),
           drop-cons zs i (pos 0) l,
           add-one i,
           or_none ones (of_z w64 x),
@@ -84,7 +93,7 @@ module _ (zs : List ℤ) where
   pub zeros_last : (ones : ℕ) {i : ℕ} → length zs ≤ i → From ones i → eqb ones 0 ≡ all is_zero zs
   unfolding all
   zeros_last ones {i} l f = let e : i ≡ length zs = omega arith in
-      sym (f.1 ∙ rw (e, drop-length zs, and-true (eqb ones 0)))
+      sym (f.1 ∙ rw (e, drop-length zs, and-true (is_zero (to_z w64 ones)), ← bits_none ones))
 
 -- ---- parties
 party_is : {r : ℕ} (ps : ℕ) (z : ℤ) (rest : List ℤ) → r ≡ number_below ps z → r ≤ ps → (r ≡ ps → ⊥)

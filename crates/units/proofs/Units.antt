@@ -13,7 +13,7 @@ use lib.Bits.{bit_or}
 use lib.Dec.{T, ltb, eqb, ltb→lt}
 use lib.IntN.{ℤ}
 use lib.ListN.{length, get_or, take, drop}
-use Rattle.csl.specs.Lists.{all, at}
+use Rattle.csl.specs.Lists.{all}
 use Rattle.csl.specs.Bytes.{byte, part, record_end}
 use Rattle.csl.specs.Parties.{member, bits_of, subset}
 use Rattle.csl.specs.Decode.{tys_of, agreement_of}

@@ -1,4 +1,6 @@
 // The units of a table: what their cells hold to, and the parties of a waiting unit.
+#![tactic(auto)]
+
 ghost use Rattle.std.specs.Prelude.{◌≡◌, true, false, List, ℕ, ◌+◌, ◌≤◌, ◌<◌, length, take};
 ghost use Rattle.std.proofs.Math.Option.{none, some};
 ghost use Rattle.csl.specs.Lists.{all};

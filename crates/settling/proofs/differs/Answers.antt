@@ -1,10 +1,9 @@
 -- All cells before i are the same: the first two that differ decide, and where there are none the units are the same.
 use borrow.Author.Rules.{rules}
-use mathlib.Core.Path.{◌≡◌, ap, sym}
-use Prim.Native.Nat.{◌-◌, ◌≤◌}
+use mathlib.Core.Path.{ap, sym}
 use native.Mathlib.Omega.{arith}
 use lib.IntN.{pos}
-use lib.ListN.{get_or, take}
+use lib.ListN.{get_or}
 use mir.Syntax.{w64}
 use mir.Val.{of_z}
 use Rattle.settling.proofs.Units.{known_altered, not_same, same_more, same_whole, word_is}
@@ -25,7 +24,7 @@ loop-i-preserved c = (
   omega arith,
   same_more c.args.cells.now c.args.unit.now c.loop-i.i (omega arith) (omega arith)
       c.loop-i.invariant.1
-      (sym (word_is c.t9-1.given c.t12-1.given c.if-unit-i.false)),
+      (sym (word_is (search rules) (search rules) c.if-unit-i.false)),
 )
 
 pub returns : goal.returns

@@ -1,12 +1,6 @@
-use borrow.Author.Rules.{rules}
-use mathlib.Core.Path.{◌≡◌, ap, sym}
+use mathlib.Core.Path.{◌≡◌}
 use Prim.Native.Nat.{◌-◌, ◌≤◌}
-use native.Mathlib.Omega.{arith}
-use lib.IntN.{pos}
-use lib.ListN.{get_or, take}
-use mir.Syntax.{w64}
-use mir.Val.{of_z}
-use Rattle.settling.proofs.Units.{known_altered, not_same, same_more, same_whole, word_is}
+use lib.ListN.{take}
 use Rattle.settling.proofs.differs.Given as goal
 
 abbrev pub invariant-loop-i : goal.invariant-loop-i

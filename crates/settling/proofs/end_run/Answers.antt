@@ -1,5 +1,4 @@
 -- Eight cells and zeros behind them.
-use borrow.Author.Rules.{rules}
 use native.Mathlib.Omega.{arith}
 use Rattle.arith.proofs.Ints.{read}
 use Rattle.residues.proofs.Cells.{cell_of_lem}

@@ -1,6 +1,5 @@
 -- The units are written, zeros behind them, then the head with when the run last moved, which was judged while they
 -- were written.
-use borrow.Author.Rules.{rules}
 use native.Mathlib.Omega.{arith}
 use Rattle.arith.proofs.Ints.{read, read! }
 use Rattle.residues.proofs.Cells.{cell_of_lem}

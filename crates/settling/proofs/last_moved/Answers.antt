@@ -10,4 +10,4 @@ returns-then-altered c = rw c.if-altered.true (read c.ranges.time)
 
 pub returns : goal.returns
 returns c =
-    rw c.if-altered.false (read! {z = get_or c.args.table.now 5 (pos 0)} c.result-1.given)
+    rw c.if-altered.false (read! {z = get_or c.args.table.now 5 (pos 0)} (search rules))

@@ -1,8 +1,6 @@
 -- Where nothing differs the cells are the same already, else all 24 are copied.
 use mathlib.Core.Bool.{not}
-use mathlib.Core.Path.{ap}
-use borrow.Author.Rules.{rules}
-use mathlib.Core.Path.{◌∙◌}
+use mathlib.Core.Path.{ap, ◌∙◌}
 use native.Mathlib.Omega.{arith}
 use Rattle.residues.proofs.Cells.{copied_whole}
 use Rattle.settling.proofs.Units.{nothing_differs, something_differs}

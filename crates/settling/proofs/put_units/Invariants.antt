@@ -1,12 +1,8 @@
-use borrow.Author.Rules.{rules}
-use mathlib.Core.Path.{◌≡◌, ap, refl, ◌∙◌}
+use mathlib.Core.Path.{◌≡◌}
 use mathlib.Core.List.{◌++◌}
-use Prim.Native.Nat.{◌+◌, ◌-◌, ◌*◌, ◌≤◌}
-use native.Mathlib.Omega.{arith}
-use lib.ListN.{length, take, drop, length-append, length-take, length-drop}
-use lib.Seq.{take_all}
-use Rattle.residues.proofs.Cells.{copy_part, copied_all}
-use Rattle.settling.proofs.Units.{altered_more, altered_none, altered_in}
+use Prim.Native.Nat.{◌-◌, ◌*◌, ◌≤◌}
+use lib.ListN.{length, take, drop}
+use Rattle.settling.proofs.Units.{altered_in}
 use Rattle.settling.proofs.put_units.Given as goal
 
 abbrev pub invariant-loop-k : goal.invariant-loop-k

@@ -15,11 +15,17 @@ pub end_run-requires-in-Breach : goal.end_run-requires-in-Breach
 end_run-requires-in-Breach c =
     (c.requires.0, rw c.in-Breach.is at c.requires.4)
 
+-- the units are few, and stand in out
+fits : (c : In-Running) → (c.in-Running.n ≤ 128)
+    × (24 * c.in-Running.n ≤ length c.args.out.now)
+fits c =
+    (rw c.in-Running.is at c.requires.2.few, rw c.in-Running.is at c.requires.2.room)
+
 pub overflow_mul-from : goal.overflow_mul-from
-overflow_mul-from c = record { fits = omega (arith, (fits c).0) }
+overflow_mul-from c = record { fits = omega (arith, (fits (goal.at.overflow_mul-from c).In-Running).0) }
 
 pub overflow_sub-from : goal.overflow_sub-from
-overflow_sub-from c = omega (arith, (fits c).1)
+overflow_sub-from c = omega (arith, (fits (goal.at.overflow_sub-from c).In-Running).1)
 
 pub returns-in-Done : goal.returns-in-Done
 returns-in-Done c =
@@ -34,34 +40,23 @@ returns-in-Breach c =
     settled_breach _ c.args.used c.args.out.now c.args.table.now (read c.ranges.time ∙ c.requires.3)
     end-run.new.table c.in-Breach.t c.in-Breach.b c.in-Breach.is (rw t at end-run.ensures)
 
--- the units are few, and stand in out
-fits : (c : In-Running) → (c.in-Running.n ≤ 128)
-    × (24 * c.in-Running.n ≤ length c.args.out.now)
-fits c =
-    (rw c.in-Running.is at c.requires.2.few, rw c.in-Running.is at c.requires.2.room)
-
 pub go_on-requires : goal.go_on-requires
 go_on-requires c =
-    let at-known-told = c.before in
-    let s = at-known-told.before in
-    let n : ℕ = at-known-told.in-Running.n in
-    let out = s.args.out.now in
-    let z = fits at-known-told in (
-      s.requires.0,
+    let n : ℕ = c.in-Running.n in
+    let out = c.args.out.now in
+    let z = fits (goal.at.go_on-requires c).In-Running in (
+      c.requires.0,
       length_part out (length out - 24 * n) (length out) (omega arith) ∙ omega (arith, z.1),
       z.0,
-      s.requires.1,
+      c.requires.1,
     )
 
 pub returns-in-Running : goal.returns-in-Running
 returns-in-Running c =
-    let go_on = c.go_on in
-    let at-known-told = c.before in
-    let s = at-known-told.before in
-    let n : ℕ = at-known-told.in-Running.n in
-    let z = fits at-known-told in
-    let out = s.args.out.now in
+    let n : ℕ = c.in-Running.n in
+    let z = fits (goal.at.returns-in-Running c).In-Running in
+    let out = c.args.out.now in
     let from : ℕ = length out - 24 * n in
     let part = take_all (length out - from) (drop from out) (rw (length-drop from out) (omega arith)) in
-    settled_running _ s.args.used out s.args.table.now (read s.ranges.time ∙ s.requires.3) n z.0 z.1
-    go_on.new.table (rw part at go_on.ensures.0) at-known-told.in-Running.is (rw part at go_on.ensures.1)
+    settled_running _ c.args.used out c.args.table.now (read c.ranges.time ∙ c.requires.3) n z.0 z.1
+    c.go_on.new.table (rw part at c.go_on.ensures.0) c.in-Running.is (rw part at c.go_on.ensures.1)

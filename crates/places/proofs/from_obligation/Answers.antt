@@ -1,0 +1,41 @@
+-- At its own place it is found; any other place of it is in its `then`.
+use mathlib.Core.Path.{refl, sym}
+use Rattle.places.proofs.Steps.{typed_room, obligation_here, obligation_sees, obligation_into}
+use Rattle.places.specs.Locate.{StepAt}
+use Rattle.places.proofs.from_obligation.Goals as goal
+
+pub returns-then-place-base : goal.returns-then-place-base
+unfolding StepAt
+returns-then-place-base c =
+    record {
+      each = λ d t. (
+        obligation_here c.args.place c.args.count c.args.types.now t
+            (sym c.requires.is_obligation) refl c.if-place-base.true,
+        refl,
+      );
+    }
+
+pub first_clause-c-requires : goal.first_clause-c-requires
+first_clause-c-requires c = typed_room c.requires.indexed.1.typed
+
+pub then_sight-n-requires : goal.then_sight-n-requires
+then_sight-n-requires c =
+    let stands = c.requires.indexed.1 in (
+      c.requires.indexed.0,
+      record {
+        room = stands.room;
+        few = stands.few;
+        sees = rw c.byte.ensures.0 (obligation_sees c.args.place c.args.count
+            c.args.types.now stands.typed.at (sym c.requires.is_obligation) refl);
+      },
+    )
+
+pub returns : goal.returns
+unfolding StepAt
+returns c =
+    let then-sight = c.then_sight-n in
+    record {
+      each = λ d t. obligation_into c.args.place c.args.count c.args.types.now t
+          (sym c.requires.is_obligation) then-sight.new.types refl c.if-place-base.false
+          c.first_clause-c.ensures.0 c.byte.ensures.0 then-sight.ensures;
+    }

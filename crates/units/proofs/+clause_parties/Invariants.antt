@@ -1,0 +1,5 @@
+use lib.ListN.{length}
+use Rattle.units.proofs.+clause_parties.Given as goal
+
+abbrev pub decreases-clause_parties : goal.decreases-clause_parties
+decreases-clause_parties l = length l.s.now

@@ -1,0 +1,18 @@
+-- In a whole instance the blames are its last bytes, and its template's head says how many.
+use Rattle.units.proofs.Blames.{named_known, named_room, named_parties}
+use native.Mathlib.Omega.{arith}
+use Rattle.units.proofs.instance_parties.Goals as goal
+
+pub param_count-requires : goal.param_count-requires
+param_count-requires c = (c.requires.0, named_known c.requires.1 c.requires.2 c.byte-k.ensures.0)
+
+pub overflow_sub-n : goal.overflow_sub-n
+overflow_sub-n c = omega (arith, named_room c.requires.1 c.requires.2 c.byte-k.ensures.0 c.param_count.ensures.0)
+
+pub declared_bits-requires : goal.declared_bits-requires
+declared_bits-requires c = (c.requires.0, named_known c.requires.1 c.requires.2 c.byte-k.ensures.0)
+
+pub returns : goal.returns
+returns c =
+    named_parties c.requires.1 c.requires.2 c.byte-k.ensures.0 c.param_count.ensures.0 c.declared_bits.ensures
+    c.blame_bytes.ensures.0 c.union.ensures.0
