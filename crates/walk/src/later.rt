@@ -36,7 +36,7 @@ fn unit_opens_later(
     sights: &[usize],
     table: &[i64],
 ) -> bool
-    requires rs_len_bound { (length rs.now ≤ 4) × (event.time ≤ 4_294_967_296) × (length agreement.now ≤ farthest) }
+    requires read { (length rs.now ≤ 4) × (event.time ≤ 4_294_967_296) × (length agreement.now ≤ farthest) }
     requires front { Front (length agreement.now) sights.now table.now }
     ensures { result ≡ cond (ltb (nat_of (get_or table.now 0 (pos 0))) 20)
         (unit_opens_later event.time event.tag rs.now agreement.now
@@ -62,7 +62,7 @@ pub fn some_open_later(
     table: &[i64],
     n: usize,
 ) -> bool
-    requires rs_len_bound { (length rs.now ≤ 4) × (event.time ≤ 4_294_967_296) × (length agreement.now ≤ farthest) }
+    requires read { (length rs.now ≤ 4) × (event.time ≤ 4_294_967_296) × (length agreement.now ≤ farthest) }
     requires tree { Tree (length agreement.now) sights.now table.now n }
     ensures { result ≡ some_open_later event.time event.tag rs.now agreement.now n
         sights.now table.now }

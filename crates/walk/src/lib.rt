@@ -1,4 +1,6 @@
 // The rules at every unit of a table.
+#![tactic(auto)]
+
 pub mod later;
 
 ghost use Rattle.std.specs.Prelude.{◌≡◌, ◌≤◌, ◌<◌, pos, length, get_or, take, ltb};
