@@ -1,11 +1,10 @@
 -- Laws for the clauses of a well-formed agreement: its main clause, and its templates' bodies one after another.
 use mathlib.Core.Path.{◌≡◌, sym, ap, ◌∙◌}
-use mathlib.Core.Bool.{Bool, true, false, not, ◌&&◌}
+use mathlib.Core.Bool.{Bool, true, false, ◌&&◌}
 use mathlib.Core.List.{List, [], ◌∷◌, ◌++◌, map}
 use Prim.Native.Nat.{ℕ, suc, ◌+◌, ◌-◌, ◌<◌, ◌≤◌}
 use native.Mathlib.Numerals.{add-one}
 use native.Mathlib.Omega.{arith}
-use borrow.Author.Tests.{not-true, not-false}
 use lib.ListN.{length}
 use Rattle.csl.specs.Lists.{all}
 use Rattle.csl.specs.Bytes.{byte, part}
@@ -100,8 +99,8 @@ module _ (s : List ℕ) (k : ℕ) (l : byte s 10 ≤ k) where
 
 -- ---- a loop over the templates: t is what all of them say, a what one says, and x what the code found of it
 module _ (a b : Bool) {t x : Bool} (e : t ≡ (a && b)) (f : x ≡ a) where
-  pub loop_stops : not x ≡ true → false ≡ t
-  loop_stops q = sym (e ∙ rw (sym f ∙ not-true x q))
+  pub loop_stops : x ≡ false → false ≡ t
+  loop_stops q = sym (e ∙ rw (sym f ∙ q))
 
-  pub loop_goes : not x ≡ false → t ≡ b
-  loop_goes q = e ∙ rw (sym f ∙ not-false x q)
+  pub loop_goes : x ≡ true → t ≡ b
+  loop_goes q = e ∙ rw (sym f ∙ q)

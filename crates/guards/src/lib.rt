@@ -1,4 +1,6 @@
 // Refusals 4 and 5, of a well-formed agreement: what its templates name unguarded, and how wide its clauses are.
+#![tactic(auto)]
+
 ghost use Rattle.std.specs.Prelude.{◌≡◌, true, [], ◌+◌, ◌≤◌, ◌<◌, min, get_or, replicate};
 ghost use Rattle.csl.specs.Bytes as bytes;
 ghost use Rattle.csl.specs.Lists.{all};
@@ -130,7 +132,7 @@ fn all_narrow(s: &[u8], widths: &[usize], depth: usize) -> bool
 
 fn body_guarded(agreement: &[u8], places: &[usize], k: usize) -> bool
     requires indexed { Indexed places.now agreement.now × (k < bytes.byte agreement.now 10) }
-    requires agreement_value { well_formed agreement.now ≡ true }
+    requires formed { well_formed agreement.now ≡ true }
     ensures { result ≡ guarded_in k (body_at agreement.now k) }
 {
     let body = body_span(agreement, places, k);
@@ -142,7 +144,7 @@ fn body_guarded(agreement: &[u8], places: &[usize], k: usize) -> bool
 // Refusal 4 where this is false.
 pub fn guarded(agreement: &[u8], places: &[usize]) -> bool
     requires indexed { Indexed places.now agreement.now }
-    requires agreement_value { well_formed agreement.now ≡ true }
+    requires formed { well_formed agreement.now ≡ true }
     ensures { result ≡ guarded_from 0 (agreement_of agreement.now).templates }
 {
     for k in 0..byte(agreement, TEMPLATES_AT) {
@@ -155,7 +157,7 @@ pub fn guarded(agreement: &[u8], places: &[usize]) -> bool
 
 fn body_width(agreement: &[u8], places: &[usize], widths: &[usize], k: usize) -> usize
     requires indexed { Indexed places.now agreement.now × (k < bytes.byte agreement.now 10) }
-    requires agreement_value { well_formed agreement.now ≡ true }
+    requires formed { well_formed agreement.now ≡ true }
     ensures { result ≡ counted widths.now (body_at agreement.now k) }
 {
     let body = body_span(agreement, places, k);
@@ -167,8 +169,8 @@ fn body_width(agreement: &[u8], places: &[usize], widths: &[usize], k: usize) ->
 // The widths of the templates, each by those below it: no other is named unguarded.
 fn fill_widths(agreement: &[u8], places: &[usize], widths: &mut [usize])
     requires indexed { Indexed places.now agreement.now }
-    requires agreement_value { well_formed agreement.now ≡ true }
-    requires widths_value { widths.old ≡ replicate 32 0 }
+    requires formed { well_formed agreement.now ≡ true }
+    requires zeros { widths.old ≡ replicate 32 0 }
     ensures { AsWide (widths_from [] (agreement_of agreement.now).templates) widths.new }
 {
     for k in 0..byte(agreement, TEMPLATES_AT) {
@@ -179,7 +181,7 @@ fn fill_widths(agreement: &[u8], places: &[usize], widths: &mut [usize])
 
 fn body_narrow(agreement: &[u8], places: &[usize], widths: &[usize], k: usize) -> bool
     requires indexed { Indexed places.now agreement.now × (k < bytes.byte agreement.now 10) }
-    requires agreement_value { well_formed agreement.now ≡ true }
+    requires formed { well_formed agreement.now ≡ true }
     ensures { result ≡ all_narrow widths.now (body_at agreement.now k) }
 {
     let body = body_span(agreement, places, k);
@@ -190,7 +192,7 @@ fn body_narrow(agreement: &[u8], places: &[usize], widths: &[usize], k: usize) -
 
 fn bodies_narrow(agreement: &[u8], places: &[usize], widths: &[usize]) -> bool
     requires indexed { Indexed places.now agreement.now }
-    requires agreement_value { well_formed agreement.now ≡ true }
+    requires formed { well_formed agreement.now ≡ true }
     ensures { result ≡ all (λ t. all_narrow widths.now t.body) (agreement_of agreement.now).templates }
 {
     for k in 0..byte(agreement, TEMPLATES_AT) {
@@ -203,7 +205,7 @@ fn bodies_narrow(agreement: &[u8], places: &[usize], widths: &[usize]) -> bool
 
 fn main_narrow(agreement: &[u8], places: &[usize], widths: &[usize]) -> bool
     requires indexed { Indexed places.now agreement.now }
-    requires agreement_value { well_formed agreement.now ≡ true }
+    requires formed { well_formed agreement.now ≡ true }
     ensures { result ≡ all_narrow widths.now (main_of agreement.now) }
 {
     let main = main_place(agreement, places);
@@ -213,7 +215,7 @@ fn main_narrow(agreement: &[u8], places: &[usize], widths: &[usize]) -> bool
 // Refusal 5 where this is false.
 pub fn narrow(agreement: &[u8], places: &[usize]) -> bool
     requires indexed { Indexed places.now agreement.now }
-    requires agreement_value { well_formed agreement.now ≡ true }
+    requires formed { well_formed agreement.now ≡ true }
     ensures { result ≡ narrow_all (agreement_of agreement.now) }
 {
     let mut widths = [0usize; 32];
