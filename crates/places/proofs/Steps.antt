@@ -106,8 +106,9 @@ module _ (n : Names) (env : List Ty) where
   unfolding sided
   sides_typed e p s k t f ps l h = go (eqb k 19) (rw (ne_eqb k 18 (λ z. omega arith)) at h)
     where
-      go : (b : Bool) → type_clause n env (cond b (if (e (part s 4 (record_end s 4))) t f) (join (join_of k) t f)) ≡ some
-          ps → TypedSide t × TypedSide f
+      go : (b : Bool)
+          → type_clause n env (cond b (if (e (part s 4 (record_end s 4))) t f) (join (join_of k) t f)) ≡ some ps
+          → TypedSide t × TypedSide f
       go true h = if_typed (e (part s 4 (record_end s 4))) t f ps h
       go false h = join_typed (join_of k) t f ps h
 

@@ -58,7 +58,8 @@ module _ (now used : ℕ) (out before : List ℤ) {time : ℤ} (is-now : time �
     running_table_lem cs k = let z = stands_there cs k in rw z.0 (rw (z.1, is-now) at gone)
 
     pub settled_running : {r : Reduced} → r ≡ Running n → {altered : Bool}
-        → altered ≡ other_units used (drop (length out - 24 * n) out) before → Settles now used r out before left altered
+        → altered ≡ other_units used (drop (length out - 24 * n) out) before
+        → Settles now used r out before left altered
     unfolding alters other_units
     settled_running e {altered} q = rw e (record {
       wrote = λ x h. let k = is_running out x h in

@@ -71,7 +71,8 @@ module _ (params : List ℕ) (b : ℕ) where
   stands_none l h = sym (stands_from none (by_byte false (le-ltb b 128 l) ∙ at_past params (b - 128) h))
 
 -- ---- bits
-pub joined_bits : {a b r : ℕ} (ps qs : List ℕ) → a ≡ bits_of ps → b ≡ bits_of qs → r ≡ bit_or a b → r ≡ bits_of (ps ++ qs)
+pub joined_bits : {a b r : ℕ} (ps qs : List ℕ) → a ≡ bits_of ps → b ≡ bits_of qs → r ≡ bit_or a b
+    → r ≡ bits_of (ps ++ qs)
 unfolding bits_of
 joined_bits ps qs p q e = e ∙ ap₂ bit_or p q ∙ sym (bits_append 16 0 ps qs)
 
@@ -170,7 +171,8 @@ module _ (A : List ℕ) (d p : ℕ) (s : List ℕ) (t : T (whole (clause_in A d 
     -- other kinds blame none
     none_low : m < 18 → (m ≡ 17 → ⊥) → blames_of (heads_of A) (clause_in A d p s) ≡ []
     unfolding clause_body blames_of
-    none_low l f = sym (clause_at_lem (blames_of (heads_of A)) (heads_of A) d p s deep refl is_record_lem k (go (dec_le 16 m)))
+    none_low l f = sym
+        (clause_at_lem (blames_of (heads_of A)) (heads_of A) d p s deep refl is_record_lem k (go (dec_le 16 m)))
       where
         blank : (b : Bool) → [] ≡ blames_of (heads_of A) (cond b fulfilled bad_clause)
         blank true = refl
@@ -272,8 +274,9 @@ named : (A : List ℕ) (d p : ℕ) (s : List ℕ) (t : T (whole (clause_in A d p
     → Named A s (blames_of (heads_of A) (clause_in A d p s))
 unfolding clause_body instance_of whole blames_of declared_by
 named A d p s t e =
-    let o : instance_of (expr (d - 1)) s (at (heads_of A) (byte s 4)) ≡ clause_in A d p s = clause_at_lem (λ (c : Clause). c)
-    (heads_of A) d p s (deep A d p s t) refl (is_record_lem A d p s t) refl (rw (kind_instance {k = kind_number s} e)) in
+    let o : instance_of (expr (d - 1)) s (at (heads_of A) (byte s 4)) ≡ clause_in A d p s =
+    clause_at_lem (λ (c : Clause). c) (heads_of A) d p s (deep A d p s t) refl (is_record_lem A d p s t) refl
+    (rw (kind_instance {k = kind_number s} e)) in
     go (dec_le (byte A 10) (byte s 4)) o (subst (λ (c : Clause). T (whole c)) (sym o) t)
   where
     sized : (h : Head) (b : Bool) → eqb (records_end (length h.values) s 5 + h.params) (length s) ≡ b

@@ -33,7 +33,8 @@ module _ {z : ℤ} (f : SFits w64 z) (h : lt_z (seen z) (pos 0) ≡ false) where
   pub below_asked : T (non_neg (seen z)) × Fits w64 (nat_abs (seen z))
   below_asked = index_asked f (not_negative f h)
 
-  pub below_small : (end : ℕ) → nat_abs (seen z) < end → (nat_abs (seen z) ≡ number_below end z) × (nat_abs (seen z) ≤ end)
+  pub below_small : (end : ℕ) → nat_abs (seen z) < end
+      → (nat_abs (seen z) ≡ number_below end z) × (nat_abs (seen z) ≤ end)
   unfolding number_below
   below_small end l = (omega arith ∙ ap (number_below end) (index_given f (not_negative f h)), omega arith)
 
@@ -123,7 +124,8 @@ module _ (zs : List ℤ) (ps : ℕ) where
       go none = refl
       go (some ns) = refl
 
-  module _ {out : List ℕ} {i r : ℕ} (l : i < length zs) (e : r ≡ number_below ps (get_or zs i (pos 0))) (h : Reads out i)
+  module _ {out : List ℕ} {i r : ℕ} (l : i < length zs) (e : r ≡ number_below ps (get_or zs i (pos 0)))
+      (h : Reads out i)
     where
       pub reads_more : r ≤ ps → (r ≡ ps → ⊥) → i < length out → Reads (set out i r) (i + 1)
       unfolding ◌>>=◌
@@ -145,7 +147,8 @@ module _ (zs : List ℤ) (ps : ℕ) where
 
       pub reads_not : r ≡ ps → parties_in ps zs ≡ none
       unfolding ◌>>=◌
-      reads_not f = h.same ∙ rw (drop-cons zs i (pos 0) l, party_not ps (get_or zs i (pos 0)) (drop (suc i) zs) e f) refl
+      reads_not f = h.same
+          ∙ rw (drop-cons zs i (pos 0) l, party_not ps (get_or zs i (pos 0)) (drop (suc i) zs) e f) refl
 
   pub reads_last : {out : List ℕ} {i : ℕ} → length zs ≤ i → Reads out i → parties_in ps zs ≡ some (take (length zs) out)
   unfolding ◌>>=◌ parties_in

@@ -51,8 +51,8 @@ module _ {parties n : ℕ} (types : List ℕ) (zs : List ℤ) where
       → CellsShow parties n (tys_of types) zs params → ⊥
   no_zeros {b} e f params h = true_not_false h.no_params (sym e ∙ not-true b f)
 
-  pub no_values_lem : {b : Bool} → b ≡ values_ok parties (tys_of types) (cells_in zs 7 23) → not b ≡ true → (params : List ℕ)
-      → CellsShow parties n (tys_of types) zs params → ⊥
+  pub no_values_lem : {b : Bool} → b ≡ values_ok parties (tys_of types) (cells_in zs 7 23) → not b ≡ true
+      → (params : List ℕ) → CellsShow parties n (tys_of types) zs params → ⊥
   no_values_lem {b} e f params h = true_not_false h.are_values (sym e ∙ not-true b f)
 
   pub no_rest : {b : Bool} → b ≡ all is_zero (cells_in zs (7 + length types) 23) → b ≡ false → (params : List ℕ)
@@ -61,8 +61,9 @@ module _ {parties n : ℕ} (types : List ℕ) (zs : List ℤ) where
       (ap (λ (y : ℕ). all is_zero (cells_in zs (7 + y) 23)) (types_length types) ∙ sym e ∙ f)
 
   pub cells_show : {a b c : Bool} {params : List ℕ} → parties_in parties (cells_in zs 2 (2 + n)) ≡ some params
-      → a ≡ all is_zero (cells_in zs (2 + n) 7) → not a ≡ false → b ≡ values_ok parties (tys_of types) (cells_in zs 7 23)
-      → not b ≡ false → c ≡ all is_zero (cells_in zs (7 + length types) 23) → c ≡ true
+      → a ≡ all is_zero (cells_in zs (2 + n) 7) → not a ≡ false
+      → b ≡ values_ok parties (tys_of types) (cells_in zs 7 23) → not b ≡ false
+      → c ≡ all is_zero (cells_in zs (7 + length types) 23) → c ≡ true
       → CellsShow parties n (tys_of types) zs params
   cells_show {a} {b} e f g h i j k = record {
     are_params = e;
@@ -96,7 +97,8 @@ nats_parties ps (z ∷ zs) ns e t =
     let u : T (ltb p ps && all (λ x. ltb x ps) r) = subst (λ (l : List ℕ). T (all (λ x. ltb x ps) l))
     (sym (some_inj e₂)) t in
     both_true (ltb p ps) (all (λ x. ltb x ps) r) u λ h g.
-    some_bind (as_nat z) _ p a ∙ passes (ltb p ps) _ h ∙ some_bind (parties_in ps zs) _ r (nats_parties ps zs r b g) ∙ e₂
+    some_bind (as_nat z) _ p a ∙ passes (ltb p ps) _ h
+    ∙ some_bind (parties_in ps zs) _ r (nats_parties ps zs r b g) ∙ e₂
 
 all_get_d : (t : ℕ → Bool) (xs : List ℕ) (i : ℕ) → T (all t xs) → i < length xs → T (t (get_or xs i 0))
 unfolding all

@@ -341,8 +341,9 @@ lt_of m n l f = omega arith
 module _ {A : List ℕ} (acc : Accepted A) (now sort : ℕ) (zs : List ℤ) (l : length zs ≡ 23) where
   damaged : (UnitFacts A now (sort_of sort) zs → ⊥) → WaitingIs A now (sort_of sort) zs Damaged
   unfolding WaitingIs
-  damaged f = option_none (waiting_unit (agreement_of A) (sort_of sort) zs >>= residue_parties (agreement_of A) (mains_of A)
-      now) (λ ps e. f (unit_facts acc now (sort_of sort) zs l ps e))
+  damaged f = option_none
+      (waiting_unit (agreement_of A) (sort_of sort) zs >>= residue_parties (agreement_of A) (mains_of A) now)
+      (λ ps e. f (unit_facts acc now (sort_of sort) zs l ps e))
 
   pub wait_negative : {place : ℕ} → mag (get_or zs 0 (pos 0)) < 2 ^ 63
       → place ≡ number_below 9_223_372_036_854_775_808 (get_or zs 0 (pos 0)) → place ≡ 9_223_372_036_854_775_808

@@ -89,6 +89,6 @@ pub record UnitShows (a : List ℕ) (now : ℕ) (o : Option Residue) (bits n c :
   pub one : units residue ≡ 1
 
 unfoldable pub WaitingIs : List ℕ → ℕ → Sort → List ℤ → Waiting → Type 0
-WaitingIs a now s zs Damaged = (waiting_unit (agreement_of a) s zs >>= residue_parties (agreement_of a) (mains_of a) now) ≡
-    none
+WaitingIs a now s zs Damaged =
+    (waiting_unit (agreement_of a) s zs >>= residue_parties (agreement_of a) (mains_of a) now) ≡ none
 WaitingIs a now s zs (Of bits n c) = UnitShows a now (waiting_unit (agreement_of a) s zs) bits n c

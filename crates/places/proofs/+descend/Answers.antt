@@ -6,20 +6,16 @@ use native.Mathlib.Omega.{arith}
 use Rattle.places.proofs.+descend.Goals as goal
 
 pub slice_bounds-part-count : goal.slice_bounds-part-count
-slice_bounds-part-count t c =
-    omega (arith, into_room c.step_down.ensures c.in-Into.is c.requires.1.typed)
+slice_bounds-part-count t c = omega (arith, into_room c.step_down.ensures c.in-Into.is c.requires.1.typed)
 
 pub slice_bounds-part-start : goal.slice_bounds-part-start
-slice_bounds-part-start t c =
-    omega (arith, into_room c.step_down.ensures c.in-Into.is c.requires.1.typed)
+slice_bounds-part-start t c = omega (arith, into_room c.step_down.ensures c.in-Into.is c.requires.1.typed)
 
 pub slice_bounds-part-end : goal.slice_bounds-part-end
-slice_bounds-part-end t c =
-    omega (arith, into_room c.step_down.ensures c.in-Into.is c.requires.1.typed)
+slice_bounds-part-end t c = omega (arith, into_room c.step_down.ensures c.in-Into.is c.requires.1.typed)
 
 pub overflow_add-base : goal.overflow_add-base
-overflow_add-base t c =
-    omega (arith, into_room c.step_down.ensures c.in-Into.is c.requires.1.typed)
+overflow_add-base t c = omega (arith, into_room c.step_down.ensures c.in-Into.is c.requires.1.typed)
 
 pub descend-requires : goal.descend-requires
 descend-requires t c =
@@ -38,13 +34,10 @@ descend-requires t c =
     )
 
 pub returns-in-Absent : goal.returns-in-Absent
-returns-in-Absent t c =
-    descent_absent c.step_down.ensures c.args.params c.in-Absent.is
+returns-in-Absent t c = descent_absent c.step_down.ensures c.args.params c.in-Absent.is
 
 pub returns-in-Here : goal.returns-in-Here
-returns-in-Here t c =
-    descent_here c.step_down.ensures c.args.params c.requires.1.few c.in-Here.is
+returns-in-Here t c = descent_here c.step_down.ensures c.args.params c.requires.1.few c.in-Here.is
 
 pub returns-in-Into : goal.returns-in-Into
-returns-in-Into t c =
-    descent_into c.step_down.ensures c.in-Into.is c.args.params c.descend.ensures
+returns-in-Into t c = descent_into c.step_down.ensures c.in-Into.is c.args.params c.descend.ensures

@@ -9,8 +9,7 @@ unfolding StepAt
 returns-then-place-base c =
     record {
       each = λ d t. (
-        choice_here c.args.place c.args.count c.args.types.now t
-            (sym c.requires.is_choice) refl c.if-place-base.true,
+        choice_here c.args.place c.args.count c.args.types.now t (sym c.requires.is_choice) refl c.if-place-base.true,
         refl,
       );
     }
@@ -37,10 +36,8 @@ returns-then-place-base-2 c =
     let then-sight = c.then_sight-n in
     record {
       each = λ d t. choice_then c.args.place c.args.count c.args.types.now t
-          (sym c.requires.is_choice) c.first_clause-c.ensures.0
-          c.record_end-f.ensures.0 then-sight.new.types refl
-          c.if-place-base.false c.if-place-base-2.true c.byte.ensures.0
-          then-sight.ensures;
+          (sym c.requires.is_choice) c.first_clause-c.ensures.0 c.record_end-f.ensures.0 then-sight.new.types refl
+          c.if-place-base.false c.if-place-base-2.true c.byte.ensures.0 then-sight.ensures;
     }
 
 pub returns : goal.returns
@@ -48,7 +45,6 @@ unfolding StepAt
 returns c =
     record {
       each = λ d t. choice_else c.args.place c.args.count c.args.types.now t
-          (sym c.requires.is_choice) c.first_clause-c.ensures.0
-          c.record_end-f.ensures.0 c.requires.indexed.1.few refl
+          (sym c.requires.is_choice) c.first_clause-c.ensures.0 c.record_end-f.ensures.0 c.requires.indexed.1.few refl
           c.if-place-base.false c.if-place-base-2.false;
     }

@@ -6,11 +6,7 @@ use Rattle.places.proofs.in_template.Goals as goal
 
 pub slice_bounds-append-end : goal.slice_bounds-append-end
 slice_bounds-append-end c =
-    omega (
-      arith,
-      values_room c.requires.0 c.requires.1 c.template_place-a.ensures.0
-          c.value_count-n.ensures.0,
-    )
+    omega (arith, values_room c.requires.0 c.requires.1 c.template_place-a.ensures.0 c.value_count-n.ensures.0)
 
 pub descend-requires : goal.descend-requires
 descend-requires c =
@@ -26,8 +22,7 @@ descend-requires c =
           arith,
           body.ordered,
           body.inside,
-          length_part c.args.agreement.now c.body_span-body.result.from
-              c.body_span-body.result.to body.inside,
+          length_part c.args.agreement.now c.body_span-body.result.from c.body_span-body.result.to body.inside,
         );
       },
     )

@@ -24,21 +24,17 @@ descend-requires c =
 
 pub returns-then-m-place : goal.returns-then-m-place
 returns-then-m-place c =
-    main_located
-    c.requires.0 c.args.place c.requires.1 c.main_place-m.ensures.0 c.if-m-place.true
-    c.descend.ensures
+    main_located c.requires.0 c.args.place c.requires.1 c.main_place-m.ensures.0 c.if-m-place.true c.descend.ensures
 
 pub loop-k-init : goal.loop-k-init
 loop-k-init c = (
   refl,
   c.byte-k-end.ensures.0,
-  left_first c.requires.0 c.args.place
-      c.main_place-m.ensures.0 c.if-m-place.false,
+  left_first c.requires.0 c.args.place c.main_place-m.ensures.0 c.if-m-place.false,
 )
 
 pub template_place-a-requires : goal.template_place-a-requires
-template_place-a-requires c =
-    (c.requires.0, omega (arith, c.loop-k.invariant.1, c.loop-k-test.true))
+template_place-a-requires c = (c.requires.0, omega (arith, c.loop-k.invariant.1, c.loop-k-test.true))
 
 pub in_template-requires : goal.in_template-requires
 in_template-requires c =
@@ -50,30 +46,25 @@ in_template-requires c =
     )
 
 pub shape_of-types-then-place-record_end : goal.shape_of-types-then-place-record_end
-shape_of-types-then-place-record_end c =
-    c.in_template.auto.types ∙ ap length c.loop-k.invariant.0
+shape_of-types-then-place-record_end c = c.in_template.auto.types ∙ ap length c.loop-k.invariant.0
 
 pub returns-then-place-record_end : goal.returns-then-place-record_end
 returns-then-place-record_end c =
     let loop = c.loop-k in
-    left_here c.requires.0 c.args.place _ _
-    (omega (arith, loop.invariant.1, c.loop-k-test.true))
+    left_here c.requires.0 c.args.place _ _ (omega (arith, loop.invariant.1, c.loop-k-test.true))
     c.template_place-a.ensures.0 c.record_end.ensures.0
     c.if-place-record_end.true loop.invariant.2 c.in_template.ensures
 
 pub loop-k-smaller : goal.loop-k-smaller
-loop-k-smaller c =
-    omega (arith, c.loop-k-test.true)
+loop-k-smaller c = omega (arith, c.loop-k-test.true)
 
 pub loop-k-preserved : goal.loop-k-preserved
 loop-k-preserved c =
     let loop = c.loop-k in (
       loop.invariant.0,
       loop.invariant.1,
-      left_more c.requires.0 c.args.place
-          (omega (arith, loop.invariant.1, c.loop-k-test.true))
-          c.template_place-a.ensures.0 c.record_end.ensures.0 c.if-place-record_end.false
-          loop.invariant.2,
+      left_more c.requires.0 c.args.place (omega (arith, loop.invariant.1, c.loop-k-test.true))
+          c.template_place-a.ensures.0 c.record_end.ensures.0 c.if-place-record_end.false loop.invariant.2,
     )
 
 pub shape_of-types : goal.shape_of-types
@@ -82,5 +73,4 @@ shape_of-types c = ap length c.loop-k.invariant.0
 pub returns : goal.returns
 returns c =
     let loop = c.loop-k in
-    left_none c.requires.0 c.args.place _ (omega (arith, loop.invariant.1, c.loop-k-test.false))
-    loop.invariant.2
+    left_none c.requires.0 c.args.place _ (omega (arith, loop.invariant.1, c.loop-k-test.false)) loop.invariant.2

@@ -32,21 +32,18 @@ pub returns-in-18 : goal.returns-in-18
 returns-in-18 c = c.from_choice.ensures
 
 pub returns-in-19-to-21 : goal.returns-in-19-to-21
-returns-in-19-to-21 c =
-    c.from_sides.ensures c.args.agreement.now c.args.types.now
+returns-in-19-to-21 c = c.from_sides.ensures c.args.agreement.now c.args.types.now
 
 pub returns-in_default : goal.returns-in_default
 unfolding StepAt
 returns-in_default c =
     record {
-      each = λ d t. absent_low c.args.place c.args.count c.args.types.now t
-          c.kind-k.ensures (omega arith);
+      each = λ d t. absent_low c.args.place c.args.count c.args.types.now t c.kind-k.ensures (omega arith);
     }
 
 pub returns-in_default-2 : goal.returns-in_default-2
 unfolding StepAt
 returns-in_default-2 c =
     record {
-      each = λ d t. absent_high c.args.place c.args.count c.args.types.now t
-          c.kind-k.ensures (omega arith);
+      each = λ d t. absent_high c.args.place c.args.count c.args.types.now t c.kind-k.ensures (omega arith);
     }

@@ -4,12 +4,10 @@ use Rattle.places.proofs.Sights.{named, values_room, sight_room, part_room, sigh
 use Rattle.places.proofs.then_sight.Goals as goal
 
 pub overflow_sub-wanted : goal.overflow_sub-wanted
-overflow_sub-wanted c =
-    omega (arith, named c.args.types.now c.args.count c.requires)
+overflow_sub-wanted c = omega (arith, named c.args.types.now c.args.count c.requires)
 
 pub reading_place-a-requires : goal.reading_place-a-requires
-reading_place-a-requires c =
-    (c.requires.0, (named c.args.types.now c.args.count c.requires).1)
+reading_place-a-requires c = (c.requires.0, (named c.args.types.now c.args.count c.requires).1)
 
 pub overflow_sub-n : goal.overflow_sub-n
 overflow_sub-n c =
@@ -25,8 +23,7 @@ pub overflow_add-n : goal.overflow_add-n
 overflow_add-n c =
     omega (
       arith,
-      sight_room c.args.types.now c.args.count c.requires
-          c.reading_place-a.ensures.0 c.record_end-e.ensures.0,
+      sight_room c.args.types.now c.args.count c.requires c.reading_place-a.ensures.0 c.record_end-e.ensures.0,
     )
 
 pub overflow_add-a : goal.overflow_add-a
@@ -54,11 +51,8 @@ append-requires c =
     let record-end = c.record_end-e in
     omega (
       arith,
-      sight_room c.args.types.now c.args.count c.requires
-          c.reading_place-a.ensures.0 record-end.ensures.0,
-      part_room
-          c.args.types.now c.args.count c.requires
-          c.reading_place-a.ensures.0 record-end.ensures.0,
+      sight_room c.args.types.now c.args.count c.requires c.reading_place-a.ensures.0 record-end.ensures.0,
+      part_room c.args.types.now c.args.count c.requires c.reading_place-a.ensures.0 record-end.ensures.0,
     )
 
 pub bounds-types-n : goal.bounds-types-n
@@ -75,8 +69,7 @@ pub returns : goal.returns
 returns c =
     let append = c.append in
     let reading-place = c.reading_place-a in (
-      sight_room c.args.types.now c.args.count c.requires reading-place.ensures.0
-          c.record_end-e.ensures.0,
+      sight_room c.args.types.now c.args.count c.requires reading-place.ensures.0 c.record_end-e.ensures.0,
       sight_is c.args.types.now c.args.count
           c.requires reading-place.ensures.0 c.record_end-e.ensures.0 append.new.out
           (omega (arith, append.auto.out, c.requires.1.room)) append.ensures,

@@ -9,5 +9,4 @@ pub returns-then-altered : goal.returns-then-altered
 returns-then-altered c = rw c.if-altered.true (read c.ranges.time)
 
 pub returns : goal.returns
-returns c =
-    rw c.if-altered.false (read! {z = get_or c.args.table.now 5 (pos 0)} (search rules))
+returns c = rw c.if-altered.false (read! {z = get_or c.args.table.now 5 (pos 0)} (search rules))

@@ -12,14 +12,12 @@ use Rattle.settling.proofs.settle.Goals as goal
 use Rattle.settling.proofs.settle.Goals.{In-Running}
 
 pub end_run-requires-in-Breach : goal.end_run-requires-in-Breach
-end_run-requires-in-Breach c =
-    (c.requires.0, rw c.in-Breach.is at c.requires.4)
+end_run-requires-in-Breach c = (c.requires.0, rw c.in-Breach.is at c.requires.4)
 
 -- the units are few, and stand in out
 fits : (c : In-Running) → (c.in-Running.n ≤ 128)
     × (24 * c.in-Running.n ≤ length c.args.out.now)
-fits c =
-    (rw c.in-Running.is at c.requires.2.few, rw c.in-Running.is at c.requires.2.room)
+fits c = (rw c.in-Running.is at c.requires.2.few, rw c.in-Running.is at c.requires.2.room)
 
 pub overflow_mul-from : goal.overflow_mul-from
 overflow_mul-from c = record { fits = omega (arith, (fits (goal.at.overflow_mul-from c).In-Running).0) }

@@ -36,7 +36,8 @@ loop-i-preserved c =
       simp length-set loop.invariant.0,
       reads_more c.args.cells.now c.args.parties c.loop-i-test.true
           (p.ensures.0 ∙ ap (number_below c.args.parties) (read! (search rules)))
-          loop.invariant.1 p.ensures.1 c.if-p-parties.false (omega (arith, loop.invariant.0, c.requires, c.loop-i-test.true)),
+          loop.invariant.1 p.ensures.1 c.if-p-parties.false
+          (omega (arith, loop.invariant.0, c.requires, c.loop-i-test.true)),
     )
 
 pub shape_of-out : goal.shape_of-out
