@@ -1,12 +1,10 @@
 -- Laws for a step: what the rules on cells give is written where there is room for it, and over 128 units are 11.
 use mathlib.Core.Path.{◌≡◌, refl, sym, ap, subst, ◌∙◌}
 use mathlib.Core.Bool.{Bool}
-use mathlib.Core.Logic.{inl, inr, ◌⊎◌}
 use mathlib.Core.List.{List}
 use Prim.Native.Nat.{ℕ, ◌-◌, ◌*◌, ◌/◌, ◌≤◌, ◌<◌, min}
 use native.Mathlib.Omega.{arith}
 use borrow.Author.Tests.{lt-ltb, le-ltb}
-use denote.Enum.Declared.{tag_of}
 use mir.Syntax.{w64}
 use mir.Val.{to_z}
 use mir.ValLaws.{to_z_pos}
@@ -29,7 +27,6 @@ use Rattle.waits.specs.declared.Step.TheVariants.{Activate, Forecast, Follow}
 use Rattle.residues.specs.declared.Reduced.{Reduced}
 use Rattle.residues.specs.declared.Reckoned.{Reckoned}
 use Rattle.residues.specs.declared.Reduced.TheVariants.{Done, Breach, Running}
-use Rattle.waits.specs.contracts.Step.{the_type}
 use Rattle.residues.proofs.Few.{reduce_few, outcome_few, answer_few}
 use Rattle.walk.proofs.Trees.{tree_only}
 use Rattle.reduction.specs.Steps.{main_reckoned, UnitsDue, DueBy, Due, reckoned_by, reckoned, reduced, counted_cost}
@@ -82,19 +79,15 @@ module _ (r : Reduced) (out : List ℤ) (x : cells.Reduced) (i : Is x r out) (no
 -- ---- what an event makes of the main clause or of units
 -- the code's test: the step is not that of the start
 abbrev OnUnits : Step → Type 0
-OnUnits k = (tag_of the_type k ≡ 1) ⊎ (tag_of the_type k ≡ 2)
-
-no_units : OnUnits Activate → ⊥
-no_units (inl e) = omega arith
-no_units (inr e) = omega arith
+OnUnits k = k ≡ Activate → ⊥
 
 by_units : (k : Step) (main units : cells.Reckoned) → OnUnits k → reckoned_by k main units ≡ units
-by_units Activate main units f = absurd (no_units f)
+by_units Activate main units f = absurd (f refl)
 by_units Forecast main units f = refl
 by_units Follow main units f = refl
 
 due_by : (k : Step) (U : Type 0) → OnUnits k → DueBy k U → U
-due_by Activate U f d = absurd (no_units f)
+due_by Activate U f d = absurd (f refl)
 due_by Forecast U f d = d
 due_by Follow U f d = d
 

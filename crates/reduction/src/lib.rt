@@ -1,4 +1,6 @@
 // A step by the rules: what an event makes of the main clause or of a table's units, written where a table holds it.
+#![tactic(auto)]
+
 ghost use Rattle.std.specs.Prelude.{◌≤◌, length};
 ghost use Rattle.records.specs.Index.{Indexed};
 ghost use Rattle.residues.specs.Tallies.{Reckons};

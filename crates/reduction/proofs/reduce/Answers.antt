@@ -1,0 +1,19 @@
+-- At the start the main clause is activated, else the table's units go through the rules.
+use native.Mathlib.Omega.{arith}
+use Rattle.reduction.proofs.Advances.{units_due, reckoned_main, reckoned_units}
+use Rattle.reduction.proofs.reduce.Goals as goal
+
+pub returns-in-Activate : goal.returns-in-Activate
+returns-in-Activate c =
+    reckoned_main c.requires.0 _ _ c.in-Activate.is c.activate_main.ensures
+
+pub across-requires : goal.across-requires
+across-requires c =
+    let due = c.requires.0 in record {
+      indexed = (due.indexed, due.few, omega (arith, due.soon), c.requires.1, omega (arith, due.short));
+      tree = units_due due c.in_default.not-Activate;
+    }
+
+pub returns : goal.returns
+returns c =
+    reckoned_units c.requires.0 _ _ c.in_default.not-Activate c.across.ensures
