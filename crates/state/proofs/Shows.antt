@@ -12,7 +12,7 @@ use lib.ListN.{length, get_or, take, drop, length-drop}
 use lib.Seq.{take_all, drop-drop}
 use Rattle.arith.proofs.Lists.{take_drop}
 use borrow.Author.Tests.{ne_eqb, not-false, not-true}
-use Rattle.csl.specs.Lists.{all, at}
+use Rattle.csl.specs.Lists.{all}
 use Rattle.csl.specs.Bytes.{le32}
 use Rattle.csl.specs.Parties.{bits_of, members, subset}
 use Rattle.csl.specs.Decode.{agreement_of}
@@ -49,17 +49,20 @@ is_zero_lem z e = rw e tt
 
 module _ (cells : List ℤ) (l : length cells ≡ 3080) where
   -- cells 2 and 3, 2 to 4, and 4
-  two_zeros : T (all is_zero (take 2 (drop 2 cells))) → (get_or cells 2 (pos 0) ≡ pos 0) × (get_or cells 3 (pos 0) ≡ pos 0)
+  two_zeros : T (all is_zero (take 2 (drop 2 cells)))
+      → (get_or cells 2 (pos 0) ≡ pos 0) × (get_or cells 3 (pos 0) ≡ pos 0)
   unfolding all
   two_zeros = eight (λ zs. T (all is_zero (take 2 (drop 2 zs))) → (get_or zs 2 (pos 0) ≡ pos 0)
-      × (get_or zs 3 (pos 0) ≡ pos 0)) (λ a b c d e f g h zs t. both_true (is_zero c) _ t λ p u. both_true (is_zero d) _ u
+      × (get_or zs 3 (pos 0) ≡ pos 0))
+      (λ a b c d e f g h zs t. both_true (is_zero c) _ t λ p u. both_true (is_zero d) _ u
       λ q _. (zero_is c p, zero_is d q)) cells (omega arith)
 
   zeros_two : get_or cells 2 (pos 0) ≡ pos 0 → get_or cells 3 (pos 0) ≡ pos 0 → T (all is_zero (take 2 (drop 2 cells)))
   unfolding all
   zeros_two = eight (λ zs. get_or zs 2 (pos 0) ≡ pos 0 → get_or zs 3 (pos 0) ≡ pos 0
       → T (all is_zero (take 2 (drop 2 zs))))
-      (λ a b c d e f g h zs p q. T-both (is_zero c) _ (is_zero_lem c p) (T-both (is_zero d) _ (is_zero_lem d q) tt)) cells
+      (λ a b c d e f g h zs p q. T-both (is_zero c) _ (is_zero_lem c p) (T-both (is_zero d) _ (is_zero_lem d q) tt))
+      cells
       (omega arith)
 
   one_zero : T (all is_zero (take 1 (drop 4 cells))) → get_or cells 4 (pos 0) ≡ pos 0
@@ -163,7 +166,8 @@ module _ (cells : List ℤ) (l : length cells ≡ 3080) (A : List ℕ) {time : �
   pub fulfilled_rest : {b : Bool} → b ≡ all is_zero (take 3072 (drop 8 cells)) → b ≡ false
       → Shows (run_in A cells) cells sights Damaged
   fulfilled_rest {b} e g = shown_none cells l A sights λ q f. true_not_false
-      (T→true (all is_zero (drop 8 cells)) (done_facts f).rest) (ap (all is_zero) (sym (unit_cells cells l)) ∙ sym e ∙ g)
+      (T→true (all is_zero (drop 8 cells)) (done_facts f).rest)
+      (ap (all is_zero) (sym (unit_cells cells l)) ∙ sym e ∙ g)
 
   pub fulfilled_is : {a b c : Bool} → a ≡ all is_zero (take 2 (drop 2 cells)) → not a ≡ false
       → b ≡ all is_zero (take 1 (drop 4 cells)) → not b ≡ false → c ≡ all is_zero (take 3072 (drop 8 cells)) → c ≡ true
@@ -337,7 +341,8 @@ module _ (cells : List ℤ) (l : length cells ≡ 3080) (A : List ℕ) {time : �
         residue = r;
         are = a₂ ∙ ap some (single_is rs r a₃);
         parties = ps;
-        have = subst (λ (n : ℕ). residue_parties (agreement_of A) (mains_of A) n r ≡ some ps) (same_now cells l A h f) a₄;
+        have = subst (λ (n : ℕ). residue_parties (agreement_of A) (mains_of A) n r ≡ some ps)
+            (same_now cells l A h f) a₄;
       }
 
   waits_none : (sights : List ℕ) → (Waits → ⊥) → Shows (run_in A cells) cells sights Damaged

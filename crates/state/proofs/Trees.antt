@@ -157,7 +157,8 @@ sort_from n u e =
     middle m o b e h = let third : some none ≡ some o = ap (λ (y : ℕ). at kinds (y - 17)) (sym h) ∙ b in
         none_some (some_inj third ∙ e)
 
-pub no_sort : {r : ℕ} (z : ℤ) → r ≡ number_below 22 z → (17 ≤ r → r < 19 → ⊥) → (20 ≤ r → r < 22 → ⊥) → unit_sort z ≡ none
+pub no_sort : {r : ℕ} (z : ℤ) → r ≡ number_below 22 z → (17 ≤ r → r < 19 → ⊥) → (20 ≤ r → r < 22 → ⊥)
+    → unit_sort z ≡ none
 unfolding unit_sort as_nat ◌>>=◌ number_below
 no_sort {r} z e f g = option_none (unit_sort z) (λ u h. go z e u h)
   where
@@ -247,7 +248,8 @@ module _ (ag : Agreement) where
   cells_first (x ∷ xs) h = refl
 
   trees_next : (n : ℕ) (cells : List ℤ) → 24 ≤ length cells
-      → trees ag (suc n) cells ≡ (trees ag n (drop 24 cells) >>= add_unit ag (get_or cells 0 (pos 0) ∷ cells_in cells 1 24))
+      → trees ag (suc n) cells ≡
+      (trees ag n (drop 24 cells) >>= add_unit ag (get_or cells 0 (pos 0) ∷ cells_in cells 1 24))
   unfolding trees
   trees_next n cells h = some_bind (split 24 cells) _ (take 24 cells, drop 24 cells) (split_is 24 cells h)
       ∙ rw (cells_first cells h)
@@ -260,7 +262,8 @@ module _ (ag : Agreement) where
   add_joining : (j : Join) (z : ℤ) (zs : List ℤ) (l r : Residue) (rs : List Residue) → unit_sort z ≡ some (joining j)
       → all is_zero zs ≡ true → add_unit ag (z ∷ zs) (l ∷ r ∷ rs) ≡ some (both j l r ∷ rs)
   unfolding add_unit push
-  add_joining j z zs l r rs e f = some_bind (unit_sort z) _ (joining j) e ∙ passes (all is_zero zs) _ (subst T (sym f) tt)
+  add_joining j z zs l r rs e f = some_bind (unit_sort z) _ (joining j) e
+      ∙ passes (all is_zero zs) _ (subst T (sym f) tt)
 
   -- a tree in front of trees
   pub tree_first : (r : Residue) (k : ℕ) (cells : List ℤ) (rs : List Residue) → ReadsAs ag r cells
@@ -309,7 +312,8 @@ module _ (ag : Agreement) where
           long (suc m) [] s a = none_some a
           long (suc m) (x ∷ xs) s a = from_bind (split m xs) _ s a λ q b _. let i = long m xs q b in omega arith
 
-      behind : (j : Join) (qs : List Residue) → 24 ≤ length cells → unit_sort (get_or cells 0 (pos 0)) ≡ some (joining j)
+      behind : (j : Join) (qs : List Residue) → 24 ≤ length cells
+          → unit_sort (get_or cells 0 (pos 0)) ≡ some (joining j)
           → T (all is_zero (cells_in cells 1 24)) → AllRead qs n (drop 24 cells) → push j qs ≡ some rs
           → AllRead rs (suc n) cells
       behind j [] room is z all_are e = none_some e

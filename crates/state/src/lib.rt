@@ -1,4 +1,6 @@
 // Refusal 7: the table keeps to its layout and typing, and the state that it shows.
+#![tactic(auto)]
+
 ghost use Rattle.std.specs.Prelude.{◌≡◌, true, List, ℕ, ◌≤◌, ◌<◌, length};
 ghost use Rattle.csl.specs.Parties.{member, bits_of};
 ghost use Rattle.csl.specs.Typing.{join_ok};

@@ -1,0 +1,4 @@
+use Rattle.state.proofs.+walk_tree.Given as goal
+
+abbrev pub decreases-walk_tree : goal.decreases-walk_tree
+decreases-walk_tree l = l.n
