@@ -182,9 +182,3 @@ costing =
     ∷ becomes (chosen 0 5) ∷ becomes (owed 0 9) ∷ becomes stuck ∷ becomes (owed 0 9) ∷ becomes done
     ∷ becomes stuck ∷ becomes done ∷ [])
     ∷ []
-
-pub costs_pass : map (λ t. t.shown) costing ≡ map (λ t. t.expected) costing
-unfolding harness self doubling doubled choosing shows waits owed chosen by asking next main calls body waiting next'
-    either' laddered ladder' bare still spent_by spent_from costs_from costs each takes asked told pair belated or_else'
-    naming lapses owe untaken read_at or_late owing costing costs_by
-costs_pass = refl

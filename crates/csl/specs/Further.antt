@@ -981,14 +981,3 @@ unreached =
 unfoldable pub further : List Trial
 further = runs ++ (joins ++ (readings ++
     (records ++ (types ++ (guards ++ (widths ++ (tables ++ (entries ++ (moved ++ unreached)))))))))
-
-pub further_pass : map (λ t. t.shown) further ≡ map (λ t. t.expected) further
-unfolding harness says accepts refuses mains five refuses_all steps_of run_seen obeys leads waits owed chosen by shows
-    saying nested one asking after_is within_is next otherwise chooses main a_number counting template beside call
-    lending every is is_not calculated most least sums fractions wholes equations taken chain nums runs pairs
-    becoming left right joins values refused' readings records named in_sight parameters party_sets types guards
-    ladder wide calls both' body ladder' wide' waiting next' either' if' widest too_wide laddered narrow over widths
-    mixed lent offered units' short good ended broke full set alter read_by rejects ends running' moves lent' residue
-    sound sights alone alone' in_place tables begun two crowd entries ever since ten unlike alike moved bare asked op'
-    still absent unreached further
-further_pass = refl

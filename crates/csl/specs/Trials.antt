@@ -254,8 +254,3 @@ unfoldable pub harness : Unit {0}
 unfolding computes marks uncosted gives unmarked by_entries by_readings by_rules rules_of of_entries of_rules follows grows
     live fulfils breaches refusing owed chosen
 harness = tt
-
-pub trials_pass : map (λ t. t.shown) trials ≡ map (λ t. t.expected) trials
-unfolding harness unmet p1to4 p5and6 p7 pair p8 p9 p10 p11 choosing p12a p12b asks p13 p14 self doubling doubled p15
-    trials
-trials_pass = refl

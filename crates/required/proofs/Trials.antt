@@ -3,11 +3,15 @@
 use mathlib.Core.Path.{◌≡◌, refl}
 use mathlib.Core.List.{List, [], ◌∷◌, map}
 use Prim.Native.String.{String}
-use Rattle.csl.specs.Trials.{Trial, trials, trials_pass, p1to4, p5and6, p7, p8, p9, p10, p11, p12a, p12b, p13, p14}
+use Rattle.csl.proofs.Trials.{trials_pass}
+use Rattle.csl.proofs.Further.{further_pass}
+use Rattle.csl.proofs.TooEarly.{too_early_pass}
+use Rattle.csl.proofs.Costs.{costs_pass}
+use Rattle.csl.specs.Trials.{Trial, trials, p1to4, p5and6, p7, p8, p9, p10, p11, p12a, p12b, p13, p14}
 use Rattle.csl.specs.Trials.{p15, follows, grows}
-use Rattle.csl.specs.Further.{further, further_pass, obeys, shows}
-use Rattle.csl.specs.TooEarly.{too_earlies, too_early_pass, tells}
-use Rattle.csl.specs.Costs.{costing, costs_pass, costs, takes, lapses}
+use Rattle.csl.specs.Further.{further, obeys, shows}
+use Rattle.csl.specs.TooEarly.{too_earlies, tells}
+use Rattle.csl.specs.Costs.{costing, costs, takes, lapses}
 
 abbrev names : List Trial → List String
 names ts = map (λ t. t.name) ts

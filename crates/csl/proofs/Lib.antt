@@ -1,0 +1,4 @@
+pub mod Trials
+pub mod Further
+pub mod TooEarly
+pub mod Costs
