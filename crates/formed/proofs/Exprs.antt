@@ -50,7 +50,8 @@ sized false e p = refl
 
 -- by the kind's number k, as a `match` finds it
 module _ (i : List ℕ → Expr) (s : List ℕ) where
-  leaf : (a b : Bool) → eqb (length s) 5 ≡ whole_expr (expr_body i s (cond a truth_kind (cond b party_kind variable_kind)))
+  leaf : (a b : Bool)
+      → eqb (length s) 5 ≡ whole_expr (expr_body i s (cond a truth_kind (cond b party_kind variable_kind)))
   unfolding expr_body of_length whole_expr
   leaf true b = sized (eqb (length s) 5) (truth_lit (byte s 4)) refl
   leaf false true = sized (eqb (length s) 5) (party_lit (byte s 4)) refl
@@ -120,7 +121,8 @@ module _ (d : ℕ) (s : List ℕ) (i : ℕ) where
 
   pub wait_whole : {r : Bool} {a b e : ℕ} → a ≡ record_end s (i + 1) → b ≡ record_end s a → e ≡ record_end s b
       → r ≡ (whole_expr (expr d (part s (i + 1) a))
-      && (whole_expr (expr d (part s a b)) && whole_expr (expr d (part s b e)))) → r ≡ whole_wait (wait_at (expr d) 0 s i)
+      && (whole_expr (expr d (part s a b)) && whole_expr (expr d (part s b e))))
+      → r ≡ whole_wait (wait_at (expr d) 0 s i)
   unfolding whole_wait wait_at
   wait_whole p q t h = h ∙ rw (t, q, p) (sym
       (and_assoc (whole_expr (expr d (part s (i + 1) (record_end s (i + 1))))) _ _))

@@ -61,7 +61,8 @@ sided_whole e p s k t f = go (eqb k 18) (eqb k 19)
 -- c and z are what calls gave: where the first side begins and where it ends
 module _ (hs : List Head) (d p : ℕ) (s : List ℕ) (w : whole (clause hs d p s) ≡ true) {m : ℕ} (k : m ≡ kind_number s)
   where
-    then_whole : {c : ℕ} → m ≡ 17 → c ≡ first_clause m s → whole (clause hs (d - 1) (p + c) (part s c (length s))) ≡ true
+    then_whole : {c : ℕ} → m ≡ 17 → c ≡ first_clause m s
+        → whole (clause hs (d - 1) (p + c) (part s c (length s))) ≡ true
     unfolding whole
     then_whole {c} e i =
         and_right (whole_wait (wait_at (expr (d - 1)) p s 5)) _

@@ -84,7 +84,8 @@ module _ (ps : ℕ) (bs : List ℕ) where
   leaf_is f k s e = e ∙ leaf_by f s (eqb k 32) (eqb k 33) (eqb k 34)
 
 -- ---- `not`
-not_by : (x : Option Ty) → not_type (type_number x) ≡ type_number (x >>= λ t. need (same_ty t truth) >>= λ _. some truth)
+not_by : (x : Option Ty) → not_type (type_number x)
+    ≡ type_number (x >>= λ t. need (same_ty t truth) >>= λ _. some truth)
 unfolding not_type type_number ty_number ◌>>=◌ need same_ty
 not_by none = refl
 not_by (some number) = refl
@@ -253,7 +254,8 @@ module _ (d : ℕ) (s : List ℕ) {k : ℕ} (e : k ≡ record_kind d s) where
       room_key = room_from (omega arith)
 
   -- what f has of the record, by its kind
-  pub expr_by : {A : Type 0} (f : Expr → A) {r : A} → r ≡ f (expr_body (expr (d - 1)) s (expr_kind k)) → r ≡ f (expr d s)
+  pub expr_by : {A : Type 0} (f : Expr → A) {r : A} → r ≡ f (expr_body (expr (d - 1)) s (expr_kind k))
+      → r ≡ f (expr d s)
   expr_by f q = q ∙ ap f (sym (expr_is d s e))
 
 module _ (ps : ℕ) (bs : List ℕ) (d : ℕ) (s : List ℕ) {k : ℕ} (e : k ≡ record_kind d s) where

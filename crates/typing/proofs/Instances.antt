@@ -63,7 +63,8 @@ module _ (ps : ℕ) (env : List Ty) (f : List ℕ → Expr) (s : List ℕ) (i : 
       let x = f (part s i (record_end s i)) in
       let o = have_types ps env (arguments f (length vs) s (record_end s i)) (tys_of vs) in
       let n = records_end (length vs) s (record_end s i) in
-      rw (has_is ps env x (ty_of v), byte_type_lem v) (go (eqb (type_number (type_expr ps env x)) (ty_number (ty_of v))) o n)
+      rw (has_is ps env x (ty_of v), byte_type_lem v)
+      (go (eqb (type_number (type_expr ps env x)) (ty_number (ty_of v))) o n)
 
   by_cases : (vs : List ℕ) → (length vs ≡ 0 → ⊥)
       → arguments_as (have_types ps env (arguments f (length vs) s i) (tys_of vs)) (records_end (length vs) s i)
@@ -140,7 +141,8 @@ pub ruleset blames = (rest_less, small_typed, blames_none, blames_refused, blame
 -- ---- the value types of template k, as code cuts their bytes out of the agreement
 module _ {places g : List ℕ} (x : Indexed places g) {k a n : ℕ} (l : k < byte g 10) (p : a ≡ template_place g k)
     (q : n ≡ byte (piece_at g (template_place g k)) 4) where
-  pub template_long : template_place g k + 8 + byte (piece_at g (template_place g k)) 4 ≤ record_end g (template_place g k)
+  pub template_long :
+      template_place g k + 8 + byte (piece_at g (template_place g k)) 4 ≤ record_end g (template_place g k)
   template_long =
       let t = template_place g k in
       omega (arith, (template_facts x k l).long, length_part g t (record_end g t) (record_end_within g t))
@@ -187,7 +189,8 @@ abbrev end_of : List ℕ → ℕ → List ℕ → ℕ
 end_of g k s = records_end (length (head_at g k).values) s 5
 
 abbrev has_arguments : List ℕ → ℕ → List Ty → (List ℕ → Expr) → List ℕ → Option (Unit {0})
-has_arguments g k env f s = have_types (byte g 8) env (arguments f (length (head_at g k).values) s 5) (head_at g k).values
+has_arguments g k env f s =
+    have_types (byte g 8) env (arguments f (length (head_at g k).values) s 5) (head_at g k).values
 
 -- the parties of an instance of template k whose blame bytes begin at i
 abbrev parties_from : List ℕ → ℕ → ℕ → List ℕ → ℕ → Option (List ℕ)

@@ -100,7 +100,8 @@ pub seen_none : (n : ℕ) (out : List ℕ) → 16 < n → seen_as n out ≡ none
 unfolding seen_as
 seen_none n out l = rw (lt-ltb 16 n l)
 
-pub then_some : (rs : List (List Ty)) (bs vs : List ℕ) (k r : ℕ) (out : List ℕ) → reading_of_type rs k ≡ some (tys_of vs)
+pub then_some : (rs : List (List Ty)) (bs vs : List ℕ) (k r : ℕ) (out : List ℕ)
+    → reading_of_type rs k ≡ some (tys_of vs)
     → JoinedSight bs vs r out → then_of rs (tys_of bs) k ≡ seen_as r out
 unfolding then_of ◌>>=◌ need
 then_some rs bs vs k r out e j = rw (e, sight_length bs vs)
@@ -250,7 +251,8 @@ module _ (g bs : List ℕ) (d : ℕ) (s : List ℕ) (i n : ℕ) (out : List ℕ)
         (wait_typed (agreement_of g).parties (tys_of (take (n - 1) out)) (tys_of bs) (wait_at (expr d) 0 s i))
         (some (tys_of (take n out))) none
     unfolding wait_sight type_wait names_of wait_at wait_typed then_of then_sight
-    wait_is = wait_some (agreement_of g).parties (tys_of bs) _ _ _ (reading_of_type (agreement_of g).readings (byte s i))
+    wait_is = wait_some (agreement_of g).parties (tys_of bs) _ _ _
+        (reading_of_type (agreement_of g).readings (byte s i))
         (tys_of (take n out)) (tys_of (take (n - 1) out)) (rw p at (e ∙ seen_some n out u))
         (λ vs q. init n out (tys_of bs ++ vs) number l (omega arith) q)
 

@@ -35,7 +35,8 @@ pub body_typed : {places g : List ℕ} (x : Indexed places g) {k from to a n m :
     (clause (heads_of g) 22 0 (part g from to))) → t ≡ typed_as (typed_body g k)
 body_typed {g = g} x {k} {from} {to} l b p q h f =
     f ∙ rw (h, ← values_part x l p q) (ap typed_as (typed_place (names_in g (head_at g k).params) (heads_of g) 22
-    (head_at g k).values 0 from (part g from to) ∙ ap (type_clause (names_in g (head_at g k).params) (head_at g k).values)
+    (head_at g k).values 0 from (part g from to)
+    ∙ ap (type_clause (names_in g (head_at g k).params) (head_at g k).values)
     (sym (body_is b (heads_of g)))))
 
 -- ---- template k
@@ -127,7 +128,8 @@ module _ (g : List ℕ) (k : ℕ) {n : ℕ} (h : n ≡ byte g 10) where
         ∙ holds_then (template_typed g k) (templates_typed g (k + 1)) (sym p ∙ e))
 
     pub templates_stop : {b : Bool} → b ≡ holds (template_typed g k) → b ≡ false → false ≡ holds (templates_typed g k)
-    templates_stop p e = sym (ap holds one_more ∙ holds_not (template_typed g k) (templates_typed g (k + 1)) (sym p ∙ e))
+    templates_stop p e =
+        sym (ap holds one_more ∙ holds_not (template_typed g k) (templates_typed g (k + 1)) (sym p ∙ e))
 
     pub templates_less : {t : ℕ} → byte g 10 - k ≡ t → byte g 10 - (k + 1) < t
     templates_less e = omega arith

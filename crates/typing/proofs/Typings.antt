@@ -75,7 +75,8 @@ module _ (n : Names) where
       → type_clause n env (clause hs d p s) ≡ type_clause n env (clause hs d q s)
   unfolding clause
   typed_place hs zero env p q s = refl
-  typed_place hs (suc d) env p q s = body_place_lem hs (expr d) (clause hs d) (typed_place hs d) env p q s (clause_head s)
+  typed_place hs (suc d) env p q s =
+      body_place_lem hs (expr d) (clause hs d) (typed_place hs d) env p q s (clause_head s)
 
 -- ---- what stands before the first clause part, then its parts
 abbrev after_first : Names → Clause → ℕ → List Ty → Option (List ℕ)
@@ -139,7 +140,8 @@ module _ (n : Names) (env : List Ty) where
         → type_clause n env (sided e 0 s k t f) ≡ (first_sight n env e k s >>= After k)
     typed_sides k l u = pick (dec_le k 18) (dec_le k 19)
       where
-        pick : Dec (k ≤ 18) → Dec (k ≤ 19) → type_clause n env (sided e 0 s k t f) ≡ (first_sight n env e k s >>= After k)
+        pick : Dec (k ≤ 18) → Dec (k ≤ 19)
+            → type_clause n env (sided e 0 s k t f) ≡ (first_sight n env e k s >>= After k)
         pick (yes h) _ = let q : k ≡ 18 = omega arith in rw (sided_choice e 0 s t f q, q) typed_choice
         pick (no h) (yes g) = let q : k ≡ 19 = omega arith in rw (sided_if e 0 s t f q, q) typed_if
         pick (no h) (no g) = rw (sided_join e 0 s k t f (omega arith)) (typed_join k (omega arith) u)
@@ -194,7 +196,8 @@ module _ (n : Names) (env : List Ty) (hs : List Head) (d : ℕ) (s : List ℕ) {
       (type_clause n env (clause hs (d - 1) (0 + b) (part s b (length s))))) (child ts a b)
       ∙ ap (both_sides k (type_clause n ts (clause hs (d - 1) 0 (part s a b)))) (child env b (length s))))
 
-  typed_none : 17 ≤ k → k < 22 → first_sight n env (expr (d - 1)) k s ≡ none → type_clause n env (clause hs d 0 s) ≡ none
+  typed_none : 17 ≤ k → k < 22 → first_sight n env (expr (d - 1)) k s ≡ none
+      → type_clause n env (clause hs d 0 s) ≡ none
   unfolding ◌>>=◌
   typed_none l u q = pick (dec_le k 17)
     where
@@ -216,7 +219,8 @@ sides_typed true ps m e = pick (dec_le m 1)
 sides_typed false ps m e = refl
 
 joined_typed : (k : ℕ) (o p : Option (List ℕ)) → ((ps : List ℕ) → o ≡ some ps → ValidMembers ps)
-    → ((qs : List ℕ) → p ≡ some qs → ValidMembers qs) → joined_as k (typed_as o) (typed_as p) ≡ typed_as (both_sides k o p)
+    → ((qs : List ℕ) → p ≡ some qs → ValidMembers qs)
+    → joined_as k (typed_as o) (typed_as p) ≡ typed_as (both_sides k o p)
 unfolding typed_as joined_as sides_as ◌>>=◌
 joined_typed k none p f g = refl
 joined_typed k (some ps) none f g = refl
@@ -273,7 +277,8 @@ module _ {places g : List ℕ} (x : Indexed places g) (params : ℕ) (few : para
     unfolding clause_body
     clause_instance h q = q ∙ rw (clause_is (heads_of g) d 0 s e, kind_instance h)
 
-    pub clause_low : k < 16 → Untyped ≡ typed_as (type_clause (names_in g params) (tys_of bs) (clause (heads_of g) d 0 s))
+    pub clause_low : k < 16
+        → Untyped ≡ typed_as (type_clause (names_in g params) (tys_of bs) (clause (heads_of g) d 0 s))
     unfolding clause_body type_clause
     clause_low l = untyped (rw (clause_is (heads_of g) d 0 s e, kind_no_clause_low k l))
 

@@ -91,7 +91,8 @@ blamed_as m (Parties x) = Parties (bit_or m x)
 blamed_as m Untyped = Untyped
 
 unfoldable pub sides_as : ℕ → ℕ → ℕ → Typed
-sides_as k a b = cond (eqb k 21) (cond (ltb 1 (ones (bit_or a b))) Untyped (Parties (bit_or a b))) (Parties (bit_or a b))
+sides_as k a b =
+    cond (eqb k 21) (cond (ltb 1 (ones (bit_or a b))) Untyped (Parties (bit_or a b))) (Parties (bit_or a b))
 
 unfoldable pub joined_as : ℕ → Typed → Typed → Typed
 joined_as k (Parties a) (Parties b) = sides_as k a b

@@ -1,4 +1,6 @@
 // Refusal 3: types of expressions, typing and parties of clauses.
+#![tactic(auto)]
+
 ghost use Rattle.std.specs.Prelude.{◌≡◌, ◌+◌, ◌≤◌, ◌<◌, length};
 ghost use Rattle.std.proofs.Math.Option.{some};
 ghost use Rattle.csl.specs.Bytes as bytes;

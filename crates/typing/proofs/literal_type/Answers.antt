@@ -1,0 +1,1 @@
+-- A literal has its type where it is as long as it must be and allowed.
