@@ -1,10 +1,8 @@
 -- Laws for a forecast.
 use mathlib.Core.Path.{◌≡◌, refl, sym, ap, ap₂, subst, ◌∙◌}
-use mathlib.Core.Logic.{inl, inr, ◌⊎◌}
 use mathlib.Core.List.{List, [], ◌∷◌}
 use Prim.Native.Nat.{ℕ, ◌-◌, ◌*◌, ◌^◌, ◌<◌}
 use native.Mathlib.Omega.{arith}
-use denote.Enum.Declared.{tag_of}
 use lib.Dec.{le→leb}
 use lib.IntN.{ℤ, pos}
 use lib.Signed.{mag, ◌≤ℤ◌}
@@ -28,7 +26,6 @@ use Rattle.residues.specs.Tallies.{Reckons}
 use Rattle.residues.specs.declared.Reckoned.{Reckoned}
 use Rattle.residues.specs.declared.Reduced.{Reduced}
 use Rattle.residues.specs.declared.Reduced.TheVariants.{Done, Breach, Running}
-use Rattle.residues.specs.contracts.Reduced.{the_type}
 use Rattle.residues.proofs.Reduces.{is_done, is_breach, is_running}
 use Rattle.walk.proofs.Trees.{tree_only}
 use Rattle.walk.specs.Tree.{Tree, tree_reckoned}
@@ -90,15 +87,14 @@ module _ {s places : List ℕ} {us : List ℤ} {sights : List ℕ} {n : ℕ}
         (tree_only (ap (table.across cells.forecasting s n sights) (behind_head us) ∙ ahead.is)) h.outcome)
 
     -- what is no breach is fulfilled, for nothing waits on
-    pub ahead_none : (tag_of the_type r ≡ 0) ⊎ (tag_of the_type r ≡ 2) → forecast_answer Nothing ≡ forecast_of s us
+    pub ahead_none : ((t : ℤ) (b : ℕ) → r ≡ Breach t b → ⊥) → forecast_answer Nothing ≡ forecast_of s us
     unfolding foretold
     ahead_none f = go r f (is_for refl)
       where
-        go : (q : Reduced) → (tag_of the_type q ≡ 0) ⊎ (tag_of the_type q ≡ 2) → Is ahead.given.outcome q out
+        go : (q : Reduced) → ((t : ℤ) (b : ℕ) → q ≡ Breach t b → ⊥) → Is ahead.given.outcome q out
             → forecast_answer Nothing ≡ forecast_of s us
         go Done f i = sym (ahead.answers ∙ ap foretold (is_done out ahead.given.outcome i))
-        go (Breach t b) (inl e) i = absurd (omega arith)
-        go (Breach t b) (inr e) i = absurd (omega arith)
+        go (Breach t b) f i = absurd (f t b refl)
         go (Running n) f i = let g = is_running out ahead.given.outcome i in absurd (ahead.ends g.0 g.1)
 
     module _ {t : ℤ} {b : ℕ} (fits : mag t < 2 ^ 63) (e : r ≡ Breach t b) where

@@ -1,4 +1,6 @@
 // The public entries of paper 01. No entry relies on an earlier check.
+#![tactic(auto)]
+
 ghost use Rattle.std.specs.Prelude.{◌≡◌, not, ◌&&◌, ℕ, ◌≤◌, pos, length, drop, ◌≤ℤ◌};
 ghost use Rattle.cells.specs.Across.{some_open_later};
 ghost use Rattle.csl.specs.Check.{check_of};

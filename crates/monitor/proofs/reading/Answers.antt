@@ -1,0 +1,11 @@
+-- What is lent is refused, or the run that it shows reads on.
+use borrow.Author.Rules.{rules}
+use Rattle.monitor.proofs.Opens.{opens_no, opens_yes}
+use Rattle.monitor.proofs.reading.Goals as goal
+
+pub read_on-requires : goal.read_on-requires
+read_on-requires c = search (opens_yes, rules)
+
+pub returns-in-Refused : goal.returns-in-Refused
+returns-in-Refused c =
+    (opens_no _ _ _ _ c.open_run.ensures c.in-Refused.is).reading _
