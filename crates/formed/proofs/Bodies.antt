@@ -4,7 +4,6 @@ use mathlib.Core.Bool.{Bool, true, false, ◌&&◌}
 use mathlib.Core.List.{List}
 use Prim.Native.Nat.{ℕ, suc, ◌+◌, ◌-◌, ◌≤◌, ◌<◌}
 use native.Mathlib.Omega.{arith}
-use borrow.Author.Tests.{not-true, not-false}
 use borrow.Author.Rules.{rules}
 use lib.ListN.{length}
 use Rattle.csl.specs.Lists.{all}
@@ -65,7 +64,7 @@ module _ (s : List ℕ) where
       pub left_off : x ≡ false → false ≡ bodies_whole s
       left_off t = sym (next ∙ rw t)
 
-pub ruleset bodies = (left_start, left_end, left_on, left_off, not-true, not-false, rules)
+pub ruleset bodies = (left_start, left_end, left_on, left_off, rules)
 
 -- ---- the main clause; m is what a call gave
 pub main_is : (s : List ℕ) {r : Bool} {m : ℕ} → m ≡ main_place s

@@ -5,7 +5,7 @@ use mathlib.Core.List.{List}
 use Prim.Native.Nat.{ℕ, zero, suc, ◌+◌, ◌-◌, ◌≤◌, ◌<◌, min}
 use native.Mathlib.Numerals.{sub-one}
 use native.Mathlib.Omega.{arith}
-use borrow.Author.Tests.{ne_eqb, lt-leb, not-true, not-false}
+use borrow.Author.Tests.{ne_eqb, lt-leb}
 use borrow.Author.Rules.{rules}
 use lib.Dec.{eqb}
 use lib.ListN.{length}
@@ -85,7 +85,7 @@ module _ (i : List ℕ → Expr) (s : List ℕ) where
     unfolding expr_body whole_expr
     no_expr_high l = rw (kind_no_expr_high k l)
 
-pub ruleset walking = (true_first, false_first, record_room, end_room, not-true, not-false, rules)
+pub ruleset walking = (true_first, false_first, record_room, end_room, rules)
 
 pub ruleset exprs = (
   no_depth,

@@ -1,6 +1,5 @@
 -- Each arm asks what the form of its kind asks; a part is nested less deep than its clause.
 use Rattle.formed.proofs.Clauses.{clauses, obligation_formed, sides_formed}
-use borrow.Author.Tests.{not-false}
 use Rattle.laws.proofs.Bools.{true_first, false_first}
 use Rattle.formed.proofs.+clause_formed.Goals as goal
 
@@ -35,7 +34,7 @@ pub returns-then-clause_formed : goal.returns-then-clause_formed
 returns-then-clause_formed t c = search (sides_formed, true_first)
 
 pub returns-else-clause_formed : goal.returns-else-clause_formed
-returns-else-clause_formed t c = search (sides_formed, true_first, false_first, not-false)
+returns-else-clause_formed t c = search (sides_formed, true_first, false_first)
 
 pub returns-in_default : goal.returns-in_default
 returns-in_default t c = search clauses

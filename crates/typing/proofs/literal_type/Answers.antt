@@ -1,1 +1,0 @@
--- A literal has its type where it is as long as it must be and allowed.
