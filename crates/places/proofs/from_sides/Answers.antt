@@ -1,11 +1,7 @@
 -- Places increase in the order of the bytes, so the end of the first side tells which one has the place.
 use Rattle.places.proofs.Steps.{sides_left, sides_right}
 use Rattle.places.specs.Locate.{StepAt}
-use native.Mathlib.Omega.{arith}
 use Rattle.places.proofs.from_sides.Goals as goal
-
-pub overflow_add-base : goal.overflow_add-base
-overflow_add-base c = omega (arith, c.record_end-f.ensures, c.requires)
 
 pub returns-then-place-base : goal.returns-then-place-base
 unfolding StepAt

@@ -55,9 +55,6 @@ returns-then-place-record_end c =
     c.template_place-a.ensures.0 c.record_end.ensures.0
     c.if-place-record_end.true loop.invariant.2 c.in_template.ensures
 
-pub loop-k-smaller : goal.loop-k-smaller
-loop-k-smaller c = omega (arith, c.loop-k-test.true)
-
 pub loop-k-preserved : goal.loop-k-preserved
 loop-k-preserved c =
     let loop = c.loop-k in (

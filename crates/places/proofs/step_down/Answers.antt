@@ -25,12 +25,6 @@ from_sides-requires c =
       search rules,
     )
 
-pub returns-in-17 : goal.returns-in-17
-returns-in-17 c = c.from_obligation.ensures
-
-pub returns-in-18 : goal.returns-in-18
-returns-in-18 c = c.from_choice.ensures
-
 pub returns-in-19-to-21 : goal.returns-in-19-to-21
 returns-in-19-to-21 c = c.from_sides.ensures c.args.agreement.now c.args.types.now
 

@@ -78,9 +78,6 @@ returns-in-17 t c =
     then_parties c.requires.1 c.kind-k.ensures c.in-17.is c.first_clause-c.ensures.0
     c.byte.ensures.0 c.stands_for.ensures c.party_bit-own.ensures.0 c.clause_parties.ensures c.union.ensures.0
 
-pub returns-in-22 : goal.returns-in-22
-returns-in-22 t c = c.instance_parties.ensures
-
 pub returns-in-18-to-21 : goal.returns-in-18-to-21
 returns-in-18-to-21 t c =
     sides_parties c.requires.1 c.kind-k.ensures (omega arith) (omega arith) c.first_clause-c-in-18-to-21.ensures.0

@@ -15,9 +15,6 @@ union-bits-requires c = (
   omega (arith, c.party_bit.ensures.1),
 )
 
-pub loop-i-smaller : goal.loop-i-smaller
-loop-i-smaller c = omega (arith, c.loop-i-test.true)
-
 pub loop-i-preserved : goal.loop-i-preserved
 loop-i-preserved c =
     blamed_more c.args.s.now c.args.params.now c.loop-i-test.true

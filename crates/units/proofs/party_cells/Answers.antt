@@ -12,9 +12,6 @@ use Rattle.units.proofs.party_cells.Goals as goal
 pub loop-i-init : goal.loop-i-init
 loop-i-init c = (refl, reads_first c.args.cells.now c.args.parties c.args.out.now)
 
-pub shape_of-out-then-p-parties : goal.shape_of-out-then-p-parties
-shape_of-out-then-p-parties c = c.loop-i.invariant.0
-
 pub returns-then-p-parties : goal.returns-then-p-parties
 returns-then-p-parties c = record {
   yes = λ e. absurd (false≢true e);
@@ -22,12 +19,6 @@ returns-then-p-parties c = record {
       (c.number_below-p.ensures.0 ∙ ap (number_below c.args.parties) (read! (search rules)))
       c.loop-i.invariant.1 c.if-p-parties.true;
 }
-
-pub bounds-out-i : goal.bounds-out-i
-bounds-out-i c = omega (arith, c.loop-i.invariant.0, c.requires, c.loop-i-test.true)
-
-pub loop-i-smaller : goal.loop-i-smaller
-loop-i-smaller c = omega (arith, c.loop-i-test.true)
 
 pub loop-i-preserved : goal.loop-i-preserved
 loop-i-preserved c =
@@ -39,9 +30,6 @@ loop-i-preserved c =
           loop.invariant.1 p.ensures.1 c.if-p-parties.false
           (omega (arith, loop.invariant.0, c.requires, c.loop-i-test.true)),
     )
-
-pub shape_of-out : goal.shape_of-out
-shape_of-out c = c.loop-i.invariant.0
 
 pub returns : goal.returns
 returns c = record {
