@@ -1,4 +1,38 @@
 // Follows an agreement through its readings: paper 01, "Pond trials".
-fn main() {
-    watch::watch();
+#![tactic(auto)]
+
+use std::io;
+use std::process::ExitCode;
+use watch::{Failure, watch};
+
+// The system's reason without its number.
+fn reason(told: &str) -> &str {
+    match told.split_once(" (os error ") {
+        Some((reason, _)) => reason,
+        None => told,
+    }
+}
+
+fn complain<R: Eprint + Alloc>(rt: &R, stream: &str, why: io::Error) -> io::Result<()> {
+    let told = why.to_string(rt.alloc())?;
+    let reason = reason(&told);
+    eprintln!(rt; "brinewatch: {stream}: {reason}")
+}
+
+fn explain<R: Eprint + Alloc>(rt: &R, failure: Failure) -> io::Result<()> {
+    match failure {
+        Failure::Input(why) => complain(rt, "standard input", why),
+        Failure::Output(why) => complain(rt, "standard output", why),
+        Failure::TooLong => eprintln!(rt; "brinewatch: standard input: too long"),
+    }
+}
+
+fn main(rt: HostRuntime) -> ExitCode {
+    match watch(&mut rt.reader(), &mut io::writer(&rt)) {
+        Ok(()) => ExitCode::SUCCESS,
+        Err(failure) => {
+            let _ = explain(&rt, failure);
+            ExitCode::FAILURE
+        }
+    }
 }

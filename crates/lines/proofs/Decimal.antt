@@ -28,7 +28,8 @@ tenth_below n p h = omega (arith, div-add-mod n 10)
 tenth_above : (n p : ℕ) → 10 * p ≤ n → p ≤ n / 10
 tenth_above n p h = omega (arith, div-add-mod n 10, mod-lt n {m = 10} (omega arith))
 
-same : (k n steps : ℕ) → n < steps → n < 10 ^ suc k → (0 < k → 10 ^ k ≤ n) → io.last_digits 10 (suc k) n ≡ digits_in steps n
+same : (k n steps : ℕ) → n < steps → n < 10 ^ suc k → (0 < k → 10 ^ k ≤ n)
+    → io.last_digits 10 (suc k) n ≡ digits_in steps n
 same k n zero h l m = absurd (omega arith)
 same zero n (suc steps) h l m =
     let low : n < 10 = omega (arith, pow-succ' 10 0) in

@@ -70,6 +70,6 @@ lines_of s cells readings =
 
 -- what a proof by computation unfolds
 unfoldable pub computes : Unit {0}
-unfolding forecast_fields state_by state_fields verdict_fields refusal_fields answer_fields time_field start_time start_line
-    reading_time reading_line reading_lines lines_of
+unfolding forecast_fields state_by state_fields verdict_fields refusal_fields answer_fields time_field start_time
+    start_line reading_time reading_line reading_lines lines_of
 computes = tt

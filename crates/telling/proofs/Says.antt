@@ -41,7 +41,8 @@ module _ (s : List ℕ) (cells : List ℤ) {state : ℤ} (is : state ≡ get_or 
 
   pub verdict_done : two ≡ true → done ∷ [] ≡ verdict_fields s cells
   unfolding verdict_fields state_fields state_by
-  verdict_done e = ap (λ b. state_by b (eq_z (get_or cells 0 (pos 0)) (pos 1)) (forecast_of s cells)) (sym (state_two e))
+  verdict_done e =
+      ap (λ b. state_by b (eq_z (get_or cells 0 (pos 0)) (pos 1)) (forecast_of s cells)) (sym (state_two e))
 
   module _ {f : Forecast} (foretold : f ≡ forecast_of s cells) (no : two ≡ false) {one : Bool}
       (asked-one : one ≡ eq_z state (pos 1)) where
@@ -130,10 +131,12 @@ module _ (s : List ℕ) (cells cells₂ : List ℤ) {out out₂ : List ℕ} {to 
         → Put (fields (refusal_fields number)) out₁ mid out₂ to
         → Begins s cells cells₂ out out₂ (record { go = false; at = to })
     begins_refused {why} {number} is told p q =
-        let a : answer_of (number_of why) cells₂ ≡ start_of s cells = ap (λ x. start_answer x cells₂) (sym is) ∙ answered in
+        let a : answer_of (number_of why) cells₂ ≡ start_of s cells =
+        ap (λ x. start_answer x cells₂) (sym is) ∙ answered in
         record {
           line = same_put (start_refused_line s cells₂ why ∙ ap (start_line s) a)
-              (line_put 0 dash (refusal_fields (number_of why)) p (same_put (ap (λ n. fields (refusal_fields n)) told) q));
+              (line_put 0 dash (refusal_fields (number_of why)) p
+              (same_put (ap (λ n. fields (refusal_fields n)) told) q));
           table = ap (λ x. x.table) a;
           goes = not_zero_lem why ∙ ap (λ x. eqb x.number 0) a;
           room = room;

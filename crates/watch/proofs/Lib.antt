@@ -1,3 +1,6 @@
 pub mod Taking
-pub mod Arrives
+pub mod Carried
+pub mod Opened
+pub mod Serving
+pub mod Begun
 pub mod Session

@@ -19,7 +19,6 @@ use Rattle.stream.proofs.Cuts.{Cut, Known, known, no_records}
 use Rattle.lines.specs.Lines.{reading_line, reading_lines}
 use Rattle.watch.specs.declared.Stage.{Stage}
 use Rattle.watch.specs.declared.Stage.TheVariants.{Ready, Waiting, Over}
-use Rattle.watch.specs.declared.Turn.{Turn}
 use Rattle.telling.specs.declared.Told.{Told}
 use Rattle.telling.specs.Told.{line_room, Follows}
 use Rattle.watch.specs.Steps.{left, Comes, stage_after, Turns}
@@ -145,53 +144,3 @@ module _ (input : List ℕ) (ended : Bool) (from : ℕ) {r : Next}
             numbered = omega arith;
             fits = room;
           }
-
--- a turn after which a record may be there
-pub ready_turns : {s : List ℕ} {cells cells₂ : List ℤ} {n : ℕ} {input : List ℕ} {ended : Bool} {from : ℕ}
-    {out : List ℕ} {at : ℕ} {out₂ : List ℕ} (t : Turn) → t.stage ≡ Ready
-    → Turns s cells cells₂ n input ended from out at out₂ t
-    → Turns s cells cells₂ n input ended from out at out₂ (record {
-      stage = Ready;
-      from = t.from;
-      at = t.at;
-      line = t.line;
-    })
-ready_turns {s} {cells} {cells₂} {n} {input} {ended} {from} {out} {at} {out₂} t e p = record {
-  same = λ more c. p.same more c ∙ ap (λ g. take t.at out₂
-      ++ left g s cells₂ t.line (drop t.from input ++ more)) e;
-  waits = λ q. impossible cc;
-  bounded = p.bounded;
-  numbered = p.numbered;
-  fits = p.fits;
-}
-
--- ---- one turn after another
-pub turns_then : {s : List ℕ} {cells cells₂ cells₃ : List ℤ} {n : ℕ} {input : List ℕ} {ended : Bool} {from : ℕ}
-    {out : List ℕ} {at : ℕ} {out₂ out₃ : List ℕ} {t u : Turn} → t.stage ≡ Ready → length out₂ ≡ length out
-    → Turns s cells cells₂ n input ended from out at out₂ t
-    → Turns s cells₂ cells₃ t.line input ended t.from out₂ t.at out₃ u
-    → Turns s cells cells₃ n input ended from out at out₃ u
-turns_then {s} {cells} {cells₂} {cells₃} {n} {input} {ended} {from} {out} {at} {out₂} {out₃} {t} {u} ready l p
-    q = record {
-      same = λ more c. p.same more c ∙ ap (λ g. take t.at out₂
-          ++ left g s cells₂ t.line (drop t.from input ++ more)) ready ∙ q.same more c;
-      waits = q.waits;
-      bounded = (omega (arith, p.bounded.0, q.bounded.0), q.bounded.1);
-      numbered = omega (arith, p.numbered, q.numbered);
-      fits = omega (arith, q.fits);
-    }
-
-pub turns_none : (s : List ℕ) (cells : List ℤ) (n : ℕ) (input : List ℕ) (ended : Bool) (out : List ℕ)
-    → Turns s cells cells n input ended 0 out 0 out (record {
-      stage = Ready;
-      from = 0;
-      at = 0;
-      line = n;
-    })
-turns_none s cells n input ended out = record {
-  same = λ more c. refl;
-  waits = λ e. impossible cc;
-  bounded = (omega arith, omega arith);
-  numbered = omega arith;
-  fits = omega arith;
-}

@@ -1,3 +1,4 @@
 pub mod Watched
 pub mod Steps
+pub mod Runs
 pub mod Trials

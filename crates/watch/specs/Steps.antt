@@ -10,6 +10,12 @@ abbrev pub stage_after : Bool → Stage
 stage_after true = Ready
 stage_after false = Over
 
+-- whether a run goes on
+abbrev pub goes_on : Stage → Bool
+goes_on Ready = true
+goes_on Waiting = true
+goes_on Over = false
+
 -- ---- what is left to write, from line n on, of the bytes that are still to be taken
 abbrev pub left : Stage → List ℕ → List ℤ → ℕ → List ℕ → List ℕ
 left Ready s cells n rest = reading_lines s cells n (records_of rest)

@@ -1,14 +1,22 @@
-// The program: the agreement, then readings, from standard input; a line for each, written before more input is
+// The program: the agreement, then readings, from an input; a line for each to an output, written before more input is
 // waited for.
-ghost use Rattle.std.specs.Prelude.{◌≡◌, ◌+◌, ◌^◌, ◌≤◌, ◌<◌, length, take};
-ghost use Rattle.lines.specs.Text.{line};
+#![tactic(auto)]
+
+ghost use Rattle.std.specs.Prelude.{◌≡◌, ◌++◌, ◌+◌, ◌^◌, ◌≤◌, ◌<◌, length, take, drop, false, IfOk, OnOk, IfSome};
+ghost use Rattle.std.specs.Io.KnownBytes.{Appends};
 ghost use Rattle.telling.specs.Told.{line_room};
-ghost use Rattle.watch.specs.Steps.{stage_after, Turns};
+ghost use Rattle.stream.specs.Records.{records_of};
+ghost use Rattle.lines.specs.Lines.{reading_lines, lines_of};
+ghost use Rattle.watch.specs.Watched.{watched, zeros};
+ghost use Rattle.watch.specs.Steps.{stage_after, goes_on, Turns};
+ghost use Rattle.watch.specs.Runs.{Carries, Grows, Opens, Serves, Writes};
 ghost use Rattle.watch.specs.declared.Stage.TheVariants.{Ready, Waiting};
 
 use cells::TABLE_CELLS;
+use std::io;
+use std::io::{Read, Write};
 use stream::{Got, Next, emit, keep, next_record, read_more};
-use telling::{LINE_ROOM, Told, begin, follow};
+use telling::{LINE_ROOM, begin, follow};
 
 // The bytes of each buffer: no record is longer, and input that is there is read in large pieces.
 const ROOM: usize = 65_536;
@@ -42,8 +50,8 @@ fn step(
     line: u64,
 ) -> Turn
     requires { (from ≤ length input.now) × (at + line_room ≤ length out.old) × (line + length input.now < 2 ^ 64 + from) }
-    ensures { Turns agreement.now table.old table.new line input.now
-        ended from out.old at out.new result × (result.stage ≡ Ready → from < result.from) }
+    ensures turns { Turns agreement.now table.old table.new line input.now ended from out.old at out.new result }
+    ensures takes { result.stage ≡ Ready → from < result.from }
 {
     match next_record(&input[from..], ended) {
         Next::Wait => Turn {
@@ -87,8 +95,7 @@ fn drain(
     line: u64,
 ) -> Turn
     requires { line + length input.now < 2 ^ 64 }
-    ensures { Turns agreement.now table.old table.new line input.now
-        ended 0 out.old 0 out.new result }
+    ensures { Turns agreement.now table.old table.new line input.now ended 0 out.old 0 out.new result }
 {
     let mut from = 0;
     let mut at = 0;
@@ -118,37 +125,51 @@ fn drain(
     }
 }
 
-// ---- what follows only reads and writes: no contract can say which bytes come and go
+// ---- what follows reads and writes: where the bytes to come are known, and those that the output holds, the contracts
+// say which come and go
 
-// The bytes at hand stand at the front of a buffer: how many; whether the input has ended there; whether a read failed.
+// Why a run ended before its input: a read failed, or a write, or there were too many turns.
+#[derive(Clone, Copy, Debug)]
+pub enum Failure {
+    Input(io::Error),
+    Output(io::Error),
+    TooLong,
+}
+
+// The bytes at hand stand at the front of a buffer: how many, and whether the input has ended there.
 #[derive(Clone, Copy)]
 struct Held {
     size: usize,
     ended: bool,
-    failed: bool,
 }
 
 // Waits for more input behind the bytes at hand.
-fn wait(buf: &mut [u8], size: usize) -> Held
+fn wait<R: Read>(input: &mut R, buf: &mut [u8], size: usize) -> Result<Held, Failure>
     requires { size < length buf.old }
-    ensures { (take size buf.new ≡ take size buf.old) × (result.size ≤ length buf.old) }
+    ensures kept { take size buf.new ≡ take size buf.old }
+    ensures within { IfOk result (λ held. held.size ≤ length buf.old) }
+    ensures grows { IfOk result (Grows size) }
+    ensures carries { IfOk result (λ held. Carries (R.remaining input.old) false (take size buf.old)
+        (R.remaining input.new) held.ended (take held.size buf.new)) }
 {
-    match read_more(buf, size) {
-        Got::Bytes(n) => Held {
+    match read_more(input, buf, size) {
+        Ok(Got::Bytes(n)) => Ok(Held {
             size: size + n,
             ended: false,
-            failed: false,
-        },
-        Got::Over => Held {
-            size,
-            ended: true,
-            failed: false,
-        },
-        Got::Failed => Held {
-            size,
-            ended: false,
-            failed: true,
-        },
+        }),
+        Ok(Got::Over) => Ok(Held { size, ended: true }),
+        Err(why) => Err(Failure::Input(why)),
+    }
+}
+
+// Writes the first `at` bytes of out.
+fn write<W: Write>(output: &mut W, out: &[u8], at: usize) -> Result<(), Failure>
+    requires { at ≤ length out.now }
+    ensures { OnOk result (Appends (W.contents output.old) (W.contents output.new) (take at out.now)) }
+{
+    match emit(output, out, at) {
+        Ok(()) => Ok(()),
+        Err(why) => Err(Failure::Output(why)),
     }
 }
 
@@ -162,185 +183,197 @@ struct Served {
 }
 
 // After a turn: more input is waited for only where it is needed, and all lines are written by then.
-fn await_more(buf: &mut [u8], size: usize, ended: bool, stage: Stage, line: u64) -> Served
-    requires { (size ≤ length buf.old) × (stage ≡ Waiting → size < length buf.old) }
-    ensures { (result.size ≤ length buf.old) × (result.line ≡ line) }
+fn await_more<R: Read>(
+    input: &mut R,
+    buf: &mut [u8],
+    size: usize,
+    ended: bool,
+    stage: Stage,
+    line: u64,
+) -> Result<Served, Failure>
+    requires { (size ≤ length buf.old) × (stage ≡ Waiting → (size < length buf.old) × (ended ≡ false)) }
+    ensures within { IfOk result (λ served. served.size ≤ length buf.old) }
+    ensures line { IfOk result (λ served. served.line ≡ line) }
+    ensures goes { IfOk result (λ served. served.go ≡ goes_on stage) }
+    ensures carries { IfOk result (λ served. Carries (R.remaining input.old) ended (take size buf.old)
+        (R.remaining input.new) served.ended (take served.size buf.new)) }
 {
     match stage {
-        Stage::Over => Served {
+        Stage::Over => Ok(Served {
             go: false,
             size,
             ended,
             line,
-        },
-        Stage::Ready => Served {
+        }),
+        Stage::Ready => Ok(Served {
             go: true,
             size,
             ended,
             line,
-        },
+        }),
         Stage::Waiting => {
-            let held = wait(buf, size);
-            if held.failed {
-                os::fail(b"brinewatch: standard input");
-            }
-            Served {
-                go: !held.failed,
+            let held = wait(input, buf, size)?;
+            Ok(Served {
+                go: true,
                 size: held.size,
                 ended: held.ended,
                 line,
-            }
+            })
         }
     }
 }
 
 // All records at hand, their lines written, and then more input, if it is needed.
-fn serve(
+fn serve<R: Read, W: Write>(
     agreement: &[u8],
     table: &mut [i64],
+    input: &mut R,
     buf: &mut [u8],
     size: usize,
     ended: bool,
+    output: &mut W,
     out: &mut [u8],
     line: u64,
-) -> Served
+) -> Result<Served, Failure>
     requires { (size ≤ length buf.old) × (length buf.old ≡ 65_536) × (line + size < 2 ^ 64) }
-    ensures { (result.size ≤ 65_536) × (result.line ≤ line + 65_536) }
+    ensures within { IfOk result (λ served. (served.size ≤ 65_536) × (served.line ≤ line + 65_536)) }
+    ensures serves { IfOk result (Serves agreement.now table.old table.new line (take size buf.old) buf.new ended
+        (R.remaining input.old) (R.remaining input.new) (W.contents output.old) (W.contents output.new)) }
 {
     let t = drain(agreement, table, &buf[0..size], ended, out, line);
-    let at = t.at;
-    let from = t.from;
-    let stage = t.stage;
-    if !emit(out, at) {
-        os::fail(b"brinewatch: standard output");
-        return Served {
-            go: false,
-            size,
-            ended,
-            line,
-        };
-    }
-    let left = keep(buf, from, size);
-    await_more(buf, left, ended, stage, t.line)
+    write(output, out, t.at)?;
+    let left = keep(buf, t.from, size);
+    await_more(input, buf, left, ended, t.stage, t.line)
 }
 
 // Readings until the run ends. A proved loop has to end, and nothing says that the input does: so there are at most
 // 2^47 turns.
-fn run(agreement: &[u8], table: &mut [i64], buf: &mut [u8], held: usize, over: bool, out: &mut [u8])
-    requires { (held ≤ length buf.old) × (length buf.old ≡ 65_536) }
+fn run<R: Read, W: Write>(
+    agreement: &[u8],
+    table: &mut [i64],
+    input: &mut R,
+    buf: &mut [u8],
+    held: Held,
+    output: &mut W,
+    out: &mut [u8],
+) -> Result<(), Failure>
+    requires { (held.size ≤ length buf.old) × (length buf.old ≡ 65_536) }
+    ensures { OnOk result (Writes (R.remaining input.old) held.ended (W.contents output.old) (W.contents output.new)
+        (λ bytes. reading_lines agreement.now table.old 1 (records_of (take held.size buf.old ++ bytes)))) }
 {
-    let mut size = held;
-    let mut ended = over;
+    let mut size = held.size;
+    let mut ended = held.ended;
     let mut line = 1;
-    for turn in 0..140_737_488_355_328u64 {
-        let next = serve(agreement, table, buf, size, ended, out, line);
+    'turns: for _ in 0..140_737_488_355_328u64 {
+        let next = serve(agreement, table, input, buf, size, ended, output, out, line)?;
         if !next.go {
-            return;
+            return Ok(());
         }
         size = next.size;
         ended = next.ended;
         line = next.line;
     }
+    Err(Failure::TooLong)
 }
 
-// What is found of the input's first record: whether to stop looking, its size, and the bytes at hand.
+// What is found of the input's first record: how many bytes it takes, and the bytes at hand.
 #[derive(Clone, Copy)]
 struct First {
-    found: bool,
-    record: usize,
+    takes: usize,
     size: usize,
     ended: bool,
-    failed: bool,
 }
 
-// Looks for the first record, and waits for more input where it is not whole.
-fn look(buf: &mut [u8], size: usize, ended: bool) -> First
-    requires { (size ≤ length buf.old) × (length buf.old ≡ 65_536) }
-    ensures { (result.record ≤ result.size) × (result.size ≤ 65_536) }
+// Looks for the first record, and waits for more input as long as it is not whole. Each read brings a byte or the end
+// of the input.
+fn first_record<R: Read>(input: &mut R, buf: &mut [u8]) -> Result<First, Failure>
+    requires { length buf.old ≡ 65_536 }
+    ensures within { IfOk result (λ first. (first.takes ≤ first.size) × (first.size ≤ 65_536)) }
+    ensures opens { IfOk result (Opens (R.remaining input.old) (R.remaining input.new) buf.new) }
 {
-    match next_record(&buf[0..size], ended) {
-        Next::Record(record) => First {
-            found: true,
-            record,
-            size,
-            ended,
-            failed: false,
-        },
-        Next::End => First {
-            found: true,
-            record: 0,
-            size,
-            ended,
-            failed: false,
-        },
-        Next::Wait => {
-            let held = wait(buf, size);
-            First {
-                found: held.failed,
-                record: 0,
-                size: held.size,
-                ended: held.ended,
-                failed: held.failed,
+    let mut size = 0;
+    let mut ended = false;
+    'reads: loop {
+        match next_record(&buf[0..size], ended) {
+            Next::Record(takes) => return Ok(First { takes, size, ended }),
+            Next::End => {
+                return Ok(First {
+                    takes: 0,
+                    size,
+                    ended,
+                });
+            }
+            Next::Wait => {
+                let held = wait(input, buf, size)?;
+                size = held.size;
+                ended = held.ended;
             }
         }
     }
 }
 
-// Each read brings a byte or the end of the input: so the first record is found within as many turns as it can have
-// bytes.
-fn first_record(buf: &mut [u8]) -> First
-    requires { length buf.old ≡ 65_536 }
-    ensures { (result.record ≤ result.size) × (result.size ≤ 65_536) }
-{
-    let mut size = 0;
-    let mut ended = false;
-    for turn in 0..65_537usize {
-        let first = look(buf, size, ended);
-        if first.found {
-            return first;
-        }
-        size = first.size;
-        ended = first.ended;
-    }
-    First {
-        found: false,
-        record: 0,
-        size,
-        ended,
-        failed: true,
-    }
-}
-
 // The agreement's line, then a line for each reading.
-fn go_on(agreement: &[u8], table: &mut [i64], buf: &mut [u8], first: First, out: &mut [u8])
-    requires { (first.record ≤ first.size) × (first.size ≤ 65_536) × (length buf.old ≡ 65_536) × (line_room ≤ length out.old) }
+fn go_on<R: Read, W: Write>(
+    agreement: &[u8],
+    table: &mut [i64],
+    input: &mut R,
+    buf: &mut [u8],
+    first: First,
+    output: &mut W,
+    out: &mut [u8],
+) -> Result<(), Failure>
+    requires { (first.takes ≤ first.size) × (first.size ≤ 65_536) × (length buf.old ≡ 65_536) × (line_room ≤ length out.old) }
+    ensures { OnOk result (Writes (R.remaining input.old) first.ended (W.contents output.old) (W.contents output.new)
+        (λ bytes. lines_of agreement.now table.old (records_of (drop first.takes (take first.size buf.old) ++ bytes)))) }
 {
     let told = begin(agreement, table, out);
-    let at = told.at;
-    if !emit(out, at) {
-        os::fail(b"brinewatch: standard output");
-        return;
+    write(output, out, told.at)?;
+    if !told.go {
+        return Ok(());
     }
-    if told.go {
-        let record = first.record;
-        let size = first.size;
-        let held = keep(buf, record, size);
-        run(agreement, table, buf, held, first.ended, out);
-    }
+    let held = Held {
+        size: keep(buf, first.takes, first.size),
+        ended: first.ended,
+    };
+    run(agreement, table, input, buf, held, output, out)
 }
 
-// Reads the agreement and readings from standard input, and writes a line for each.
-pub fn watch() {
+// All of the input, through these buffers.
+fn watch_through<R: Read, W: Write>(
+    input: &mut R,
+    buf: &mut [u8],
+    agreement: &mut [u8],
+    table: &mut [i64],
+    output: &mut W,
+    out: &mut [u8],
+) -> Result<(), Failure>
+    requires zeros { table.old ≡ zeros }
+    requires room { (length buf.old ≡ 65_536) × (length agreement.old ≡ 65_536) × (line_room ≤ length out.old) }
+    ensures { OnOk result (IfSome (R.remaining input.old) (λ bytes.
+        Appends (W.contents output.old) (W.contents output.new) (watched bytes))) }
+{
+    let first = first_record(input, buf)?;
+    let n = first.takes;
+    agreement[0..n].copy_from_slice(&buf[0..n]);
+    go_on(&agreement[0..n], table, input, buf, first, output, out)
+}
+
+// Reads the agreement and readings from the input, and writes a line for each: where the input's bytes are known, and
+// those that the output holds, it writes what is defined for them and nothing else.
+pub fn watch<R: Read, W: Write>(input: &mut R, output: &mut W) -> Result<(), Failure>
+    ensures { OnOk result (IfSome (R.remaining input.old) (λ bytes.
+        Appends (W.contents output.old) (W.contents output.new) (watched bytes))) }
+{
     let mut table = [0i64; TABLE_CELLS];
     let mut buf = [0u8; ROOM];
     let mut agreement = [0u8; ROOM];
     let mut out = [0u8; ROOM];
-    let first = first_record(&mut buf);
-    if first.failed {
-        os::fail(b"brinewatch: standard input");
-        return;
-    }
-    let n = first.record;
-    bytes::copy(&buf[0..n], &mut agreement);
-    go_on(&agreement[0..n], &mut table, &mut buf, first, &mut out);
+    watch_through(
+        input,
+        &mut buf,
+        &mut agreement,
+        &mut table,
+        output,
+        &mut out,
+    )
 }
