@@ -1,1 +1,2 @@
 // No code: what this repository must have, by name (proofs/).
+#![tactic(auto)]

@@ -16,7 +16,7 @@ use Rattle.csl.specs.Typing.{names_of, type_clause}
 use Rattle.csl.specs.Guards.{guarded_in}
 use Rattle.csl.specs.Values.{Val, eval_bool, evals}
 use Rattle.csl.specs.Outcomes.{Outcome, Residue, Sight, a_choice, an_obligation, running, stuck, unit}
-use Rattle.csl.specs.Rules.{Reading, activate, activating, blamed_all, during, follow, following, outcomes}
+use Rattle.csl.specs.Rules.{Reading, activate, blamed_all, during, follow, following, outcomes}
 use Rattle.csl.specs.Reckoning as Open
 use Rattle.csl.specs.Reckoning.{Reckoning, StepOf, or_stops, walk, walk_in}
 use Rattle.csl.specs.Cost.{Tally, cost_from, follow_cost, nothing_yet, one_more, tallies, total}

@@ -15,7 +15,7 @@ use lib.ListN.{drop, length}
 use Rattle.csl.specs.Lists.{◌>>=◌, all, at}
 use Rattle.csl.specs.Parties.{subset}
 use Rattle.csl.specs.Syntax.{Agreement, Clause, Join, Template, and, bad_clause, choice, fulfilled, if, instance, join}
-use Rattle.csl.specs.Syntax.{number, obligation, or}
+use Rattle.csl.specs.Syntax.{obligation, or}
 use Rattle.csl.specs.Check.{accepted, checked}
 use Rattle.csl.specs.Values.{Val, eval_bool, evals}
 use Rattle.csl.specs.Outcomes.{Outcome, Sight, breach, done, join_both, join_either, joined, or_stuck, running, stuck}

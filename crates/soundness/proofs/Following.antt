@@ -11,10 +11,10 @@ use lib.IntN.{◌+ℤ◌, ◌-ℤ◌, pos, ℤ}
 use lib.ListN.{length}
 use lib.Signed.{lt_z}
 use Rattle.csl.specs.Lists.{◌>>=◌, or_nil}
-use Rattle.csl.specs.Numbers.{held, in_range, later_of}
+use Rattle.csl.specs.Numbers.{in_range, later_of}
 use Rattle.csl.specs.Syntax.{Agreement, Clause, Ty, Wait, choice, number, obligation, truth}
 use Rattle.csl.specs.Typing.{blame_ok, has_type, names_of, reading_of_type, then_sight, type_clause, type_wait}
-use Rattle.csl.specs.Values.{eval_bool, eval_num, who}
+use Rattle.csl.specs.Values.{eval_bool, eval_num}
 use Rattle.csl.specs.Outcomes.{Outcome, Residue, Sight, both, breach, joined, or_stuck, unit}
 use Rattle.csl.specs.Rules.{Reading, Step, activate, activating, blamed, during, following, taken}
 use Rattle.csl.specs.Rules.{window, with_values, across, follow}

@@ -18,7 +18,7 @@ use Rattle.csl.specs.Parties.{is_same_set, subset}
 use Rattle.csl.specs.Syntax.{Agreement, Clause, Join, Template, Ty, Wait, and, bad_clause, choice, fulfilled, if}
 use Rattle.csl.specs.Syntax.{instance, join, obligation, or}
 use Rattle.csl.specs.Typing.{blame_ok, names_of, reading_of_type, then_sight, type_clause, type_wait}
-use Rattle.csl.specs.Values.{Val, eval_bool, evals, who}
+use Rattle.csl.specs.Values.{Val, eval_bool, evals}
 use Rattle.csl.specs.Outcomes.{Outcome, Residue, Sight, both, breach, done, earlier, join_both, join_either, joined}
 use Rattle.csl.specs.Outcomes.{later, or_stuck, running, stuck, unit}
 use Rattle.csl.specs.Rules.{Reading, Window, blamed, blamed_all, during, forecasting, taken, walk, walk_in, window}

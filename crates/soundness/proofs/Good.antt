@@ -10,8 +10,7 @@ use Rattle.csl.specs.Lists.{all, or_nil}
 use Rattle.csl.specs.Parties.{is_same_set, subset}
 use Rattle.csl.specs.Syntax.{Agreement, Clause, Join, Ty, and, bad_clause, choice, fulfilled, if, instance, join}
 use Rattle.csl.specs.Syntax.{obligation, or}
-use Rattle.csl.specs.Decode.{clause}
-use Rattle.csl.specs.Typing.{join_ok, names_of, reading_of_type, then_sight, type_clause, typed}
+use Rattle.csl.specs.Typing.{join_ok, names_of, reading_of_type, then_sight, type_clause}
 use Rattle.csl.specs.Outcomes.{Outcome, Residue, Sight, Sort, both, breach, done, earlier, join_both, join_either}
 use Rattle.csl.specs.Outcomes.{joined, later, running, stuck, unit}
 use Rattle.csl.specs.Places.{Found, clause_at}

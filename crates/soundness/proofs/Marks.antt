@@ -6,14 +6,14 @@ use mathlib.Core.List.{List, [], ◌∷◌}
 use mathlib.Core.Logic.{inl, inr, ◌⊎◌}
 use mathlib.Core.Option.{none, some}
 use mathlib.Core.Path.{ap, ap₂, refl, subst, sym, ◌∙◌, ◌≡◌}
-use Prim.Native.Nat.{◌-◌, ◌<◌, ℕ, ◌≤◌}
+use Prim.Native.Nat.{◌<◌, ℕ, ◌≤◌}
 use native.Mathlib.Omega.{arith}
 use lib.Dec.{T}
 use lib.IntN.{ℤ}
 use lib.ListN.{length}
 use Rattle.csl.specs.Lists.{at}
 use Rattle.csl.specs.Parties.{bits_of, members, subset}
-use Rattle.csl.specs.Syntax.{Agreement, number}
+use Rattle.csl.specs.Syntax.{Agreement}
 use Rattle.csl.specs.Check.{accepted, checked, refused}
 use Rattle.csl.specs.Outcomes.{Outcome, Residue, breach, done, running, stuck}
 use Rattle.csl.specs.Rules.{Reading, follow, forecast}

@@ -13,7 +13,7 @@ use Rattle.csl.specs.Lists.{◌>>=◌, all, at, need, split}
 use Rattle.csl.specs.Parties.{bit, bits_from, bits_of, member, members, subset}
 use Rattle.csl.specs.Syntax.{Agreement, Clause, Join, Ty, and, bad_clause, choice, fulfilled, if, instance, join}
 use Rattle.csl.specs.Syntax.{Template, obligation, or}
-use Rattle.csl.specs.Typing.{join_ok, names_of, type_clause, typed}
+use Rattle.csl.specs.Typing.{join_ok, names_of, type_clause}
 use Rattle.csl.specs.Values.{Val, as_nat, value_of, values_of}
 use Rattle.csl.specs.Outcomes.{Outcome, Residue, Sort, a_choice, an_obligation, both, unit, units}
 use Rattle.csl.specs.Places.{Found, clause_at, find, find_in}
@@ -34,7 +34,7 @@ use Rattle.soundness.proofs.Walks.{Fair}
 use Rattle.soundness.proofs.Bits.{bits_members}
 use Rattle.soundness.proofs.RoundTrip.{len_nats}
 use Rattle.soundness.proofs.Readings.{values_typed}
-use Rattle.soundness.proofs.Runs.{Inv, Since, main_in, reads, run_at, same}
+use Rattle.soundness.proofs.Runs.{Inv, Since, main_in, reads, run_at}
 
 -- ---- what the finder finds
 unfoldable FoundOk : Agreement → Found → Type 0

@@ -18,7 +18,6 @@ use Rattle.csl.specs.Values.{Val, as_nat, as_truth, bool, num, value_of, values_
 use Rattle.csl.specs.Outcomes.{Outcome, Residue, Sight, Sort, a_choice, an_obligation, both, breach, done, running}
 use Rattle.csl.specs.Outcomes.{unit, units}
 use Rattle.csl.specs.Places.{clause_at}
-use Rattle.csl.specs.Run.{fit}
 use Rattle.csl.specs.Table.{add_unit, as_nats, cell_of, cells_of, head_cells, head_numbers, is_sort, is_zero, join_cells}
 use Rattle.csl.specs.Table.{join_number, nat_cells, padded, push, read_state, residue_cells, residue_parties, run_of}
 use Rattle.csl.specs.Table.{single, sort_number, stand_for, table_of, trees, cells_of_unit, unit_sort, waiting_unit}

@@ -12,7 +12,7 @@ use lib.IntN.{ℤ}
 use lib.ListN.{length, length-append}
 use Rattle.csl.specs.Lists.{◌>>=◌}
 use Rattle.csl.specs.Parties.{bits_of, members, subset}
-use Rattle.csl.specs.Syntax.{Agreement, number}
+use Rattle.csl.specs.Syntax.{Agreement}
 use Rattle.csl.specs.Typing.{blame_ok, names_of}
 use Rattle.csl.specs.Check.{accepted, checked, refused}
 use Rattle.csl.specs.Outcomes.{Outcome, Residue, both, breach, done, running, stuck, unit, units}

@@ -13,7 +13,7 @@ use Rattle.csl.specs.Lists.{◌>>=◌, all, at}
 use Rattle.csl.specs.Numbers.{in_range}
 use Rattle.csl.specs.Syntax.{Agreement, Clause, Expr, Head, Template, Ty, Wait, bad_clause, choice, fulfilled, if}
 use Rattle.csl.specs.Syntax.{instance, join, number, obligation, truth}
-use Rattle.csl.specs.Typing.{blame_ok, has_type, have_types, heads_in, join_ok, names_of, type_clause, type_expr, typed}
+use Rattle.csl.specs.Typing.{blame_ok, has_type, have_types, heads_in, join_ok, names_of, type_clause, type_expr}
 use Rattle.csl.specs.Guards.{guarded_in}
 use Rattle.csl.specs.Values.{Val, as_bool, as_num, bool, eval, eval_bool, eval_num, evals, num}
 use Rattle.csl.specs.Outcomes.{Outcome, Sight, or_stuck}
