@@ -72,7 +72,7 @@ pub main_is : (s : List ℕ) {r : Bool} {m : ℕ} → m ≡ main_place s
 unfolding main_of
 main_is s p h = h ∙ rw p (whole_place (heads_of s) 23 0 (main_place s) (part s (main_place s) (length s)))
 
-pub ruleset mains = (main_is, true_first, false_first, rules)
+pub ruleset mains = (main_is, true_first, false_first)
 
 -- ---- an agreement; x is what `fill_index` answered
 module _ (s : List ℕ) {x r : Bool} (p : x ≡ listed s) where

@@ -6,7 +6,6 @@ use mathlib.Core.Option.{Option, none, some}
 use Prim.Native.Nat.{ℕ, zero, suc, ◌+◌, ◌-◌, ◌≤◌, ◌<◌}
 use native.Mathlib.Omega.{arith}
 use borrow.Author.Tests.{ne_eqb}
-use borrow.Author.Rules.{rules}
 use lib.Dec.{eqb}
 use lib.ListN.{length}
 use Rattle.csl.specs.Lists.{all, at}
@@ -163,7 +162,7 @@ module _ (d : ℕ) (a s : List ℕ) where
       → r ≡ whole (instance_of (expr d) s (at (heads_of a) (byte s 4)))
   instance_named {k = k} p q l i j h = h ∙ rw (i, j, ← p, heads_at a k (omega arith)) (instance_is d s (head_at a k))
 
-pub ruleset instances = (instance_short, instance_unnamed, instance_named, rules)
+pub ruleset instances = (instance_short, instance_unnamed, instance_named)
 
 pub ruleset clauses = (
   no_depth,

@@ -2,7 +2,7 @@
 use mathlib.Core.Path.{◌≡◌, refl, sym, ◌∙◌}
 use mathlib.Core.Bool.{Bool, true, false, cond, ◌&&◌, and_assoc}
 use mathlib.Core.List.{List}
-use Prim.Native.Nat.{ℕ, zero, suc, ◌+◌, ◌-◌, ◌≤◌, ◌<◌, min}
+use Prim.Native.Nat.{ℕ, zero, suc, ◌+◌, ◌-◌, ◌≤◌, ◌<◌}
 use native.Mathlib.Numerals.{sub-one}
 use native.Mathlib.Omega.{arith}
 use borrow.Author.Tests.{ne_eqb, lt-leb}
@@ -22,12 +22,9 @@ use Rattle.records.proofs.Trees.{expr_zero, expr_none, expr_at, kind_number_lem,
 use Rattle.records.proofs.Trees.{kind_no_expr_low, kind_no_expr_high}
 use Rattle.records.specs.Kinds.{leaf_kind}
 
--- ---- the parts within a record lie within its bytes
+-- ---- a record has a head
 pub record_room : (s : List ℕ) {b : Bool} → b ≡ is_record s → b ≡ true → 4 ≤ length s
 record_room s p q = (whole_from s (sym p ∙ q)).room
-
-pub end_room : (s : List ℕ) {b : Bool} {e : ℕ} → b ≡ is_record s → b ≡ true → min 4 (length s) ≤ e → 4 ≤ e
-end_room s p q l = let h : 4 ≤ length s = record_room s p q in omega arith
 
 -- ---- an expression
 module _ (d : ℕ) (s : List ℕ) where
@@ -85,7 +82,7 @@ module _ (i : List ℕ → Expr) (s : List ℕ) where
     unfolding expr_body whole_expr
     no_expr_high l = rw (kind_no_expr_high k l)
 
-pub ruleset walking = (true_first, false_first, record_room, end_room, rules)
+pub ruleset walking = (true_first, false_first, record_room, rules)
 
 pub ruleset exprs = (
   no_depth,

@@ -32,13 +32,10 @@ module _ {d : ℕ} {s : List ℕ} (x : Formed d s) where
   pub some_depth : 1 ≤ d
   some_depth = let p : d ≡ 0 → ⊥ = deep in omega arith
 
-  pub less_deep : {t : ℕ} → d ≡ t → d - 1 < t
-  less_deep e = let p : d ≡ 0 → ⊥ = deep in omega arith
-
   pub room : 4 ≤ length s
   room = (whole_from s (whole_record x.heads d x.place s (true→T x.formed))).room
 
-pub ruleset formed = (deep, some_depth, less_deep, room)
+pub ruleset formed = (some_depth, room)
 
 -- ---- the sides of a whole clause are whole
 sided_whole : (e : List ℕ → Expr) (p : ℕ) (s : List ℕ) (k : ℕ) (t f : Clause) → whole (sided e p s k t f) ≡ true

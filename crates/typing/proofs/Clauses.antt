@@ -4,15 +4,11 @@ use Prim.Native.Nat.{ℕ, ◌<◌, ◌≤◌}
 use borrow.Author.Tests.{lt-ltb, le-ltb, ne_eqb}
 use lib.Bits.{bit_or}
 use lib.Count.{ones}
-use Rattle.parties.specs.Masks.{mask_end}
-use Rattle.typing.specs.Clauses.{Small, blamed_as, sides_as, joined_as}
+use Rattle.typing.specs.Clauses.{blamed_as, sides_as, joined_as}
 use Rattle.typing.specs.declared.Typed.{Typed}
 use Rattle.typing.specs.declared.Typed.TheVariants.{Parties, Untyped}
 
 -- ---- what the small functions find
-pub small_of : {t : Typed} {x : ℕ} → Small t → t ≡ Parties x → x < mask_end
-small_of {x = x} s e = s.small x e
-
 pub blamed_yes : (m : ℕ) (t : Typed) {x r : ℕ} → t ≡ Parties x → r ≡ bit_or m x → Parties r ≡ blamed_as m t
 unfolding blamed_as
 blamed_yes m t e q = rw (e, q)
@@ -47,14 +43,4 @@ pub joined_left : (k : ℕ) (t f : Typed) → t ≡ Untyped → Untyped ≡ join
 unfolding joined_as
 joined_left k t f p = rw p
 
-pub ruleset sets = (
-  small_of,
-  blamed_yes,
-  blamed_no,
-  sides_many,
-  sides_few,
-  sides_other,
-  joined_both,
-  joined_right,
-  joined_left,
-)
+pub ruleset sets = (blamed_yes, blamed_no, sides_many, sides_few, sides_other, joined_both, joined_right, joined_left)

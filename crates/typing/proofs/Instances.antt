@@ -36,9 +36,6 @@ use Rattle.typing.proofs.Sights.{has_is, parties_is}
 rest_is : (v : ℕ) (vs : List ℕ) → part (v ∷ vs) 1 (length (v ∷ vs)) ≡ vs
 rest_is v vs = take_all (length (v ∷ vs) - 1) vs (omega arith)
 
-pub rest_less : (vs : List ℕ) {t : ℕ} → (length vs ≡ 0 → ⊥) → length vs ≡ t → length (part vs 1 (length vs)) < t
-rest_less vs h e = omega (arith, length_part vs 1 (length vs) (omega arith))
-
 -- ---- arguments
 go : (b : Bool) (o : Option (Unit {0})) (n : ℕ) → arguments_as (need b >>= λ _. o) n ≡ cond b (arguments_as o n) 0
 unfolding arguments_as need ◌>>=◌
@@ -92,7 +89,7 @@ module _ (ps : ℕ) (env : List Ty) (f : List ℕ → Expr) (s : List ℕ) (i : 
         → z ≡ arguments_as (have_types ps env (arguments f (length vs) s i) (tys_of vs)) (records_end (length vs) s i)
     arguments_more n t = t ∙ sym (unfolded ∙ rw (eq-eqb x y n))
 
-pub ruleset args = (rest_less, arguments_none, arguments_other, arguments_more)
+pub ruleset args = (arguments_none, arguments_other, arguments_more)
 
 -- ---- blame bytes
 pub small_typed : {t : Typed} (o : Option (List ℕ)) → t ≡ typed_as o → Small t
@@ -136,7 +133,7 @@ module _ (ps params : ℕ) where
         may : (v ≡ 0 → ⊥) → may_blame ps params b ≡ true
         may z = sym (not-not (may_blame ps params b)) ∙ ap not (sym j.refused ∙ ne_eqb v 0 z)
 
-pub ruleset blames = (rest_less, small_typed, blames_none, blames_refused, blames_more)
+pub ruleset blames = (small_typed, blames_none, blames_refused, blames_more)
 
 -- ---- the value types of template k, as code cuts their bytes out of the agreement
 module _ {places g : List ℕ} (x : Indexed places g) {k a n : ℕ} (l : k < byte g 10) (p : a ≡ template_place g k)
@@ -287,5 +284,3 @@ module _ (g : List ℕ) (params : ℕ) (env : List Ty) (f : List ℕ → Expr) (
               ) in
               w ∙ ap (blamed_as d) b ∙ rw (a, q) (sym
               (declared_typed d (part s j (length s)) v (all (may_blame (byte g 8) params) (part s j (length s)))))
-
-pub ruleset instances = (instance_past, instance_untyped, instance_long, instance_other, instance_typed, small_typed)

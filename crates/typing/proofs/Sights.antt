@@ -265,8 +265,6 @@ module _ (g bs : List ℕ) (d : ℕ) (s : List ℕ) (i n : ℕ) (out : List ℕ)
     pub wait_no : b ≡ false → wait_sight (names_in g 0) (tys_of bs) (wait_at (expr d) 0 s i) ≡ seen_as 17 out
     wait_no q = wait_is ∙ rw (sym told ∙ q) (sym (seen_none 17 out (omega arith)))
 
-pub ruleset waits = (wait_over, wait_yes, wait_no)
-
 pub same_seen : (bs old out : List ℕ) → length bs ≤ 16 → take (0 + length bs) out ≡ take 0 old ++ bs
     → some (tys_of bs) ≡ seen_as (length bs) out
 same_seen bs old out l e =

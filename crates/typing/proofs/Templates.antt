@@ -131,10 +131,7 @@ module _ (g : List ℕ) (k : ℕ) {n : ℕ} (h : n ≡ byte g 10) where
     templates_stop p e =
         sym (ap holds one_more ∙ holds_not (template_typed g k) (templates_typed g (k + 1)) (sym p ∙ e))
 
-    pub templates_less : {t : ℕ} → byte g 10 - k ≡ t → byte g 10 - (k + 1) < t
-    templates_less e = omega arith
-
-pub ruleset rows = (templates_none, templates_more, templates_stop, templates_less)
+pub ruleset rows = (templates_none, templates_more, templates_stop)
 
 -- ---- the agreement
 then_none : (o : Option (Unit {0})) (p : Option (List ℕ)) → holds o ≡ false → (o >>= λ _. p) ≡ none

@@ -331,12 +331,4 @@ module _ {places g : List ℕ} (x : Indexed places g) (params : ℕ) (few : para
             (type_clause (names_in g params) (tys_of bs) right) (valid (tys_of (take r out)) left)
             (valid (tys_of bs) right) ∙ ap typed_as (sym typed))
 
-pub ruleset clauses = (
-  clause_fulfilled,
-  clause_instance,
-  clause_low,
-  clause_high,
-  clause_refused,
-  clause_wait,
-  clause_two,
-)
+pub ruleset clauses = (clause_fulfilled, clause_instance, clause_high)

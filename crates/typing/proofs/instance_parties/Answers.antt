@@ -1,12 +1,12 @@
 -- Each test refuses what the rule for instances refuses, and what is left is the declared parties and the blames'.
 use native.Mathlib.Omega.{arith}
 use Rattle.csl.specs.Decode.{expr, tys_of}
-use Rattle.typing.proofs.Instances.{instances, instance_untyped, instance_long, instance_other, instance_typed}
+use Rattle.typing.proofs.Instances.{small_typed, instance_past, instance_untyped, instance_long, instance_other, instance_typed}
 use borrow.Author.Rules.{rules}
 use Rattle.typing.proofs.instance_parties.Goals as goal
 
 pub returns-then-k-byte : goal.returns-then-k-byte
-returns-then-k-byte c = search (instances, rules)
+returns-then-k-byte c = search (instance_past, rules)
 
 pub returns-then-i-eq0 : goal.returns-then-i-eq0
 returns-then-i-eq0 c =
@@ -28,7 +28,7 @@ returns-then-s-i c =
     (omega arith) c.if-s-i.true
 
 pub blamed-requires : goal.blamed-requires
-blamed-requires c = search (instances, rules)
+blamed-requires c = search (small_typed, rules)
 
 pub returns : goal.returns
 returns c =

@@ -1,12 +1,12 @@
 -- `where` is typed under what `then` sees without its last value, the remaining time.
 use native.Mathlib.Omega.{arith}
 use lib.ListN.{length-take}
-use Rattle.typing.proofs.Sights.{waits, wait_yes, wait_no}
+use Rattle.typing.proofs.Sights.{wait_over, wait_yes, wait_no}
 use borrow.Author.Rules.{rules}
 use Rattle.typing.proofs.wait_sight.Goals as goal
 
 pub returns-then-n-gt-IN_SIGHT : goal.returns-then-n-gt-IN_SIGHT
-returns-then-n-gt-IN_SIGHT c = search (waits, rules)
+returns-then-n-gt-IN_SIGHT c = search (wait_over, rules)
 
 pub slice_bounds-wait_typed-length : goal.slice_bounds-wait_typed-length
 slice_bounds-wait_typed-length c = simp length-take (omega arith)
