@@ -13,18 +13,10 @@ fn reason(told: &str) -> &str {
     }
 }
 
-fn complain<R: Eprint + Alloc>(rt: &R, stream: &str, why: io::Error) -> io::Result<()> {
-    let told = why.to_string(rt.alloc())?;
-    let reason = reason(&told);
-    eprintln!(rt; "brinewatch: {stream}: {reason}")
-}
-
 fn explain<R: Eprint + Alloc>(rt: &R, failure: Failure) -> io::Result<()> {
-    match failure {
-        Failure::Input(why) => complain(rt, "standard input", why),
-        Failure::Output(why) => complain(rt, "standard output", why),
-        Failure::TooLong => eprintln!(rt; "brinewatch: standard input: too long"),
-    }
+    let told = failure.to_string(rt.alloc())?;
+    let reason = reason(&told);
+    eprintln!(rt; "brinewatch: {reason}")
 }
 
 fn main(rt: HostRuntime) -> ExitCode {

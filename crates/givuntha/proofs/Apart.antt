@@ -24,5 +24,6 @@ same (breach_at t b) no_forecast h k e = absurd k
 same no_forecast g h k e = absurd h
 
 pub apart : (s s' : List ℕ) (us us' : List ℤ)
-    → forecast_numbers (forecast_of s us) ≡ forecast_numbers (forecast_of s' us') → forecast_of s us ≡ forecast_of s' us'
+    → forecast_numbers (forecast_of s us) ≡ forecast_numbers (forecast_of s' us')
+    → forecast_of s us ≡ forecast_of s' us'
 apart s s' us us' = same (forecast_of s us) (forecast_of s' us') (forecast_plain s us) (forecast_plain s' us')

@@ -1,4 +1,6 @@
-// The entries as C functions: a slice is a pointer and a length. include/givuntha.h declares and documents them.
+// The entries as functions of numbers and slices alone, as a caller in C gives and takes them.
+#![tactic(auto)]
+
 ghost use Rattle.std.specs.Prelude.{◌≡◌};
 ghost use Rattle.csl.specs.Check.{CheckAnswer, check_of};
 ghost use Rattle.csl.specs.Entries.{Answer, ReadingAnswer, start_of, reading_of, forecast_of};
@@ -6,8 +8,7 @@ ghost use Rattle.givuntha.specs.Numbers.{ForecastNumbers, forecast_numbers};
 
 use monitor::{Checked, Foretold, Started, Taken};
 
-#[unsafe(no_mangle)]
-pub extern "C" fn givuntha_check(agreement: &[u8], parties: &mut u64) -> u32
+pub fn givuntha_check(agreement: &[u8], parties: &mut u64) -> u32
     ensures { record { number = result; parties = parties.new } ≡ check_of agreement.now }
 {
     match monitor::check(agreement) {
@@ -22,8 +23,7 @@ pub extern "C" fn givuntha_check(agreement: &[u8], parties: &mut u64) -> u32
     }
 }
 
-#[unsafe(no_mangle)]
-pub extern "C" fn givuntha_start(agreement: &[u8], table: &mut [i64]) -> u32
+pub fn givuntha_start(agreement: &[u8], table: &mut [i64]) -> u32
     ensures { record { number = result; table = table.new } ≡ start_of agreement.now table.old }
 {
     match monitor::start(agreement, table) {
@@ -32,8 +32,7 @@ pub extern "C" fn givuntha_start(agreement: &[u8], table: &mut [i64]) -> u32
     }
 }
 
-#[unsafe(no_mangle)]
-pub extern "C" fn givuntha_reading(
+pub fn givuntha_reading(
     agreement: &[u8],
     table: &mut [i64],
     reading: &[u8],
@@ -60,13 +59,7 @@ pub extern "C" fn givuntha_reading(
     }
 }
 
-#[unsafe(no_mangle)]
-pub extern "C" fn givuntha_forecast(
-    agreement: &[u8],
-    table: &[i64],
-    time: &mut u64,
-    parties: &mut u64,
-) -> u32
+pub fn givuntha_forecast(agreement: &[u8], table: &[i64], time: &mut u64, parties: &mut u64) -> u32
     ensures { record { number = result; time = time.new; parties = parties.new }
         ≡ forecast_numbers (forecast_of agreement.now table.now) }
 {
@@ -93,8 +86,7 @@ pub extern "C" fn givuntha_forecast(
 }
 
 // The version: 10,000 times its first number, 100 times its second, and its third.
-#[unsafe(no_mangle)]
-pub extern "C" fn givuntha_version() -> u32
+pub fn givuntha_version() -> u32
     ensures { result ≡ 100 }
 {
     100

@@ -71,9 +71,9 @@ pub enum Got {
 
 // One read, for as many bytes as are there and fit.
 fn read_some<R: Read>(reader: &mut R, rest: &mut [u8]) -> io::Result<Got>
-    requires { 0 < length rest.old }
     ensures comes { IfOk result (Comes 0 (length rest.old)) }
-    ensures brings { IfOk result (Brings (R.remaining reader.old) (R.remaining reader.new) rest.new) }
+    ensures brings { 0 < length rest.old
+        → IfOk result (Brings (R.remaining reader.old) (R.remaining reader.new) rest.new) }
     ensures fails { OnErr result (Keeps (R.remaining reader.old) (R.remaining reader.new)) }
 {
     let n = reader.read(rest)?;

@@ -1,6 +1,5 @@
--- The bytes at hand and those to come, together, stay what they were: whatever a read brings, and where nothing is
--- read.
-use Rattle.std.proofs.Common.{◌≡◌, refl, sym, ap, ◌∙◌, Bool, false, Option, Some, None, arith}
+-- The bytes at hand and those to come, together, stay what they were, whatever a read brings.
+use Rattle.std.proofs.Common.{◌≡◌, refl, sym, ap, ◌∙◌, false, Option, Some, None, arith}
 use Rattle.std.proofs.Common.{List, ◌++◌, take, drop, append_assoc, ℕ, ◌+◌, ◌-◌}
 use Rattle.std.proofs.Math.Seq.{take-add}
 use Rattle.std.specs.Io.KnownBytes.{Consumes}
@@ -32,24 +31,4 @@ read_carries before after size n coming coming₂ kept c = record {
         ap (λ l. front ++ l) w.2 ∙ sym (append_assoc front read w.0) ∙ ap (λ l. (l ++ read) ++ w.0) (sym kept)
             ∙ ap (λ l. l ++ w.0) (sym (take-add size n after)),
       );
-}
-
--- ---- nothing is read
-pub same_carries : {coming : Option (List ℕ)} {ended : Bool} {hand : List ℕ}
-    → Carries coming ended hand coming ended hand
-same_carries = record { carries = λ bytes e h. (bytes, e, h, refl) }
-
--- an input that has not ended is waited for
-pub open_carries : {coming coming₂ : Option (List ℕ)} {ended ended₂ : Bool} {before after : List ℕ}
-    → Carries coming false before coming₂ ended₂ after → Carries coming ended before coming₂ ended₂ after
-open_carries c = record { carries = λ bytes e h. c.carries bytes e (λ q. cc) }
-
-pub then_carries : {coming coming₂ coming₃ : Option (List ℕ)} {ended ended₂ ended₃ : Bool} {a b c : List ℕ}
-    → Carries coming ended a coming₂ ended₂ b → Carries coming₂ ended₂ b coming₃ ended₃ c
-    → Carries coming ended a coming₃ ended₃ c
-then_carries p q = record {
-  carries = λ bytes e h.
-      let w = p.carries bytes e h in
-      let v = q.carries w.0 w.1 w.2 in
-      (v.0, v.1, v.2, w.3 ∙ v.3);
 }

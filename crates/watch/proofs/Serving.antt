@@ -1,6 +1,6 @@
 -- What a turn writes, and turn after turn: with what is left to write it is all that was to be written.
 use Rattle.std.proofs.Common.{◌≡◌, refl, sym, ap, ap₂, ◌∙◌, subst, Bool, true, ℕ, ℤ}
-use Rattle.std.proofs.Common.{List, [], ◌++◌, take, drop, append_assoc, append-nil}
+use Rattle.std.proofs.Common.{List, ◌++◌, take, drop, append_assoc}
 use Rattle.std.proofs.Common.{Option, Some, None, Result, Ok, Err, IfOk}
 use Rattle.std.specs.Io.KnownBytes.{Appends}
 use Rattle.arith.proofs.Lists.{take_drop}
@@ -17,10 +17,6 @@ use Rattle.watch.specs.declared.Failure.{Failure}
 use Rattle.watch.proofs.Carried.{front_is}
 
 -- ---- bytes written one after another
-pub appends_none : (written : Option (List ℕ)) → Appends written written []
-appends_none None = tt
-appends_none (Some xs) = sym (append-nil xs)
-
 pub appends_then : (a b c : Option (List ℕ)) (w v : List ℕ) → Appends a b w → Appends b c v → Appends a c (w ++ v)
 appends_then None b c w v p q = tt
 appends_then (Some xs) None c w v p q = absurd p

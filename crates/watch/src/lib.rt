@@ -17,6 +17,7 @@ use std::io;
 use std::io::{Read, Write};
 use stream::{Got, Next, emit, keep, next_record, read_more};
 use telling::{LINE_ROOM, begin, follow};
+use thiserror::Error;
 
 // The bytes of each buffer: no record is longer, and input that is there is read in large pieces.
 const ROOM: usize = 65_536;
@@ -128,11 +129,14 @@ fn drain(
 // ---- what follows reads and writes: where the bytes to come are known, and those that the output holds, the contracts
 // say which come and go
 
-// Why a run ended before its input: a read failed, or a write, or there were too many turns.
-#[derive(Clone, Copy, Debug)]
+// Why a run ended before its input.
+#[derive(Clone, Copy, Debug, Error)]
 pub enum Failure {
+    #[error("standard input: {0}")]
     Input(io::Error),
+    #[error("standard output: {0}")]
     Output(io::Error),
+    #[error("standard input: more than 2^47 turns")]
     TooLong,
 }
 
@@ -191,7 +195,7 @@ fn await_more<R: Read>(
     stage: Stage,
     line: u64,
 ) -> Result<Served, Failure>
-    requires { (size ≤ length buf.old) × (stage ≡ Waiting → (size < length buf.old) × (ended ≡ false)) }
+    requires { (size ≤ length buf.old) × (stage ≡ Waiting → size < length buf.old) }
     ensures within { IfOk result (λ served. served.size ≤ length buf.old) }
     ensures line { IfOk result (λ served. served.line ≡ line) }
     ensures goes { IfOk result (λ served. served.go ≡ goes_on stage) }
