@@ -9,7 +9,7 @@ use contract.Lifetimes.{Lfts}
 use borrow.Fn.Kinds.{Dens, ended_of}
 use denote.Triple.Clauses.{AtExit}
 use Rattle.csl.specs.Parties.{member, member_count, bits_from, bits_of}
-use Rattle.parties.specs.Masks.{mask_of, ValidMembers}
+use Rattle.parties.specs.Masks.{mask_of}
 use Rattle.parties.proofs.Counts.{counts}
 use Rattle.parties.proofs.member_count.Kinds as member-count-kinds
 use Rattle.parties.proofs.member_count.Reads as member-count

@@ -4,7 +4,7 @@ use Prim.Native.Nat.{ℕ, suc}
 use lib.Dec.{T}
 use lib.IntN.{ℤ, pos, negsuc, neg_ℤ, suc_ℤ, ◌*ℤ◌}
 use lib.Signed.{le_z, lt_z}
-use Rattle.csl.specs.Numbers.{calculate, computes, quot, quotient}
+use Rattle.csl.specs.Numbers.{calculate, computes, quot}
 use Rattle.laws.proofs.Quotients.{quotient_turned, rounds_down}
 
 -- "round downwards, for shortfalls as well": by n + 1 it is the q with q (n + 1) ≤ x < (q + 1) (n + 1)
