@@ -328,7 +328,8 @@ fn go_on<R: Read, W: Write>(
 ) -> Result<(), Failure>
     requires { (first.takes ≤ first.size) × (first.size ≤ 65_536) × (length buf.old ≡ 65_536) × (line_room ≤ length out.old) }
     ensures { OnOk result (Writes (R.remaining input.old) first.ended (W.contents output.old) (W.contents output.new)
-        (λ bytes. lines_of agreement.now table.old (records_of (drop first.takes (take first.size buf.old) ++ bytes)))) }
+        (λ bytes. lines_of agreement.now table.old
+        (records_of (drop first.takes (take first.size buf.old) ++ bytes)))) }
 {
     let told = begin(agreement, table, out);
     write(output, out, told.at)?;
