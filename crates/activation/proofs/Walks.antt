@@ -25,7 +25,8 @@ use Rattle.csl.specs.Lists.{at}
 use Rattle.csl.specs.Numbers.{Held, later_of}
 use Rattle.csl.specs.Bytes.{byte, part, is_record, kind_number, record_end}
 use Rattle.csl.specs.Syntax.{Expr, Join, and, or, Clause, bad_clause, Wait, Template, Head}
-use Rattle.csl.specs.Decode.{ClauseKind, clause_kind, expr, wait_at, wait_end, clause, clause_body, instance_of, heads_of}
+use Rattle.csl.specs.Decode.{ClauseKind, clause_kind, expr, wait_at, wait_end, clause, clause_body, instance_of}
+use Rattle.csl.specs.Decode.{heads_of}
 use Rattle.csl.specs.Decode.{arguments, records_end, if_kind, obligation_kind, choice_kind, instance_kind}
 use Rattle.laws.specs.Joins.{join_of}
 use Rattle.csl.specs.Decode.{body_place, body_of, template_of}
@@ -33,7 +34,8 @@ use Rattle.csl.specs.Cost.{Tally, both_at_once, tally_join, nothing_yet, one_mor
 use Rattle.cells.specs.Evaluate.{eval_cells, evals_cells, is_true_cell}
 use Rattle.cells.specs.Reduce as cells
 use Rattle.cells.proofs.Unfolds.{unfold_at, unfold_past}
-use Rattle.cells.specs.Reduce.{Mode, activating, fate, waits, late, taken, last_of, then_values, blamed_cells, blame_bits}
+use Rattle.cells.specs.Reduce.{Mode, activating, fate, waits, late, taken, last_of, then_values, blamed_cells}
+use Rattle.cells.specs.Reduce.{blame_bits}
 use Rattle.records.proofs.Trees.{clause_zero, clause_none, clause_at_lem, kind_no_clause_low, kind_no_clause_high}
 use Rattle.records.proofs.Trees.{kind_fulfilled, kind_join}
 use Rattle.waits.specs.Fates.{mode_of, mode_at, FateIs}
@@ -282,7 +284,8 @@ module _ (th th' : Clause → List ℤ → List ℤ → ℕ → cells.Reckoned)
   walk_alike Clause.fulfilled ps vs a = refl
   walk_alike (Clause.obligation b w t) ps vs a = refl
   walk_alike (Clause.choice w t f) ps vs a = refl
-  walk_alike (Clause.if c t f) ps vs a = ap cells.reaches (by_truth (is_true_cell (eval_cells vs c)) (walk_alike t ps vs a)
+  walk_alike (Clause.if c t f) ps vs a =
+      ap cells.reaches (by_truth (is_true_cell (eval_cells vs c)) (walk_alike t ps vs a)
       (walk_alike f ps vs a))
     where
       by_truth : (b : Bool) → cells.walk activating th inst t ps vs a ≡ cells.walk activating th' inst' t ps vs a
@@ -460,7 +463,8 @@ shows_acts t l u f = λ e rs ag below place ps vs a. record {
 
 -- ---- the two sides of a join
 ended_both : (j : Join) → cells.reaches (cells.joins j (ended_by 1) (ended_by 1)) ≡ ended_by 3
-unfolding cells.reaches cells.joins cells.joined cells.join_both cells.join_either one_more tally_join both_at_once ended_by
+unfolding cells.reaches cells.joins cells.joined cells.join_both cells.join_either one_more tally_join both_at_once
+    ended_by
 ended_both and = refl
 ended_both or = refl
 

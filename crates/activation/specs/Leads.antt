@@ -152,7 +152,8 @@ body_reckoned e rs ag t k given = reckon_at e rs ag (body_site ag t k) (part ag 
 
 -- there is nothing to do in the record s, wherever it stands
 pub record Ended (s : List ℕ) : Type 0 where
-  pub is : (e : Event) (rs : List ℤ) (ag : List ℕ) (t : Site) (ps vs : List ℤ) → reckon_at e rs ag t s ps vs ≡ ended_by 1
+  pub is : (e : Event) (rs : List ℤ) (ag : List ℕ) (t : Site) (ps vs : List ℤ)
+      → reckon_at e rs ag t s ps vs ≡ ended_by 1
 
 -- a reading that is followed activates a `then` anew, with every template in reach: its step stands before the pair
 -- that falls

@@ -10,7 +10,8 @@ pub use Rattle.laws.proofs.Lists.{length_part}
 
 module _ {A : Type 0} where
   -- ---- `take (e - a) (drop a l)` is what `&l[a..e]` denotes
-  pub get_d_part : (l : List A) (a e i : ℕ) (d : A) → a + i < e → get_or (take (e - a) (drop a l)) i d ≡ get_or l (a + i) d
+  pub get_d_part : (l : List A) (a e i : ℕ) (d : A) → a + i < e
+      → get_or (take (e - a) (drop a l)) i d ≡ get_or l (a + i) d
   get_d_part l a e i d h = let k : i < e - a = omega arith in rw (get_or-take, get_or-drop)
 
   pub take_drop : (m n : ℕ) (l : List A) → drop m (take n l) ≡ take (n - m) (drop m l)

@@ -157,7 +157,8 @@ across_by m s i params values us rs = cond (ltb i 20) (unit_reckoned m s params 
     (table.join_first_two (join_of i) rs)
 
 across_steps : (m : Mode) (s : List ℕ) (n : ℕ) (sights : List ℕ) (cs : List ℤ)
-    → table.across m s (suc n) sights cs ≡ across_by m s (nat_of (get_or cs 0 (pos 0))) (get_or sights 0 0) (get_or sights 1 0)
+    → table.across m s (suc n) sights cs ≡ across_by m s (nat_of (get_or cs 0 (pos 0))) (get_or sights 0 0)
+    (get_or sights 1 0)
     (take 24 cs) (table.across m s n (drop 2 sights) (drop 24 cs))
 unfolding table.across
 across_steps m s n sights cs = refl

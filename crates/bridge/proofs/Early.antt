@@ -106,7 +106,8 @@ module _ (s mains : List ℕ) (fair : Fair (agreement_of s) mains) (found : Foun
   later_by i params values us b =
       cond (ltb i 20) (table.unit_opens_later d.time d.type (cells_of d.values) s values us) false || b
 
-  later_steps : (n : ℕ) (sights : List ℕ) (cs : List ℤ) → later (suc n) sights cs ≡ later_by (nat_of (get_or cs 0 (pos 0)))
+  later_steps : (n : ℕ) (sights : List ℕ) (cs : List ℤ) → later (suc n) sights cs ≡ later_by
+      (nat_of (get_or cs 0 (pos 0)))
       (get_or sights 0 0) (get_or sights 1 0) (take 24 cs) (later n (drop 2 sights) (drop 24 cs))
   unfolding table.some_open_later
   later_steps n sights cs = refl

@@ -22,7 +22,8 @@ use Rattle.csl.specs.Run.{typed_reading, unfit}
 use Rattle.csl.specs.Table.{Run, cells_of, head_cells, nat_cells, run_of, stand_for, table_of}
 use Rattle.csl.specs.Early.{came_early, idle, mark_of, some_too_early}
 use Rattle.csl.specs.Cost.{cost_from, cost_of, total}
-use Rattle.csl.specs.Entries.{Answer, Forecast, breach_at, forecast_of, forecast_run, no_breach, no_forecast, reading_of}
+use Rattle.csl.specs.Entries.{Answer, Forecast, breach_at, forecast_of, forecast_run, no_breach, no_forecast}
+use Rattle.csl.specs.Entries.{reading_of}
 use Rattle.csl.specs.Entries.{answered, refusal, shown, start_of, written}
 use Rattle.csl.specs.Demand3.{fitting, needed}
 use Rattle.laws.proofs.Bools.{by}
@@ -80,7 +81,8 @@ module _ (ag : Agreement) (W : ℕ → Type 0) (P : List ℕ) (before : Run) (us
       (ltb 128 (units_in x)) (λ e. refl)
       (λ e. ap (answer 0) (table_shows ag W P now m o x g h ∙ ap (λ z. reduced_table now z x) (mv (few e))))
 
-  early_shows : (needed o ≤ 128 → altered (table_of before) (table_of (run_at now m o)) ≡ alters n us x) → (later : Bool)
+  early_shows : (needed o ≤ 128 → altered (table_of before) (table_of (run_at now m o)) ≡ alters n us x)
+      → (later : Bool)
       → (elim later [ false ↦ false | true ↦ idle before (kept before (run_at now m o)) ]) ≡ early_cells n us x later
   unfolding idle early_cells
   early_shows al later = last (idle before (kept before (run_at now m o))) later ∙ ap (λ b. b && later)
@@ -183,7 +185,8 @@ module _ (s mains : List ℕ) (ck : checked s ≡ accepted (agreement_of s) main
       unfolding written refusal
       reading_eight e = unfits 8 (fit_eight ag q.last_time r e)
 
-      pub reading_nine : (w : Raw) → raw_reading r ≡ some w → typed_reading ag w ≡ none → reading_of s us r ≡ unread 9 us
+      pub reading_nine : (w : Raw) → raw_reading r ≡ some w → typed_reading ag w ≡ none
+          → reading_of s us r ≡ unread 9 us
       unfolding written refusal
       reading_nine w e f = unfits 9 (fit_nine ag q.last_time r w e f)
 

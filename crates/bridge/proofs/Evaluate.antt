@@ -14,7 +14,8 @@ use Rattle.csl.specs.Numbers.{bottom, calculate, eq_z, held, in_range, limit, to
 use Rattle.csl.specs.Syntax.{Expr, Op, Ty, arithmetic, bad_expr, binary, conj, equal, less, negation, number}
 use Rattle.csl.specs.Syntax.{number_lit, party, party_lit, truth, truth_lit, variable}
 use Rattle.csl.specs.Typing.{has_type, have_types, type_expr}
-use Rattle.csl.specs.Values.{Val, apply, as_bool, as_num, bool, eval, eval_bool, eval_num, evals, num, on_bools, on_nums}
+use Rattle.csl.specs.Values.{Val, apply, as_bool, as_num, bool, eval, eval_bool, eval_num, evals, num, on_bools}
+use Rattle.csl.specs.Values.{on_nums}
 use Rattle.csl.specs.Values.{same_bool, same_val, who}
 use Rattle.csl.specs.Table.{cell_of, cells_of}
 use Rattle.laws.proofs.Options.{from_bind, from_need, some_inj, none_some}
@@ -120,7 +121,8 @@ apply_cell conj u v w e =
 apply_cell less u v w e =
     from_bind (as_num u) _ w e λ x p q.
     from_bind (as_num v) _ w q λ y p' r.
-    ap₂ (λ a b. truth_cell (lt_z a b)) (as_num_lem u x p) (as_num_lem v y p') ∙ truth_cell_lem (lt_z x y) ∙ ap cell_of (some_inj r)
+    ap₂ (λ a b. truth_cell (lt_z a b)) (as_num_lem u x p) (as_num_lem v y p') ∙ truth_cell_lem (lt_z x y)
+    ∙ ap cell_of (some_inj r)
 apply_cell equal u v w e = same_cell u v w e
 
 -- ---- expressions
@@ -173,7 +175,8 @@ module _ (ps : ℕ) (few : ps ≤ 16) (env : List Ty) (vs : List Val) (h : HaveT
   truth_cells x u ty = bool_typed ps env vs h x u ty λ b e. e ∙ ap some (sym (bool_cells x u b ty e))
 
   -- the cells of an instance's values
-  pub evals_cells_lem : (xs : List Expr) (ts : List Ty) (u : Unit {0}) (ws : List Val) → have_types ps env xs ts ≡ some u
+  pub evals_cells_lem : (xs : List Expr) (ts : List Ty) (u : Unit {0}) (ws : List Val)
+      → have_types ps env xs ts ≡ some u
       → evals vs xs ≡ some ws → evals_cells (cells_of vs) xs ≡ cells_of ws
   unfolding have_types has_type evals evals_cells cells_of
   evals_cells_lem [] [] u ws ty e = ap cells_of (some_inj e)

@@ -33,7 +33,8 @@ some_unit (unit s p a e) = omega arith
 some_unit (both j l r) = omega arith
 
 -- behind the head of a running run's table stand the units, and zeros behind them
-behind_head : (time : ℕ) (moved : ℤ) (cs : List ℤ) → drop 8 (reduced_table time moved (cells.running cs)) ≡ with_zeros cs
+behind_head : (time : ℕ) (moved : ℤ) (cs : List ℤ) → drop 8 (reduced_table time moved (cells.running cs)) ≡ with_zeros
+    cs
 unfolding reduced_table head_of nat_cells padded
 behind_head time moved cs =
     let e : 3080 - length (head_of 1 time 0 0 (length cs / 24) moved ++ cs) ≡ 3072 - length cs = omega arith in

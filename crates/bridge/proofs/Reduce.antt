@@ -17,7 +17,8 @@ use Rattle.csl.specs.Lists.{◌>>=◌, all, at, or_nil}
 use Rattle.csl.specs.Numbers.{in_range}
 use Rattle.csl.specs.Syntax.{Agreement, Clause, Head, Ty, Wait, bad_clause, choice, fulfilled, if, instance}
 use Rattle.csl.specs.Syntax.{join, number, obligation, truth}
-use Rattle.csl.specs.Typing.{blame_ok, has_type, have_types, heads_in, names_of, reading_of_type, then_sight, type_clause}
+use Rattle.csl.specs.Typing.{blame_ok, has_type, have_types, heads_in, names_of, reading_of_type, then_sight}
+use Rattle.csl.specs.Typing.{type_clause}
 use Rattle.csl.specs.Typing.{type_wait}
 use Rattle.csl.specs.Guards.{guarded_in}
 use Rattle.csl.specs.Values.{Val, eval_bool, evals, num}

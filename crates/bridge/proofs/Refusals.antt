@@ -19,7 +19,8 @@ use Rattle.csl.specs.Run.{started, step}
 use Rattle.csl.specs.Table.{Run, run_of}
 use Rattle.csl.specs.Early.{came_early, mark_of}
 use Rattle.csl.specs.Cost.{cost_of}
-use Rattle.csl.specs.Entries.{Answer, Forecast, ReadingAnswer, answered, forecast_of, forecast_run, is_table, reading_of}
+use Rattle.csl.specs.Entries.{Answer, Forecast, ReadingAnswer, answered, forecast_of, forecast_run, is_table}
+use Rattle.csl.specs.Entries.{reading_of}
 use Rattle.csl.specs.Entries.{refusal, refused_forecast, shown, start_of, written}
 use Rattle.soundness.proofs.Decoding.{decode_is}
 use Rattle.soundness.proofs.Checked.{passed}
@@ -54,7 +55,8 @@ numbered s = by_size (sized s)
     by_guard a ps true = by_width a ps (narrow_all a)
     by_guard a ps false = omega arith
 
-    by_type : (a : Agreement) (o : Option (List ℕ)) → Numbered (elim o [ none ↦ refused 3 | some ps ↦ check_typed a ps ])
+    by_type : (a : Agreement) (o : Option (List ℕ)) → Numbered
+        (elim o [ none ↦ refused 3 | some ps ↦ check_typed a ps ])
     by_type a (some ps) = by_guard a ps (guarded_from 0 a.templates)
     by_type a none = omega arith
 

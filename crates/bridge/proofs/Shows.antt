@@ -101,7 +101,8 @@ at_nat_cell (q ∷ ps) zero p e = ap pos (some_inj e)
 at_nat_cell (q ∷ ps) (suc i) p e = at_nat_cell ps i p e
 
 -- a blame byte's cell holds the party that it stands for
-pub blamed_cell_lem : (params : List ℕ) (b p : ℕ) → blamed params b ≡ some p → cells.blamed_cell (nat_cells params) b ≡ pos p
+pub blamed_cell_lem : (params : List ℕ) (b p : ℕ) → blamed params b ≡ some p
+    → cells.blamed_cell (nat_cells params) b ≡ pos p
 unfolding blamed cells.blamed_cell
 blamed_cell_lem params b p = go (ltb b 128)
   where

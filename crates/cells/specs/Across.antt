@@ -1,7 +1,8 @@
 -- The rules on cells at every unit of a table: "A reading at time T reaches every waiting unit".
 -- Like csl's `trees` this gives what becomes of all the trees that n units make, in their order: a join takes the
 -- first two of those behind it. A table's units make one tree, so there is one.
-use Rattle.std.specs.Prelude.{Bool, cond, false, ◌||◌, List, [], ◌∷◌, ℕ, zero, suc, ltb, ℤ, pos, negsuc, get_or, take, drop}
+use Rattle.std.specs.Prelude.{Bool, cond, false, ◌||◌, List, [], ◌∷◌, ℕ, zero, suc, ltb, ℤ, pos, negsuc, get_or, take}
+use Rattle.std.specs.Prelude.{drop}
 use Rattle.csl.specs.Bytes.{part, record_end}
 use Rattle.csl.specs.Syntax.{Join, Clause, fulfilled, obligation, choice, if, join, instance, bad_clause}
 use Rattle.csl.specs.Decode.{heads_of, agreement_of, clause}
@@ -31,7 +32,8 @@ unfoldable pub across : Mode → List ℕ → ℕ → List ℕ → List ℤ → 
 across m s zero sights cs = []
 across m s (suc n) sights cs =
     let rs = across m s n (drop 2 sights) (drop 24 cs) in
-    cond (ltb (nat_of (get_or cs 0 (pos 0))) 20) (unit_reckoned m s (get_or sights 0 0) (get_or sights 1 0) (take 24 cs) ∷ rs)
+    cond (ltb (nat_of (get_or cs 0 (pos 0))) 20)
+    (unit_reckoned m s (get_or sights 0 0) (get_or sights 1 0) (take 24 cs) ∷ rs)
     (join_first_two (join_of (nat_of (get_or cs 0 (pos 0)))) rs)
 
 -- ---- paper 02, No. 8: "at least one waiting unit" opens later than a reading of time t and type k

@@ -1,5 +1,6 @@
 -- The table of a run, from its outcome on cells, its last reading time, and the cell that says when it last moved.
-use Rattle.std.specs.Prelude.{Bool, cond, not, true, List, [], ◌∷◌, ◌++◌, ℕ, ◌*◌, ◌/◌, ℤ, pos, drop, get_or, length, take}
+use Rattle.std.specs.Prelude.{Bool, cond, not, true, List, [], ◌∷◌, ◌++◌, ℕ, ◌*◌, ◌/◌, ℤ, pos, drop, get_or, length}
+use Rattle.std.specs.Prelude.{take}
 use Rattle.csl.specs.Run.{same_numbers}
 use Rattle.csl.specs.Table.{nat_cells, padded, table_length}
 use Rattle.cells.specs.Reduce.{Reduced, breach, done, running}

@@ -1,7 +1,8 @@
 -- Trials beyond P1 to P15, by computation, as one claim over a list: just enough that no line of a definition can be
 -- changed unseen. bench/mutants changes them; bench/MUTANTS.md says which trial refuses each change.
 -- All further trials are executed: crates/trials.
-use Rattle.std.specs.Prelude.{Bool, true, false, List, [], ◌∷◌, ◌++◌, map, ◌≡◌, refl, ℕ, zero, suc, ◌+◌, ◌*◌, ℤ, pos, negsuc, length, replicate, take}
+use Rattle.std.specs.Prelude.{Bool, true, false, List, [], ◌∷◌, ◌++◌, map, ◌≡◌, refl, ℕ, zero, suc, ◌+◌, ◌*◌, ℤ, pos}
+use Rattle.std.specs.Prelude.{negsuc, length, replicate, take}
 use Rattle.std.proofs.Math.Option.{Option, none, some}
 use Prim.Native.String.{String}
 use Rattle.csl.specs.Numbers.{plus}
@@ -227,7 +228,8 @@ taken n e = obeys n (main (asking e)) (reading 110 (pos 1) ∷ [])
 -- three templates: the third names the second, which names the first with its parameters crossed
 unfoldable pub chain : List ℕ
 chain = agreement (
-    template_with (1 ∷ 1 ∷ []) 2 0 (owes_typed 129 1 yes' (var 0) (var 1) (owes_typed 128 1 yes' (var 2) (var 3) nothing))
+    template_with (1 ∷ 1 ∷ []) 2 0
+    (owes_typed 129 1 yes' (var 0) (var 1) (owes_typed 128 1 yes' (var 2) (var 3) nothing))
     ∷ template_with (1 ∷ []) 2 0 (inst 0 (op 37 (var 0) one ∷ lit (pos 9) ∷ []) (129 ∷ 128 ∷ []))
     ∷ template_with (1 ∷ []) 2 0 (inst 1 (var 0 ∷ []) (128 ∷ 129 ∷ [])) ∷ [])
     (next (inst 2 (var 0 ∷ []) (1 ∷ 0 ∷ [])))
@@ -263,7 +265,8 @@ runs =
     ∷ leads 0 110 110 (waits an_obligation 96 110 [] (nums (5 ∷ 50 ∷ []))) (by 160 1)
     ∷ [])
     ∷ obeys "only the wanted reading type, only from `first` on"
-    (agreement_with 2 (reading_type_of [] ∷ a_number ∷ []) [] (owes_typed 0 2 yes' (lit (pos 30)) (lit (pos 60)) nothing))
+    (agreement_with 2 (reading_type_of [] ∷ a_number ∷ []) []
+    (owes_typed 0 2 yes' (lit (pos 30)) (lit (pos 60)) nothing))
     (reading_with 140 1 [] ∷ reading 150 (pos 1) ∷ reading_with 150 2 (pos 1 ∷ []) ∷ []) (
     leads 0 100 100 (owed 22 100) (by 190 0) ∷ leads 0 140 100 (owed 22 100) (by 190 0)
     ∷ leads 9 140 100 (owed 22 100) (by 190 0) ∷ leads 0 150 150 done done ∷ [])
@@ -405,7 +408,8 @@ records =
     ∷ refuses "party count 17" 2 (agreement_with 17 (a_number ∷ []) [] nothing)
     ∷ accepts "the last of 16 parties" 32_768 (agreement_with 16 (a_number ∷ []) [] (simply 15 (pos 60)))
     ∷ accepts "a reading's value count 4" 0 (agreement_with 2 (reading_type_of (1 ∷ 2 ∷ 3 ∷ 1 ∷ []) ∷ []) [] nothing)
-    ∷ refuses "a reading's value count 5" 2 (agreement_with 2 (reading_type_of (1 ∷ 2 ∷ 3 ∷ 1 ∷ 2 ∷ []) ∷ []) [] nothing)
+    ∷ refuses "a reading's value count 5" 2
+    (agreement_with 2 (reading_type_of (1 ∷ 2 ∷ 3 ∷ 1 ∷ 2 ∷ []) ∷ []) [] nothing)
     ∷ refuses "a reading's types fewer than counted" 2 (agreement_with 2 (record_of 2 (2 ∷ 1 ∷ []) ∷ []) [] nothing)
     ∷ refuses "a reading's types more than counted" 2 (agreement_with 2 (record_of 2 (1 ∷ 1 ∷ 1 ∷ []) ∷ []) [] nothing)
     ∷ refuses "a reading's second type byte 4" 2 (agreement_with 2 (reading_type_of (1 ∷ 4 ∷ []) ∷ []) [] nothing)
@@ -802,7 +806,8 @@ tables =
     ∷ alone' an_obligation 273 [] (7 ∷ 50 ∷ [])
     ∷ alone' a_choice 26 (0 ∷ 0 ∷ []) (9 ∷ [])
     ∷ reads none ∷ [])
-    ∷ shows "truths in cells" (gives 0 (cells_of (bool false ∷ bool true ∷ [])) ∷ []) (gives 0 (pos 0 ∷ pos 1 ∷ []) ∷ [])
+    ∷ shows "truths in cells" (gives 0 (cells_of (bool false ∷ bool true ∷ [])) ∷ []) (gives 0 (pos 0 ∷ pos 1 ∷ [])
+    ∷ [])
     ∷ rejects "7: a state that is none"
     (set 0 (pos 0) good ∷ set 0 (pos 4) good ∷ set 0 (negsuc 0) good ∷ take 7 (full 100) ∷ [])
     ∷ rejects "7: a last reading time outside its range"
@@ -869,7 +874,8 @@ entries =
     ∷ shows "a start whatever the table was, 7 before 8"
     (answers (unmarked (start_of sample (set 0 (pos 9) zeros))) ∷ answers (reading_of sample zeros []) ∷ forecasts
     (forecast_of sample zeros) ∷ [])
-    (gives 0 (running_table 100 100 (unit_of 17 17 100 [] [] ∷ [])) ∷ gives 7 zeros ∷ forecasts (refused_forecast 7) ∷ [])
+    (gives 0 (running_table 100 100 (unit_of 17 17 100 [] [] ∷ [])) ∷ gives 7 zeros ∷ forecasts (refused_forecast 7)
+    ∷ [])
     ∷ shows "11 at the start, 8 on a fulfilled table"
     (answers (unmarked (start_of crowd zeros)) ∷ answers (reading_of sample (fulfilled_table 120 100) []) ∷ [])
     (gives 11 zeros ∷ gives 8 (fulfilled_table 120 100) ∷ [])
@@ -949,8 +955,10 @@ unreached =
     ∷ shows "operands of another type" (
     op' (arithmetic plus) (truth_lit 1) (number_lit (pos 1)) ∷ op' (arithmetic plus) (number_lit (pos 1)) (party_lit 0)
     ∷ op' conj (number_lit (pos 1)) (truth_lit 1) ∷ op' conj (truth_lit 1) (party_lit 0)
-    ∷ op' equal (number_lit (pos 1)) (truth_lit 1) ∷ op' equal (number_lit (pos 1)) (party_lit 1) ∷ op' equal (truth_lit 1)
-    (number_lit (pos 1)) ∷ op' equal (truth_lit 1) (party_lit 1) ∷ op' equal (party_lit 1) (number_lit (pos 1)) ∷ op' equal
+    ∷ op' equal (number_lit (pos 1)) (truth_lit 1) ∷ op' equal (number_lit (pos 1)) (party_lit 1)
+    ∷ op' equal (truth_lit 1)
+    (number_lit (pos 1)) ∷ op' equal (truth_lit 1) (party_lit 1) ∷ op' equal (party_lit 1) (number_lit (pos 1))
+    ∷ op' equal
     (party_lit 1) (truth_lit 1)
     ∷ evaluates (eval [] bad_expr) ∷ evaluates (eval [] (truth_lit 2)) ∷ []) (replicate 12 (evaluates none))
     ∷ shows "a stuck run" (gives 0 (table_of (still stuck)) ∷ forecasts (shown stuck) ∷ forecasts

@@ -1,6 +1,7 @@
 -- Paper 01, "The run by the rules", and refusals 8 to 11: fed the agreement and the readings' bytes,
 -- nothing from a table. Paper 02, No. 1: when it last moved, "judged by its own tables before and after".
-use Rattle.std.specs.Prelude.{Bool, true, false, not, ◌&&◌, List, [], ◌∷◌, ℕ, zero, suc, ◌+◌, ◌-◌, ◌/◌, ◌%◌, ltb, eqb, ℤ, length, take, drop}
+use Rattle.std.specs.Prelude.{Bool, true, false, not, ◌&&◌, List, [], ◌∷◌, ℕ, zero, suc, ◌+◌, ◌-◌, ◌/◌, ◌%◌, ltb, eqb}
+use Rattle.std.specs.Prelude.{ℤ, length, take, drop}
 use Rattle.std.proofs.Math.Option.{Option, none, some}
 use Rattle.csl.specs.Lists.{◌>>=◌, need, at}
 use Rattle.csl.specs.Numbers.{eq_z}

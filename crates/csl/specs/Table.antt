@@ -1,5 +1,6 @@
 -- Paper 01, "The table", and refusal 7: what a run's table is, and the run that a table shows.
-use Rattle.std.specs.Prelude.{Bool, true, false, not, ◌&&◌, List, [], ◌∷◌, ◌++◌, ℕ, zero, suc, ◌-◌, ◌^◌, leb, ltb, eqb, ℤ, pos, negsuc, length, replicate}
+use Rattle.std.specs.Prelude.{Bool, true, false, not, ◌&&◌, List, [], ◌∷◌, ◌++◌, ℕ, zero, suc, ◌-◌, ◌^◌, leb, ltb}
+use Rattle.std.specs.Prelude.{eqb, ℤ, pos, negsuc, length, replicate}
 use Rattle.std.proofs.Math.Option.{Option, none, some}
 use Rattle.csl.specs.Lists.{◌>>=◌, need, all, at, split}
 use Rattle.csl.specs.Parties.{bits_of, members, subset}
@@ -230,7 +231,9 @@ run_of ag mains cells = do
 
 -- what a proof by computation unfolds
 unfoldable pub computes : Unit {0}
-unfolding cell_of cells_of nat_cells padded sort_number join_number cells_of_unit join_cells residue_cells head_cells table_of as_nats
-    is_zero is_sort waiting_unit push unit_sort add_unit trees single stands_for stand_for residue_parties head_numbers read_state
+unfolding cell_of cells_of nat_cells padded sort_number join_number cells_of_unit join_cells residue_cells head_cells
+    table_of as_nats
+    is_zero is_sort waiting_unit push unit_sort add_unit trees single stands_for stand_for residue_parties head_numbers
+    read_state
     run_of
 computes = tt

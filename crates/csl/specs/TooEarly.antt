@@ -106,7 +106,8 @@ too_earlies =
     (shut 100 ∷ too_soon (shut 110) ∷ shut 111 ∷ shut 112 ∷ refusing 10 (shut 112) ∷ too_soon (shut 129)
     ∷ fulfils 130 130 ∷ fulfils 131 130 ∷ [])
     ∷ tells "another type, the wanted one, breached"
-    (agreement_with 2 (a_number ∷ reading_type_of [] ∷ []) [] (owes_typed 0 2 yes' (lit (pos 30)) (lit (pos 60)) nothing))
+    (agreement_with 2 (a_number ∷ reading_type_of [] ∷ []) []
+    (owes_typed 0 2 yes' (lit (pos 30)) (lit (pos 60)) nothing))
     (reading 110 (pos 1) ∷ reading_with 110 2 [] ∷ mark 191 ∷ reading_with 191 2 [] ∷ [])
     (accepting false (accepting true (accepting false (accepting false []))))
     ∷ tells "altered by another unit; then alone" besides
@@ -117,7 +118,8 @@ too_earlies =
     (reading 110 (pos 1) ∷ reading 110 (pos 1) ∷ []) (accepting false (accepting false []))
     ∷ tells "a type above the wanted one" (two_types (soon yes')) (reading_with 110 2 (pos 1 ∷ []) ∷ [])
     (accepting false [])
-    ∷ obeys "a type above the wanted one, in time" (two_types (simply 0 (pos 60))) (reading_with 110 2 (pos 1 ∷ []) ∷ [])
+    ∷ obeys "a type above the wanted one, in time" (two_types (simply 0 (pos 60))) (reading_with 110 2 (pos 1 ∷ [])
+    ∷ [])
     (leads 0 100 100 (owed 23 100) (by 160 0) ∷ leads 0 110 100 (owed 23 100) (by 160 0) ∷ [])
     ∷ tells "the left side of an `and` alone" (main (all' (soon yes') never)) (reading 110 (pos 1) ∷ [])
     (accepting true [])

@@ -251,6 +251,7 @@ trials = p1to4 ∷ p5and6 ∷ p7 ∷ p8 ∷ p9 ∷ p10 ∷ p11 ∷ p12a ∷ p12b
 
 -- what a proof by computation unfolds
 unfoldable pub harness : Unit {0}
-unfolding computes marks uncosted gives unmarked by_entries by_readings by_rules rules_of of_entries of_rules follows grows
+unfolding computes marks uncosted gives unmarked by_entries by_readings by_rules rules_of of_entries of_rules follows
+    grows
     live fulfils breaches refusing owed chosen
 harness = tt

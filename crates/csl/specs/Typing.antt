@@ -1,5 +1,6 @@
 -- Paper 01, "Typing", CSL Figs. 4 and 5, and refusal 3: types of expressions, typing and parties of clauses.
-use Rattle.std.specs.Prelude.{Bool, true, false, ◌&&◌, ◌||◌, List, [], ◌∷◌, ◌++◌, ℕ, zero, suc, ◌+◌, leb, ltb, eqb, length}
+use Rattle.std.specs.Prelude.{Bool, true, false, ◌&&◌, ◌||◌, List, [], ◌∷◌, ◌++◌, ℕ, zero, suc, ◌+◌, leb, ltb, eqb}
+use Rattle.std.specs.Prelude.{length}
 use Rattle.std.proofs.Math.Option.{Option, none, some}
 use Rattle.csl.specs.Lists.{◌>>=◌, need, all, at}
 use Rattle.csl.specs.Numbers.{in_range}
@@ -152,6 +153,7 @@ typed a =
 
 -- what a proof by computation unfolds
 unfoldable pub computes : Unit {0}
-unfolding same_ty operand result type_expr has_type have_types blame_ok reading_of_type then_sight type_wait join_ok type_clause
+unfolding same_ty operand result type_expr has_type have_types blame_ok reading_of_type then_sight type_wait join_ok
+    type_clause
     is_constant type_template type_templates heads_in names_of typed
 computes = tt

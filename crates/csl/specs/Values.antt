@@ -95,5 +95,6 @@ evals env (e ∷ es) = eval env e >>= λ v. evals env es >>= λ vs. some (v ∷ 
 
 -- what a proof by computation unfolds
 unfoldable pub computes : Unit {0}
-unfolding as_nat as_truth value_of values_of as_num as_bool on_nums on_bools same_bool same_val apply eval eval_num eval_bool evals
+unfolding as_nat as_truth value_of values_of as_num as_bool on_nums on_bools same_bool same_val apply eval eval_num
+    eval_bool evals
 computes = tt

@@ -89,7 +89,8 @@ module _ (vs : List ℤ) (s : List ℕ) (k : ℕ) where
   leaf_bad n l = by_kind (eqb k 33) (eqb k 34)
     where
       by_kind : (b c : Bool) → pos 0 ≡ eval_cells vs
-          (expr_body (λ t. bad_expr) s (cond (eqb k 32) number_kind (cond b truth_kind (cond c party_kind variable_kind))))
+          (expr_body (λ t. bad_expr) s
+          (cond (eqb k 32) number_kind (cond b truth_kind (cond c party_kind variable_kind))))
       by_kind true c = rw (ne_eqb k 32 n, ne_eqb (length s) 5 l)
       by_kind false true = rw (ne_eqb k 32 n, ne_eqb (length s) 5 l)
       by_kind false false = rw (ne_eqb k 32 n, ne_eqb (length s) 5 l)

@@ -18,7 +18,8 @@ use Rattle.laws.specs.Joins.{join_of}
 use Rattle.octets.proofs.Bytes.{record_end_within}
 use Rattle.arith.proofs.Lists.{length_part}
 use Rattle.records.specs.Index.{head_at, first_clause}
-use Rattle.records.proofs.Trees.{clause_zero, clause_none, clause_at_lem, clause_wait, clause_two, sided, kind_fulfilled}
+use Rattle.records.proofs.Trees.{clause_zero, clause_none, clause_at_lem, clause_wait, clause_two, sided}
+use Rattle.records.proofs.Trees.{kind_fulfilled}
 use Rattle.records.proofs.Trees.{kind_instance, kind_no_clause_low, kind_no_clause_from}
 use Rattle.records.proofs.Index.{heads_at, heads_past}
 use Rattle.formed.specs.Tests.{tests_whole, arguments_whole}

@@ -5,7 +5,8 @@
 ghost use Rattle.std.specs.Prelude.{◌≡◌, true, ◌&&◌, ◌≤◌, ◌<◌, length};
 ghost use Rattle.csl.specs.Bytes as bytes;
 ghost use Rattle.csl.specs.Lists.{at};
-ghost use Rattle.csl.specs.Decode.{expr, whole_expr, wait_at, whole_wait, instance_of, clause, whole, heads_of, body_of};
+ghost use Rattle.csl.specs.Decode.{expr, whole_expr, wait_at, whole_wait, instance_of, clause, whole, heads_of};
+ghost use Rattle.csl.specs.Decode.{body_of};
 ghost use Rattle.csl.specs.Decode.{main_of, well_formed};
 ghost use Rattle.records.specs.Index.{Indexed, template_piece};
 ghost use Rattle.formed.specs.Tests.{tests_whole, arguments_whole, bodies_whole};

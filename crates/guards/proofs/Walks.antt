@@ -20,7 +20,8 @@ use Rattle.csl.specs.Decode.{instance_of, records_end, arguments}
 use Rattle.laws.proofs.Bools.{true→T, and_left, and_right, false_first, true_first}
 use Rattle.octets.proofs.Bytes.{whole_from}
 use Rattle.records.specs.Index.{first_clause}
-use Rattle.records.proofs.Trees.{sided, clause_at_lem, clause_wait, clause_two, kind_fulfilled, whole_deep, whole_record}
+use Rattle.records.proofs.Trees.{sided, clause_at_lem, clause_wait, clause_two, kind_fulfilled, whole_deep}
+use Rattle.records.proofs.Trees.{whole_record}
 use Rattle.records.proofs.Trees.{kind_instance, kind_no_clause_low, kind_no_clause_high}
 use Rattle.guards.specs.Walk.{Formed, Answers}
 

@@ -88,7 +88,8 @@ module _ (s : List ℕ) (a : Agreement) (mains : List ℕ) (ck : checked s ≡ a
       )
 
   -- calls one after another
-  pub last_table_lem : (q : Run) (us : List ℤ) (calls : List Call) → us ≡ table_of q → Sound q → AllBytes (readings_in calls)
+  pub last_table_lem : (q : Run) (us : List ℤ) (calls : List Call) → us ≡ table_of q → Sound q
+      → AllBytes (readings_in calls)
       → Calls s us calls → last_table us calls ≡ table_of (run_after a q (readings_in calls))
   unfolding Calls AllBytes readings_in last_table run_after
   last_table_lem q us [] e i h cs = e
@@ -96,7 +97,8 @@ module _ (s : List ℕ) (a : Agreement) (mains : List ℕ) (ck : checked s ≡ a
       (called q us c e i cs.0).1 (step_inv s a mains ck q c.bytes h.0 i) h.1
       cs.1
 
-  pub all_numbers : (q : Run) (us : List ℤ) (calls : List Call) → us ≡ table_of q → Sound q → AllBytes (readings_in calls)
+  pub all_numbers : (q : Run) (us : List ℤ) (calls : List Call) → us ≡ table_of q → Sound q
+      → AllBytes (readings_in calls)
       → Calls s us calls → numbers_in calls ≡ numbers_by a q (readings_in calls)
   unfolding Calls AllBytes readings_in numbers_in numbers_by
   all_numbers q us [] e i h cs = refl

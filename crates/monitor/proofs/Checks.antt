@@ -35,7 +35,8 @@ unfolding typed_as
 untyped none e = refl
 untyped (some ps) e = impossible cc
 
-pub typed_mask : (o : Option (List ℕ)) (p : ℕ) → Parties p ≡ typed_as o → (ps : List ℕ) × (o ≡ some ps) × (p ≡ mask_of ps)
+pub typed_mask : (o : Option (List ℕ)) (p : ℕ) → Parties p ≡ typed_as o
+    → (ps : List ℕ) × (o ≡ some ps) × (p ≡ mask_of ps)
 unfolding typed_as
 typed_mask none p e = impossible cc
 typed_mask (some ps) p e = (ps, refl, cc)

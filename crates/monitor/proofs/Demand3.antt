@@ -175,7 +175,8 @@ begun_table s mains lent ck e = go (eqb (length lent) 3080) refl
 pub begins : Begins
 unfolding Begins
 begins s lent us start = from_check s
-    (λ n h ck _. let z : n ≡ 0 = sym (ap (λ x. x.number) (start_refused_lem lent s n ck)) ∙ zero in absurd (omega arith))
+    (λ n h ck _. let z : n ≡ 0 = sym (ap (λ x. x.number) (start_refused_lem lent s n ck))
+    ∙ zero in absurd (omega arith))
     (λ mains ck _. let l = begun_table s mains lent ck zero in (
       agreement_of s,
       mains,

@@ -54,7 +54,8 @@ module _ (s : List ℕ) (a : Agreement) (mains : List ℕ) (ck : checked s ≡ a
   -- of the run q, whose table the marks begin with
   module _ (q : Run) (us : List ℤ) (is : us ≡ table_of q) (i : Sound s a mains ck q) (marks : List Call)
       (h : AllBytes (readings_in marks)) (cs : Calls s us marks) (m : AcceptedMarks a marks)
-      (f : Forecast) (fe : f ≡ shown (forecast_run a q)) (f' : Forecast) (fe' : f' ≡ forecast_of s (last_table us marks))
+      (f : Forecast) (fe : f ≡ shown (forecast_run a q)) (f' : Forecast) (fe' : f'
+      ≡ forecast_of s (last_table us marks))
     where
       end : Run
       end = run_after a q (readings_in marks)
@@ -162,7 +163,8 @@ module _ (s : List ℕ) (a : Agreement) (mains : List ℕ) (ck : checked s ≡ a
       }
         where
           once : (t b : ℕ) → f ≡ breach_at t b
-              → Stays a (breach_at t b) (run_after a q (readings_in marks)) ⊎ AtOnce t b (run_after a q (readings_in marks))
+              → Stays a (breach_at t b) (run_after a q (readings_in marks)) ⊎ AtOnce t b
+              (run_after a q (readings_in marks))
               → ((Breached (last_table us marks) → ⊥) × (f' ≡ f)) ⊎
               ((c : ℕ) × (last_table us marks ≡ breach_table t t t c) × (0 < c) × T (subset (members c) (members b)))
           once t b e (inl st) = let x = stayed (breach_at t b) st in inl (x.0, x.1 ∙ sym e)

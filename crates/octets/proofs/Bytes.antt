@@ -71,4 +71,5 @@ module _ {v w : ℕ} (e : v ≡ w) (h : 2_147_483_648 ≤ v) (k : v < 4_294_967_
   high_asked = rw (to_z_pos w64 v (omega arith)) (small (omega (arith, abs_add (pos v) (negsuc 4_294_967_295))))
 
   pub high_given : seen (to_z w64 v -ℤ pos 4_294_967_296) ≡ signed_of w
-  high_given = read high_asked ∙ rw (to_z_pos w64 v (omega arith), e) (sym (simp (le-ltb w 2_147_483_648 (omega arith))))
+  high_given = read high_asked ∙ rw (to_z_pos w64 v (omega arith), e)
+      (sym (simp (le-ltb w 2_147_483_648 (omega arith))))

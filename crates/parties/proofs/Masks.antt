@@ -87,7 +87,8 @@ pub mask_append : (ps qs : List ℕ) → mask_of (ps ++ qs) ≡ bit_or (mask_of 
 unfolding bits_of
 mask_append ps qs =
     rw (swap (ps ++ qs), bits_append 16 0 ps qs, bits_append 4 128 ps qs, swap ps, swap qs)
-    (sym (or_block 16 (bits_from 4 128 ps) (bits_from 4 128 qs) (bits_from 16 0 ps) (bits_from 16 0 qs) (bits_lt 16 0 ps)
+    (sym (or_block 16 (bits_from 4 128 ps) (bits_from 4 128 qs) (bits_from 16 0 ps) (bits_from 16 0 qs)
+    (bits_lt 16 0 ps)
     (bits_lt 16 0 qs)))
 
 pub union_is : {a b : ℕ} (ps qs : List ℕ) → a ≡ mask_of ps → b ≡ mask_of qs → bit_or a b ≡ mask_of (ps ++ qs)
@@ -122,7 +123,8 @@ mask_count (p ∷ ps) v = by_test (member p ps)
 
 -- ---- within
 pub bits_within : (t : ℕ → Bool) (ps qs : List ℕ) → ((p : ℕ) → member p ps ≡ true → p < 16 → t p ≡ member p qs)
-    → ((p : ℕ) → member p ps ≡ true → 16 ≤ p → t p ≡ true) → eqb (bit_or (bits_of ps) (bits_of qs)) (bits_of qs) ≡ all t ps
+    → ((p : ℕ) → member p ps ≡ true → 16 ≤ p → t p ≡ true) → eqb (bit_or (bits_of ps) (bits_of qs)) (bits_of qs) ≡ all
+    t ps
 unfolding bits_of
 bits_within t ps qs f g = rw (← bits_append 16 0 ps qs) (by_test (all t ps)
     (λ e. rw e (eq-eqb (bits_from 16 0 (ps ++ qs)) (bits_from 16 0 qs)

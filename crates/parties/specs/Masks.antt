@@ -1,5 +1,6 @@
 -- Sets of parties by bit: bit n for party n, below 16, and bit 16 + n for the party parameter n, the member 128 + n.
-use Rattle.std.specs.Prelude.{Bool, true, cond, ◌&&◌, ◌||◌, not, List, [], ◌∷◌, ◌⊎◌, ◌≡◌, ℕ, ◌+◌, ◌*◌, ◌≤◌, ◌<◌, leb, ltb, eqb}
+use Rattle.std.specs.Prelude.{Bool, true, cond, ◌&&◌, ◌||◌, not, List, [], ◌∷◌, ◌⊎◌, ◌≡◌, ℕ, ◌+◌, ◌*◌, ◌≤◌, ◌<◌, leb}
+use Rattle.std.specs.Prelude.{ltb, eqb}
 use Rattle.csl.specs.Parties.{member, bits_from, bits_of}
 
 unfoldable pub mask_of : List ℕ → ℕ

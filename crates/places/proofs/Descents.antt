@@ -17,7 +17,8 @@ use Rattle.csl.specs.Decode.{pieces, records_end, clause, tys_of, heads_of, whol
 use Rattle.csl.specs.Decode.{template_pieces, template_head, template_of, agreement_of}
 use Rattle.csl.specs.Typing.{type_clause, names_of, then_sight}
 use Rattle.csl.specs.Places.{Found, find, find_in, clause_at}
-use Rattle.records.specs.Index.{Indexed, Spans, template_place, piece_at, head_at, template_piece, value_count, body_from}
+use Rattle.records.specs.Index.{Indexed, Spans, template_place, piece_at, head_at, template_piece, value_count}
+use Rattle.records.specs.Index.{body_from}
 use Rattle.records.specs.Index.{body_to}
 use Rattle.records.proofs.Index.{template_facts, templates_at, template_within, pieces_more, pieces_from, pieces_none}
 use Rattle.records.proofs.Index.{body_within, body_is, body_there}

@@ -13,9 +13,12 @@ use Rattle.octets.proofs.Bytes.{le16_part, record_end_within, record_end_after, 
 use Rattle.csl.specs.Lists.{all, at}
 use Rattle.csl.specs.Bytes.{byte, le16, part, is_record, kind_number, record_end}
 use Rattle.csl.specs.Syntax.{Ty, Expr, Clause, fulfilled, instance, bad_clause, Head}
-use Rattle.csl.specs.Decode.{ExprKind, number_kind, truth_kind, party_kind, variable_kind, not_kind, binary_kind, no_expr}
-use Rattle.csl.specs.Decode.{expr_body, expr_head, expr, ClauseKind, fulfilled_kind, obligation_kind, choice_kind, if_kind}
-use Rattle.csl.specs.Decode.{join_kind, instance_kind, no_clause, clause_kind, clause_body, clause_head, clause, wait_at}
+use Rattle.csl.specs.Decode.{ExprKind, number_kind, truth_kind, party_kind, variable_kind, not_kind, binary_kind}
+use Rattle.csl.specs.Decode.{no_expr}
+use Rattle.csl.specs.Decode.{expr_body, expr_head, expr, ClauseKind, fulfilled_kind, obligation_kind, choice_kind}
+use Rattle.csl.specs.Decode.{if_kind}
+use Rattle.csl.specs.Decode.{join_kind, instance_kind, no_clause, clause_kind, clause_body, clause_head, clause}
+use Rattle.csl.specs.Decode.{wait_at}
 use Rattle.csl.specs.Decode.{wait_end, arguments, records_end, instance_of, whole_expr, whole_wait, whole, pieces}
 use Rattle.csl.specs.Decode.{templates_place, main_place, template_pieces, heads_of, main_of, body_of, body_place}
 use Rattle.csl.specs.Decode.{template_of, template_ok, agreement_of, well_formed, between}

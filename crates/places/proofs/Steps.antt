@@ -25,7 +25,8 @@ use Rattle.laws.proofs.Clash.{impossible}
 use Rattle.laws.proofs.Options.{from_bind, from_need, some_inj}
 use Rattle.laws.proofs.Bools.{elim_true, elim_false}
 use Rattle.records.specs.Index.{first_clause}
-use Rattle.records.proofs.Trees.{clause_at_lem, clause_wait, clause_two, clause_deep, clause_record, sided, sided_choice}
+use Rattle.records.proofs.Trees.{clause_at_lem, clause_wait, clause_two, clause_deep, clause_record, sided}
+use Rattle.records.proofs.Trees.{sided_choice}
 use Rattle.records.proofs.Trees.{kind_fulfilled, kind_instance, kind_no_clause_low, kind_no_clause_high}
 use Rattle.records.proofs.Index.{first_within, first_from}
 use Rattle.soundness.proofs.Places.{Out, find_none, or_else_none, none_or_else}

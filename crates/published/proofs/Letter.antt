@@ -14,7 +14,8 @@ use lib.Signed.{lt_z, ◌≤ℤ◌, ◌<ℤ◌, lt_z_yes, lt_z_no, clash_ℤ}
 use Rattle.csl.specs.Lists.{◌>>=◌, need}
 use Rattle.csl.specs.Numbers.{in_range, later_of}
 use Rattle.csl.specs.Syntax.{Agreement, Clause, Join, and, or, Ty, Wait, choice, number, number_lit, obligation, truth}
-use Rattle.csl.specs.Typing.{Names, blame_ok, has_type, join_ok, names_of, reading_of_type, same_ty, then_sight, type_clause}
+use Rattle.csl.specs.Typing.{Names, blame_ok, has_type, join_ok, names_of, reading_of_type, same_ty, then_sight}
+use Rattle.csl.specs.Typing.{type_clause}
 use Rattle.csl.specs.Typing.{type_expr, type_wait}
 use Rattle.csl.specs.Values.{eval_bool}
 use Rattle.csl.specs.Outcomes.{Sight, Outcome, breach, joined}

@@ -11,8 +11,10 @@ use lib.Dec.{eqb, T}
 use lib.ListN.{length}
 use Rattle.csl.specs.Bytes.{byte, part, is_record, kind_number, record_end}
 use Rattle.csl.specs.Syntax.{Expr, bad_expr, Clause, obligation, choice, if, join, bad_clause, Head}
-use Rattle.csl.specs.Decode.{ExprKind, number_kind, not_kind, binary_kind, no_expr, expr_kind, expr_body, expr_head, expr}
-use Rattle.csl.specs.Decode.{ClauseKind, fulfilled_kind, obligation_kind, choice_kind, if_kind, join_kind, instance_kind}
+use Rattle.csl.specs.Decode.{ExprKind, number_kind, not_kind, binary_kind, no_expr, expr_kind, expr_body, expr_head}
+use Rattle.csl.specs.Decode.{expr}
+use Rattle.csl.specs.Decode.{ClauseKind, fulfilled_kind, obligation_kind, choice_kind, if_kind, join_kind}
+use Rattle.csl.specs.Decode.{instance_kind}
 use Rattle.csl.specs.Decode.{no_clause, clause_kind, wait_at, clause_body, clause_head, clause, whole}
 use Rattle.laws.specs.Joins.{join_of}
 use Rattle.laws.proofs.Bools.{by_test}
@@ -20,7 +22,8 @@ use Rattle.records.specs.Index.{first_clause}
 use Rattle.records.specs.Kinds.{leaf_kind, arithmetic_of, op_of}
 
 -- ---- one step of the tree
-expr_step : (d : ℕ) (s : List ℕ) (k : ExprKind) → (d ≡ 0 → ⊥) → expr_head s ≡ k → expr d s ≡ expr_body (expr (d - 1)) s k
+expr_step : (d : ℕ) (s : List ℕ) (k : ExprKind) → (d ≡ 0 → ⊥) → expr_head s ≡ k
+    → expr d s ≡ expr_body (expr (d - 1)) s k
 unfolding expr
 expr_step zero s k p e = absurd (p refl)
 expr_step (suc d) s k p e = rw (sub-one, e)
@@ -63,7 +66,8 @@ module _ {A : Type 0} (f : Clause → A) (hs : List Head) (d p : ℕ) (s : List 
   clause_at_lem {m = m} n e h k q = q ∙ ap f (sym (clause_step hs d p s (clause_kind m) n (rw (sym e ∙ h, k))))
 
 -- a clause of which something holds that does not hold of a bad one has a depth left, and is a record
-module _ (P : Clause → Type 0) (bad : P bad_clause → ⊥) (hs : List Head) (d p : ℕ) (s : List ℕ) (h : P (clause hs d p s))
+module _ (P : Clause → Type 0) (bad : P bad_clause → ⊥) (hs : List Head) (d p : ℕ) (s : List ℕ)
+    (h : P (clause hs d p s))
   where
     pub clause_deep : d ≡ 0 → ⊥
     clause_deep e = bad (subst P (sym (clause_zero (λ c. c) hs d p s e refl)) h)
@@ -227,7 +231,8 @@ module _ (hs : List Head) (e : List ℕ → Expr) (inner : ℕ → List ℕ → 
       let f = record_end s c in
       sided e p s k (inner (p + c) (part s c f)) (inner (p + f) (part s f (length s)))
 
-  pub body_wait : {k : ℕ} → k ≡ 17 → clause_body hs e inner p s (clause_kind k) ≡ obligation (byte s 4) (wait_at e p s 5)
+  pub body_wait : {k : ℕ} → k ≡ 17 → clause_body hs e inner p s (clause_kind k) ≡ obligation (byte s 4)
+      (wait_at e p s 5)
       (inner (p + first_clause k s) (part s (first_clause k s) (length s)))
   unfolding clause_body clause_kind first_clause
   body_wait h = rw h refl

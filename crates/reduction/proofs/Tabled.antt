@@ -159,7 +159,8 @@ module _ (s mains : List ℕ) (ck : checked s ≡ accepted (agreement_of s) main
           append_assoc (join_cells j) (residue_cells l ++ residue_cells r) rest,
           append_assoc (residue_cells l) (residue_cells r) rest,
         )
-        (join_tree j l r (sights_of ag l ++ (sights_of ag r ++ sights)) (residue_cells l ++ (residue_cells r ++ rest)) left
+        (join_tree j l r (sights_of ag l ++ (sights_of ag r ++ sights)) (residue_cells l ++ (residue_cells r ++ rest))
+        left
         (rw (
           drop_at (sights_of ag l) (sights_of ag r ++ sights) (2 * units l) (sights_length_lem l ok.0 ok.2),
           drop_at (residue_cells l) (residue_cells r ++ rest) (24 * units l)

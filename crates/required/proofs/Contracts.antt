@@ -50,5 +50,6 @@ foretells = forecast_call
 
 -- no two forecasts have the same numbers for a caller in C
 forecasts_apart : (s s' : List ℕ) (us us' : List ℤ)
-    → forecast_numbers (forecast_of s us) ≡ forecast_numbers (forecast_of s' us') → forecast_of s us ≡ forecast_of s' us'
+    → forecast_numbers (forecast_of s us) ≡ forecast_numbers (forecast_of s' us')
+    → forecast_of s us ≡ forecast_of s' us'
 forecasts_apart = apart

@@ -142,7 +142,8 @@ first_few j (l ∷ r ∷ rs) h = (joined_few j l.outcome r.outcome h.0 h.1.0, h.
 all_few : (m : Mode) (s : List ℕ) (n : ℕ) (sights : List ℕ) (cs : List ℤ) → AllFew (across m s n sights cs)
 unfolding AllFew across unit_reckoned
 all_few m s zero sights cs = tt
-all_few m s (suc n) sights cs = pick (ltb (nat_of (get_or cs 0 (pos 0))) 20) _ (all_few m s n (drop 2 sights) (drop 24 cs))
+all_few m s (suc n) sights cs =
+    pick (ltb (nat_of (get_or cs 0 (pos 0))) 20) _ (all_few m s n (drop 2 sights) (drop 24 cs))
   where
     pick : (b : Bool) (rest : List Reckoned) → AllFew rest
         → AllFew (cond b (unit_reckoned m s (get_or sights 0 0) (get_or sights 1 0) (take 24 cs) ∷ rest)

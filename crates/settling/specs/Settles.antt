@@ -1,6 +1,7 @@
 -- A run's table after a reading.
 use Rattle.residues.specs.Reduces.{units_of, Is}
-use Rattle.std.specs.Prelude.{◌≡◌, Bool, cond, not, List, [], ◌∷◌, ◌++◌, ℕ, ◌*◌, ◌≤◌, ℤ, pos, length, get_or, take, drop}
+use Rattle.std.specs.Prelude.{◌≡◌, Bool, cond, not, List, [], ◌∷◌, ◌++◌, ℕ, ◌*◌, ◌≤◌, ℤ, pos, length, get_or, take}
+use Rattle.std.specs.Prelude.{drop}
 use Rattle.csl.specs.Run.{same_numbers}
 use Rattle.csl.specs.Table.{padded}
 use Rattle.cells.specs.Reduce as cells

@@ -1,7 +1,8 @@
 // A run's table after a reading.
 #![tactic(auto)]
 
-ghost use Rattle.std.specs.Prelude.{◌≡◌, cond, not, ◌||◌, ◌++◌, ◌∷◌, [], ◌+◌, ◌*◌, ◌≤◌, ◌<◌, pos, length, drop, get_or, take};
+ghost use Rattle.std.specs.Prelude.{◌≡◌, cond, not, ◌||◌, ◌++◌, ◌∷◌, [], ◌+◌, ◌*◌, ◌≤◌, ◌<◌, pos, length, drop};
+ghost use Rattle.std.specs.Prelude.{get_or, take};
 ghost use Rattle.csl.specs.Run.{same_numbers};
 ghost use Rattle.csl.specs.Table.{padded};
 ghost use Rattle.cells.specs.Across.{nat_of};

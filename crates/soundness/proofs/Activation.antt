@@ -11,7 +11,8 @@ use lib.ListN.{length}
 use Rattle.csl.specs.Lists.{◌>>=◌, all, at}
 use Rattle.csl.specs.Syntax.{Agreement, Clause, Head, Template, Ty, bad_clause, choice, fulfilled, if, instance, join}
 use Rattle.csl.specs.Syntax.{obligation, truth}
-use Rattle.csl.specs.Typing.{blame_ok, has_type, have_types, heads_in, join_ok, names_of, then_sight, type_clause, type_wait}
+use Rattle.csl.specs.Typing.{blame_ok, has_type, have_types, heads_in, join_ok, names_of, then_sight, type_clause}
+use Rattle.csl.specs.Typing.{type_wait}
 use Rattle.csl.specs.Guards.{guarded_in}
 use Rattle.csl.specs.Values.{Val}
 use Rattle.csl.specs.Outcomes.{Sight, or_stuck}

@@ -48,7 +48,8 @@ unfolding bits_from bit
 bits_pos zero i ps p h lo hi = absurd (omega arith)
 bits_pos (suc k) i ps p h lo hi = go (member i ps) refl (λ q. bits_pos k (suc i) ps p h q (omega arith))
   where
-    go : (b : Bool) → member i ps ≡ b → (suc i ≤ p → 0 < bits_from k (suc i) ps) → 0 < bit b + 2 * bits_from k (suc i) ps
+    go : (b : Bool) → member i ps ≡ b → (suc i ≤ p → 0 < bits_from k (suc i) ps)
+        → 0 < bit b + 2 * bits_from k (suc i) ps
     go true e ih = omega arith
     go false e ih = let r = ih (differs (dec_lt i p)) in omega arith
       where

@@ -15,7 +15,8 @@ use Rattle.csl.specs.Widths.{narrow_all, thens_narrow, width}
 use Rattle.csl.specs.Outcomes.{Outcome, Residue, Sight, both, breach, done, running, stuck, unit, units}
 use Rattle.csl.specs.Rules.{Reading}
 use Rattle.csl.specs.Reckoning.{across, activate, activating, during, follow, following, or_stops}
-use Rattle.csl.specs.Cost.{Tally, all_further, both_at_once, cost_from, cost_of, follow_cost, nothing_yet, one_more, tallies}
+use Rattle.csl.specs.Cost.{Tally, all_further, both_at_once, cost_from, cost_of, follow_cost, nothing_yet, one_more}
+use Rattle.csl.specs.Cost.{tallies}
 use Rattle.csl.specs.Cost.{tally_join, total}
 use Rattle.csl.specs.Places.{clause_at}
 use Rattle.csl.specs.Run.{Fit, fit, fit_of, unfit}

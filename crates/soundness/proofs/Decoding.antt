@@ -15,7 +15,8 @@ use Rattle.csl.specs.Bytes.{byte, is_record, kind_number, le16, le32, part, reco
 use Rattle.csl.specs.Syntax.{Agreement, Clause, Expr, Head, Template, bad_clause, fulfilled}
 use Rattle.csl.specs.Decode.{ClauseKind, Piece, agreement_of, records_end, between, body_of, body_place, choice_kind}
 use Rattle.csl.specs.Decode.{clause, clause_body, clause_head, clause_kind, counts_ok, decode, expr, fulfilled_kind}
-use Rattle.csl.specs.Decode.{heads_of, if_kind, instance_kind, instance_of, join_kind, listed, main_of, main_place, no_clause}
+use Rattle.csl.specs.Decode.{heads_of, if_kind, instance_kind, instance_of, join_kind, listed, main_of, main_place}
+use Rattle.csl.specs.Decode.{no_clause}
 use Rattle.csl.specs.Decode.{obligation_kind, pieces, reading_pieces, reading_type_ok, template_of, template_ok}
 use Rattle.csl.specs.Decode.{template_pieces, templates_place, wait_at, wait_end, well_formed, whole}
 use Rattle.laws.proofs.RecordEnds.{record_end_within, record_end_from, wait_within, wait_from, record_end_after}

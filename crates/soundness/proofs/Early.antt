@@ -78,7 +78,8 @@ module _ (a : Agreement) (d : Reading) where
   pub some_too_early_lem : (res : Residue) → (some_too_early a d res ≡ true) ↔ SomeUnit (Awaits a d) res
   unfolding some_too_early SomeUnit
   some_too_early_lem (unit k p t e) = (unit_awaits p t e, awaits_unit p t e)
-  some_too_early_lem (both j l r) = either (some_too_early a d l) (some_too_early a d r) (some_too_early_lem l) (some_too_early_lem r)
+  some_too_early_lem (both j l r) =
+      either (some_too_early a d l) (some_too_early a d r) (some_too_early_lem l) (some_too_early_lem r)
 
 -- ---- a time mark is never too early: what a typed clause waits for is no mark
 pub typed_wait : {C : Type 0} (ag : Agreement) (n : ℕ) (env : List Ty) (c : Clause) (w : Wait) (bs : List ℕ)

@@ -14,7 +14,8 @@ use Rattle.csl.specs.Numbers.{times, top}
 use Rattle.csl.specs.Syntax.{Expr, Op, Ty, arithmetic, bad_expr, binary, conj, equal, less, negation, number}
 use Rattle.csl.specs.Syntax.{number_lit, party, party_lit, truth, truth_lit, variable}
 use Rattle.csl.specs.Typing.{operand, result, same_ty, type_expr}
-use Rattle.csl.specs.Values.{Val, apply, as_bool, as_num, as_truth, bool, eval, num, on_bools, on_nums, same_bool, same_val}
+use Rattle.csl.specs.Values.{Val, apply, as_bool, as_num, as_truth, bool, eval, num, on_bools, on_nums, same_bool}
+use Rattle.csl.specs.Values.{same_val}
 use Rattle.csl.specs.Values.{who}
 use Rattle.laws.proofs.Bools.{both_true}
 use Rattle.laws.proofs.Options.{from_bind, from_need, some_bind, some_inj}

@@ -19,7 +19,8 @@ use Rattle.csl.specs.Outcomes.{Outcome, Residue, breach, done, running, stuck}
 use Rattle.csl.specs.Rules.{Reading, follow, forecast}
 use Rattle.csl.specs.Run.{step}
 use Rattle.csl.specs.Table.{Run, head_cells, nat_cells, padded, run_of, table_of}
-use Rattle.csl.specs.Entries.{Forecast, breach_at, forecast_of, forecast_run, is_table, no_breach, refused_forecast, shown}
+use Rattle.csl.specs.Entries.{Forecast, breach_at, forecast_of, forecast_run, is_table, no_breach, refused_forecast}
+use Rattle.csl.specs.Entries.{shown}
 use Rattle.csl.specs.Demand3.{AllBytes, Bytes, IsBreach, reached, run_after}
 use Rattle.csl.specs.Marks.{AllTimes, Breached, ForecastFits, IsMark, time_in}
 use Rattle.laws.proofs.Options.{some_inj}
@@ -169,7 +170,8 @@ module _ (bytes : List ℕ) (a : Agreement) (mains : List ℕ) (ck : checked byt
   -- what is known of the marks' times
   ends : (f : Forecast) (C : ℕ → Type 0) (R : Run → Type 0)
       → ((time t b : ℕ) (qs : List ℕ) → C time → f ≡ breach_at t b → t ≤ time → 0 < bits_of qs
-      → T (subset (members (bits_of qs)) (members b)) → (t < time → bits_of qs ≡ b) → R (run_at time time (breach t qs)))
+      → T (subset (members (bits_of qs)) (members b)) → (t < time → bits_of qs ≡ b)
+      → R (run_at time time (breach t qs)))
       → (q : Run) (ms : List (List ℕ)) → AllBytes ms → Sound q → Stays a f q → Marks a q ms → AllTimes C ms
       → Stays a f (run_after a q ms) ⊎ R (run_after a q ms)
   unfolding AllBytes run_after Marks AllTimes Stays

@@ -19,7 +19,8 @@ use Rattle.csl.specs.Syntax.{Agreement, Join, and, or}
 use Rattle.csl.specs.Outcomes.{Outcome, Residue, Sort, a_choice, an_obligation, both, breach, done, running, stuck}
 use Rattle.csl.specs.Outcomes.{unit, units}
 use Rattle.csl.specs.Run.{altered, moved_by, same_numbers}
-use Rattle.csl.specs.Table.{head_cells, join_cells, join_number, nat_cells, padded, residue_cells, sort_number, table_of}
+use Rattle.csl.specs.Table.{head_cells, join_cells, join_number, nat_cells, padded, residue_cells, sort_number}
+use Rattle.csl.specs.Table.{table_of}
 use Rattle.csl.specs.Table.{cells_of_unit}
 use Rattle.csl.specs.Demand3.{Unaltered}
 use Rattle.laws.proofs.Bools.{and_left, and_right, by_test, true_not_false}
@@ -56,7 +57,8 @@ moved_breach t m res time u ps = ap (judged time m) (altered_breach t m res time
 abbrev pub with_zeros : List ℤ → List ℤ
 with_zeros cells = cells ++ replicate (3072 - length cells) (pos 0)
 
-pub units_behind : (t m : ℕ) (res : Residue) → drop 8 (table_of (run_at t m (running res))) ≡ with_zeros (residue_cells res)
+pub units_behind : (t m : ℕ) (res : Residue) → drop 8 (table_of (run_at t m (running res))) ≡ with_zeros
+    (residue_cells res)
 unfolding table_of padded head_cells nat_cells
 units_behind t m res =
     let e : 3080 - length (head_cells 1 t 0 0 (units res) m ++ residue_cells res) ≡ 3072
@@ -140,7 +142,8 @@ as_many {n = n} {k = k} u v few few' e = by_test (ltb n k)
 same_units : {n k : ℕ} (xs ys : List ℤ) → Units n xs → Units k ys → n ≤ 128 → k ≤ 128
     → same_numbers (with_zeros xs) (with_zeros ys) ≡ same_numbers ys xs
 same_units xs ys u v few few' = by_test (same_numbers ys xs)
-    (λ t. ap (λ zs. same_numbers (with_zeros xs) (with_zeros zs)) (same_are ys xs t) ∙ same_self (with_zeros xs) ∙ sym t)
+    (λ t. ap (λ zs. same_numbers (with_zeros xs) (with_zeros zs)) (same_are ys xs t) ∙ same_self (with_zeros xs)
+    ∙ sym t)
     (λ f. same_not (with_zeros xs) (with_zeros ys) (λ e. true_not_false
     (ap (λ zs. same_numbers zs xs) (front e) ∙ same_self xs) f) ∙ sym f)
   where

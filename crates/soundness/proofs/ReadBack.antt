@@ -17,9 +17,11 @@ use Rattle.csl.specs.Typing.{join_ok, names_of, type_clause}
 use Rattle.csl.specs.Values.{Val, as_nat, value_of, values_of}
 use Rattle.csl.specs.Outcomes.{Outcome, Residue, Sort, a_choice, an_obligation, both, unit, units}
 use Rattle.csl.specs.Places.{Found, clause_at, find, find_in}
-use Rattle.csl.specs.Table.{HeadNumbers, UnitSort, add_unit, as_nats, cells_of, head_cells, head_numbers, is_sort, is_zero}
+use Rattle.csl.specs.Table.{HeadNumbers, UnitSort, add_unit, as_nats, cells_of, head_cells, head_numbers, is_sort}
+use Rattle.csl.specs.Table.{is_zero}
 use Rattle.csl.specs.Table.{Run, join_cells, join_number, joining, nat_cells, padded, push, read_state, residue_cells}
-use Rattle.csl.specs.Table.{residue_parties, run_of, single, sort_number, stand_for, table_of, trees, cells_of_unit, unit_sort}
+use Rattle.csl.specs.Table.{residue_parties, run_of, single, sort_number, stand_for, table_of, trees, cells_of_unit}
+use Rattle.csl.specs.Table.{unit_sort}
 use Rattle.csl.specs.Table.{waiting, waiting_unit}
 use Rattle.csl.specs.Demand3.{needed}
 use Rattle.laws.proofs.Options.{from_or_else, from_bind, from_need, some_bind, some_inj}

@@ -13,7 +13,8 @@ use Rattle.csl.specs.Syntax.{Clause, Expr, Join, Template, Wait, bad_clause, cho
 use Rattle.csl.specs.Syntax.{obligation}
 use Rattle.csl.specs.Values.{Val, eval_bool, evals}
 use Rattle.csl.specs.Outcomes.{Sight, Sort, a_choice, an_obligation}
-use Rattle.csl.specs.Rules.{Reading, Timing, Window, blamed, blamed_all, early, late, on_time, timing, window, with_values}
+use Rattle.csl.specs.Rules.{Reading, Timing, Window, blamed, blamed_all, early, late, on_time, timing, window}
+use Rattle.csl.specs.Rules.{with_values}
 use Rattle.csl.specs.Reckoning.{Reckoning, StepOf, activate, during, following, or_stops, taken, walk, walk_in}
 
 module _ {A : Type 0} (g : Reckoning A) where

@@ -18,7 +18,8 @@ use Rattle.csl.specs.Values.{Val, as_nat, as_truth, bool, num, value_of, values_
 use Rattle.csl.specs.Outcomes.{Outcome, Residue, Sight, Sort, a_choice, an_obligation, both, breach, done, running}
 use Rattle.csl.specs.Outcomes.{unit, units}
 use Rattle.csl.specs.Places.{clause_at}
-use Rattle.csl.specs.Table.{add_unit, as_nats, cell_of, cells_of, head_cells, head_numbers, is_sort, is_zero, join_cells}
+use Rattle.csl.specs.Table.{add_unit, as_nats, cell_of, cells_of, head_cells, head_numbers, is_sort, is_zero}
+use Rattle.csl.specs.Table.{join_cells}
 use Rattle.csl.specs.Table.{join_number, nat_cells, padded, push, read_state, residue_cells, residue_parties, run_of}
 use Rattle.csl.specs.Table.{single, sort_number, stand_for, table_of, trees, cells_of_unit, unit_sort, waiting_unit}
 use Rattle.laws.proofs.Cells.{length_padded, length_join}
@@ -247,7 +248,8 @@ module _ (ag : Agreement) (mains : List ℕ) (now m : ℕ) (from : ag.start ≤ 
       (cells ++ replicate (n - length (head_cells state now time parties used m ++ cells)) (pos 0)) refl
 
   run_reads : (state time parties used : ℕ) (cells : List ℤ) (o : Outcome)
-      → read_state ag mains (record { state = state; now = now; time = time; parties = parties; used = used; moved = m })
+      → read_state ag mains
+      (record { state = state; now = now; time = time; parties = parties; used = used; moved = m })
       (cells ++ replicate (3080 - length (head_cells state now time parties used m ++ cells)) (pos 0)) state ≡ some o
       → run_of ag mains (padded 3080 (head_cells state now time parties used m ++ cells)) ≡ some
       (record { last_time = now; last_moved = m; outcome = o })

@@ -17,9 +17,11 @@ use Rattle.csl.specs.Typing.{blame_ok, names_of}
 use Rattle.csl.specs.Check.{accepted, checked, refused}
 use Rattle.csl.specs.Outcomes.{Outcome, Residue, both, breach, done, running, stuck, unit, units}
 use Rattle.csl.specs.Rules.{Reading, follow}
-use Rattle.csl.specs.Run.{Fit, Raw, Stepped, altered, fit, fit_of, followed, kept, moved_by, raw_reading, read_at, started}
+use Rattle.csl.specs.Run.{Fit, Raw, Stepped, altered, fit, fit_of, followed, kept, moved_by, raw_reading, read_at}
+use Rattle.csl.specs.Run.{started}
 use Rattle.csl.specs.Run.{step, too_many, typed_reading, unfit}
-use Rattle.csl.specs.Table.{Run, head_cells, join_cells, nat_cells, padded, residue_cells, run_of, table_length, table_of}
+use Rattle.csl.specs.Table.{Run, head_cells, join_cells, nat_cells, padded, residue_cells, run_of, table_length}
+use Rattle.csl.specs.Table.{table_of}
 use Rattle.csl.specs.Early.{came_early, mark_of}
 use Rattle.csl.specs.Cost.{cost_from, cost_of}
 use Rattle.csl.specs.Entries.{Answer, ReadingAnswer, answered, is_table, reading_of, refusal, start_of, written}
@@ -229,7 +231,8 @@ pub data Alike : Outcome → Outcome → Type 0 where
   breached : (t : ℕ) (ps : List ℕ) → Alike (breach t (members (bits_of ps))) (breach t ps)
 
 pub reads : (a : Agreement) (mains : List ℕ) (few : (q : ℕ) → In q mains → q < 16) (now m : ℕ) (o : Outcome)
-    → Inv a mains now m o → (q : Outcome) × (run_of a mains (table_of (run_at now m o)) ≡ some (run_at now m q)) × Alike q o
+    → Inv a mains now m o → (q : Outcome) × (run_of a mains (table_of (run_at now m o)) ≡ some (run_at now m q)) ×
+    Alike q o
 unfolding Good needed
 reads a mains few now m done i = (done, done_reads a mains now m i.from i.to i.fits, same done)
 reads a mains few now m (breach t ps) i = (

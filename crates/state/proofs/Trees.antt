@@ -25,7 +25,8 @@ use Rattle.csl.specs.Typing.{join_ok}
 use Rattle.csl.specs.Places.{clause_at}
 use Rattle.csl.specs.Values.{as_nat, values_of}
 use Rattle.csl.specs.Outcomes.{Sort, an_obligation, a_choice, Sight, Residue, unit, both, units}
-use Rattle.csl.specs.Table.{is_zero, as_nats, is_sort, waiting_unit, push, UnitSort, waiting, joining, unit_sort, add_unit}
+use Rattle.csl.specs.Table.{is_zero, as_nats, is_sort, waiting_unit, push, UnitSort, waiting, joining, unit_sort}
+use Rattle.csl.specs.Table.{add_unit}
 use Rattle.csl.specs.Table.{trees, residue_parties, sort_number, join_number}
 use Rattle.laws.proofs.Options.{from_bind, from_need, some_bind, passes, some_inj, none_some}
 use Rattle.laws.proofs.PartyBits.{member_append}

@@ -17,7 +17,8 @@ use Rattle.csl.specs.Numbers.{in_range, Arithmetic}
 use Rattle.csl.specs.Bytes.{byte, signed32, part, is_record, kind_number, record_end}
 use Rattle.csl.specs.Syntax.{Ty, number, truth, party, Op, arithmetic, conj, less, equal, Expr, number_lit, truth_lit}
 use Rattle.csl.specs.Syntax.{party_lit, variable, negation, binary, bad_expr}
-use Rattle.csl.specs.Decode.{number_kind, truth_kind, party_kind, variable_kind, expr_body, expr_kind, expr_head, no_expr}
+use Rattle.csl.specs.Decode.{number_kind, truth_kind, party_kind, variable_kind, expr_body, expr_kind, expr_head}
+use Rattle.csl.specs.Decode.{no_expr}
 use Rattle.csl.specs.Decode.{of_length, expr, ty_of, tys_of}
 use Rattle.csl.specs.Typing.{type_expr, same_ty, operand, result}
 use Rattle.laws.proofs.Bools.{by}

@@ -40,14 +40,6 @@ part_none ps env d s a e l = let z : e - a ≡ 0 = omega arith in rw (z, no_byte
 
 -- ---- the types in sight, written
 module _ (bs vs : List ℕ) where
-  pub join_many : (out : List ℕ) → 16 ≤ length bs + length vs → JoinedSight bs vs 17 out
-  join_many out l = record {
-    counted = omega arith;
-    many = λ _. refl;
-    few = λ h. absurd (omega arith);
-    wrote = λ h. absurd (omega arith);
-  }
-
   pub join_few : (old one two : List ℕ) → length bs + length vs < 16 → length two ≡ 16
       → take (0 + length bs) one ≡ take 0 old ++ bs → take (length bs + length vs) two ≡ take (length bs) one ++ vs
       → JoinedSight bs vs (length bs + length vs + 1) (set two (length bs + length vs) 1)

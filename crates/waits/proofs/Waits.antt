@@ -231,10 +231,12 @@ clamped s i {a} {b} ea eb = by_room (dec_le i (length s))
         rw (e, f)
 
 pub condition_is : (s : List ℕ) (i d : ℕ) {vs vs' : List ℤ} {a b : ℕ} {x : ℤ} {r : Bool} → a ≡ min (i + 1) (length s)
-    → b ≡ record_end s (i + 1) → vs' ≡ vs → (x ≡ eval_cells vs' (expr d (part s a b))) × Held x → r ≡ is_true_cell (seen x)
+    → b ≡ record_end s (i + 1) → vs' ≡ vs → (x ≡ eval_cells vs' (expr d (part s a b))) × Held x
+    → r ≡ is_true_cell (seen x)
     → r ≡ condition_of s i d vs
 unfolding condition_of wait_at
-condition_is s i d ea eb ev hx hr = hr ∙ ap is_true_cell (read (held_fits hx.1) ∙ hx.0 ∙ rw (ev, clamped s (i + 1) ea eb))
+condition_is s i d ea eb ev hx hr = hr ∙ ap is_true_cell
+    (read (held_fits hx.1) ∙ hx.0 ∙ rw (ev, clamped s (i + 1) ea eb))
 
 -- the minutes that were left
 pub minus_is : (t : ℕ) → t ≤ farthest → {last z : ℤ} → SFits w64 last → mag z < 2 ^ 63 → z ≡ seen last -ℤ to_z w64 t

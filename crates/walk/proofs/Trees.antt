@@ -119,7 +119,8 @@ sides_of size n (both j l r) sights cs count few t f left is =
 
 waits_of : (size : ℕ) (res : Residue) (sights : List ℕ) (cs : List ℤ) → TreeOf size res sights cs
     → ltb (nat_of (get_or cs 0 (pos 0))) 20 ≡ true → Waiting size (get_or sights 0 0) (get_or sights 1 0) (take 24 cs)
-    × ((m : Mode) (s : List ℕ) → reckoned_of m s res sights cs ≡ unit_reckoned m s (get_or sights 0 0) (get_or sights 1 0)
+    × ((m : Mode) (s : List ℕ) → reckoned_of m s res sights cs ≡ unit_reckoned m s (get_or sights 0 0)
+    (get_or sights 1 0)
     (take 24 cs))
 unfolding TreeOf reckoned_of
 waits_of size (unit k p a e) sights cs t f = (t.3, λ m s. refl)

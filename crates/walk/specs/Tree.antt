@@ -1,6 +1,7 @@
 -- The tree of units at the front of a table: "An `and` or `or` unit is followed by all of its left side, then all of
 -- its right".
-use Rattle.std.specs.Prelude.{◌≡◌, true, false, List, [], ◌∷◌, ℕ, ◌*◌, ◌≤◌, ◌+◌, ℤ, pos, length, get_or, take, drop, ltb}
+use Rattle.std.specs.Prelude.{◌≡◌, true, false, List, [], ◌∷◌, ℕ, ◌*◌, ◌≤◌, ◌+◌, ℤ, pos, length, get_or, take, drop}
+use Rattle.std.specs.Prelude.{ltb}
 use Rattle.cells.specs.Reduce as cells
 use Rattle.cells.specs.Across.{nat_of, across, unit_reckoned}
 use Rattle.csl.specs.Outcomes.{Residue, unit, both, units}

@@ -1,7 +1,8 @@
 -- Each test refuses what the rule for instances refuses, and what is left is the declared parties and the blames'.
 use native.Mathlib.Omega.{arith}
 use Rattle.csl.specs.Decode.{expr, tys_of}
-use Rattle.typing.proofs.Instances.{small_typed, instance_past, instance_untyped, instance_long, instance_other, instance_typed}
+use Rattle.typing.proofs.Instances.{small_typed, instance_past, instance_untyped, instance_long, instance_other}
+use Rattle.typing.proofs.Instances.{instance_typed}
 use borrow.Author.Rules.{rules}
 use Rattle.typing.proofs.instance_parties.Goals as goal
 

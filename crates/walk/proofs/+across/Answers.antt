@@ -66,13 +66,17 @@ pub bounds-sights-0 : goal.bounds-sights-0
 bounds-sights-0 t c = omega (arith, (sides t (goal.at.bounds-sights-0 t c).Else-waits).seen)
 
 pub overflow_mul-seen : goal.overflow_mul-seen
-overflow_mul-seen t c = record { fits = omega (arith, (sides t (goal.at.overflow_mul-seen t c).Else-waits).fewer, (sides t (goal.at.overflow_mul-seen t c).Else-waits).few) }
+overflow_mul-seen t c =
+    let d = sides t (goal.at.overflow_mul-seen t c).Else-waits in record { fits = omega (arith, d.fewer, d.few) }
 
 pub overflow_add-seen : goal.overflow_add-seen
-overflow_add-seen t c = record { fits = omega (arith, (sides t (goal.at.overflow_add-seen t c).Else-waits).fewer, (sides t (goal.at.overflow_add-seen t c).Else-waits).few) }
+overflow_add-seen t c =
+    let d = sides t (goal.at.overflow_add-seen t c).Else-waits in record { fits = omega (arith, d.fewer, d.few) }
 
 pub offset_bounds-sights-left : goal.offset_bounds-sights-left
-offset_bounds-sights-left t c = record { fits = omega (arith, (sides t (goal.at.offset_bounds-sights-left t c).Else-waits).fewer, (sides t (goal.at.offset_bounds-sights-left t c).Else-waits).few) }
+offset_bounds-sights-left t c =
+    let d = sides t (goal.at.offset_bounds-sights-left t c).Else-waits in
+    record { fits = omega (arith, d.fewer, d.few) }
 
 pub slice_bounds-seen-count : goal.slice_bounds-seen-count
 slice_bounds-seen-count t c = omega (arith, (sides t (goal.at.slice_bounds-seen-count t c).Else-waits).seen)
@@ -84,13 +88,16 @@ pub slice_bounds-seen-end : goal.slice_bounds-seen-end
 slice_bounds-seen-end t c = omega (arith, (sides t (goal.at.slice_bounds-seen-end t c).Else-waits).seen)
 
 pub overflow_mul-right : goal.overflow_mul-right
-overflow_mul-right t c = record { fits = omega (arith, (sides t (goal.at.overflow_mul-right t c).Else-waits).fewer, (sides t (goal.at.overflow_mul-right t c).Else-waits).few) }
+overflow_mul-right t c =
+    let d = sides t (goal.at.overflow_mul-right t c).Else-waits in record { fits = omega (arith, d.fewer, d.few) }
 
 pub overflow_add-right : goal.overflow_add-right
-overflow_add-right t c = record { fits = omega (arith, (sides t (goal.at.overflow_add-right t c).Else-waits).fewer, (sides t (goal.at.overflow_add-right t c).Else-waits).few) }
+overflow_add-right t c =
+    let d = sides t (goal.at.overflow_add-right t c).Else-waits in record { fits = omega (arith, d.fewer, d.few) }
 
 pub offset_bounds-table-left : goal.offset_bounds-table-left
-offset_bounds-table-left t c = record { fits = omega (arith, (sides t (goal.at.offset_bounds-table-left t c).Else-waits).fewer, (sides t (goal.at.offset_bounds-table-left t c).Else-waits).few) }
+offset_bounds-table-left t c =
+    let d = sides t (goal.at.offset_bounds-table-left t c).Else-waits in record { fits = omega (arith, d.fewer, d.few) }
 
 pub slice_bounds-right-count : goal.slice_bounds-right-count
 slice_bounds-right-count t c = omega (arith, (sides t (goal.at.slice_bounds-right-count t c).Else-waits).room)

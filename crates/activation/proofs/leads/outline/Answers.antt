@@ -43,10 +43,12 @@ returns-then-not-is_record c =
     (sym c.is_record.ensures ∙ c.if-not-is_record.true)
 
 pub slice_bounds-ends-count-in-20-to-21 : goal.slice_bounds-ends-count-in-20-to-21
-slice_bounds-ends-count-in-20-to-21 c = (paired (goal.at.slice_bounds-ends-count-in-20-to-21 c).After-record_end-f).order
+slice_bounds-ends-count-in-20-to-21 c =
+    (paired (goal.at.slice_bounds-ends-count-in-20-to-21 c).After-record_end-f).order
 
 pub slice_bounds-ends-start-in-20-to-21 : goal.slice_bounds-ends-start-in-20-to-21
-slice_bounds-ends-start-in-20-to-21 c = (paired (goal.at.slice_bounds-ends-start-in-20-to-21 c).After-record_end-f).order
+slice_bounds-ends-start-in-20-to-21 c =
+    (paired (goal.at.slice_bounds-ends-start-in-20-to-21 c).After-record_end-f).order
 
 pub returns-then-right : goal.returns-then-right
 returns-then-right c =
@@ -63,7 +65,8 @@ returns-then-ends c = shows_sides (paired (goal.at.returns-then-ends c).After-re
 
 pub returns-then-k-eq-AND-2 : goal.returns-then-k-eq-AND-2
 returns-then-k-eq-AND-2 c =
-    shows_left (paired (goal.at.returns-then-k-eq-AND-2 c).After-record_end-f) (c.ends-right.ensures c.if-right-2.true) c.if-k-eq-AND-2.true
+    shows_left (paired (goal.at.returns-then-k-eq-AND-2 c).After-record_end-f) (c.ends-right.ensures c.if-right-2.true)
+    c.if-k-eq-AND-2.true
 
 pub returns-else-k-eq-AND-2 : goal.returns-else-k-eq-AND-2
 returns-else-k-eq-AND-2 c = shows_sides (paired (goal.at.returns-else-k-eq-AND-2 c).After-record_end-f)
