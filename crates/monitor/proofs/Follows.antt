@@ -197,7 +197,7 @@ module _ {s places : List ℕ} {us : List ℤ} {sights : List ℕ} {n : ℕ} (o 
           small = omega (
             arith,
             follow_costs s (mains_of s) (is_fair s (ag o) (mains_of s) (ck o)) (founds s (mains_of s) (ck o)) now moved
-            res
+                res
                 us o.is_table o.shows.shows.is more d rok,
             cost_of_units s (ag o) (mains_of s) (passed s (ag o) (mains_of s) (ck o)) d res,
             o.shows.count,
