@@ -211,11 +211,12 @@ pub activate-both-requires : goal.activate-both-requires
 unfolding Shaped
 activate-both-requires t c =
     let s = c.args in
-    let g = c.in-Joins.ensures s.event s.rs.now s.agreement.now s.site.below s.site.place s.ps.now s.vs.now s.site.a in (
+    let g = c.in-Joins.ensures s.event s.rs.now s.agreement.now s.site.below s.site.place s.ps.now s.vs.now s.site.a in
+    let fits = c.requires.1 in (
       omega (arith, c.decreases),
       (
         c.requires.0,
-        c.requires.1,
+        fits,
         record { deep = g.deep; from = g.from; to = g.to; order = g.order; inside = g.inside },
       ),
     )
