@@ -34,7 +34,7 @@
 //! An accepted reading is answered with [`Taken`], which says whether it came too early and what it cost, a refused one
 //! with [`Refused`], which has a cost where the reading was followed: on 11.
 //!
-//! [`STACK`] bytes of stack are enough for every call; the deepest that we built runs in 347,400. The stacks of the
+//! [`STACK`] bytes of stack are enough for every call; the deepest that we built runs in 307,968. The stacks of the
 //! main thread and of threads that the standard library makes are larger. Where the stack is too small the program is
 //! stopped, as at any overflow.
 

@@ -60,7 +60,7 @@ fn waiting(count: usize) -> Vec<u8> {
 }
 
 /// All entries on the worst agreement. The second reading walks 127 units, follows the chain as the choice's else, and
-/// activates the rest of it as the `then` at its end: it runs in a stack of 347,400 bytes.
+/// activates the rest of it as the `then` at its end: it runs in a stack of 307,968 bytes.
 fn run_worst() {
     let agreement = worst();
     check(&agreement).unwrap();
@@ -92,7 +92,7 @@ fn overflow() {
 #[cfg(target_os = "linux")]
 #[test]
 fn too_small_a_stack_stops_the_program() {
-    for bytes in [16_384, 32_768, 49_152, 65_536, 131_072, 262_144, 327_680] {
+    for bytes in [16_384, 32_768, 49_152, 65_536, 131_072, 262_144, 294_912] {
         let output = Command::new(std::env::current_exe().unwrap())
             .args(["--exact", "overflow", "--ignored", "--nocapture"])
             .env("STACK", bytes.to_string())
