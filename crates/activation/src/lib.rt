@@ -103,6 +103,7 @@ pub fn activate(
 
 // The same of a clause that acts. It alone needs cells, which ends and joins, being many, are spared.
 #[cycle(act_activate_both_inside_unfold)]
+#[tactic(auto, using(residues::proofs::Counts::reckons_bounded))]
 fn act(
     agreement: &[u8],
     places: &[usize],

@@ -52,9 +52,6 @@ act-inside-requires t c =
     let g = c.in-Picks.ensures in
     (omega (arith, c.decreases), (c.requires.0, c.requires.1, g.deep, g.order, g.inside, g.soon))
 
-pub act-reached-requires : goal.act-reached-requires
-act-reached-requires t c = reckons_bounded c.inside.ensures
-
 -- a `then`
 pub act-then_site-at-requires : goal.act-then_site-at-requires
 unfolding Leads
@@ -108,18 +105,12 @@ act-activate-requires t c =
       ),
     )
 
-pub act-ended_wait-requires : goal.act-ended_wait-requires
-act-ended_wait-requires t c = reckons_bounded c.activate.ensures
-
 -- an else
 pub act-inside-requires-in-Lapses : goal.act-inside-requires-in-Lapses
 unfolding Leads
 act-inside-requires-in-Lapses t c =
     let g = c.in-Lapses.ensures in
     (omega (arith, c.decreases), (c.requires.0, c.requires.1, g.deep, g.order, g.inside, g.soon))
-
-pub act-ended_wait-requires-in-Lapses : goal.act-ended_wait-requires-in-Lapses
-act-ended_wait-requires-in-Lapses t c = reckons_bounded c.inside-in-Lapses.ensures
 
 -- a template
 pub act-unfold-requires : goal.act-unfold-requires
@@ -144,9 +135,6 @@ act-unfold-requires t c =
         c.leads_to.auto.cells,
       ),
     )
-
-pub act-reached-requires-in-Unfolds : goal.act-reached-requires-in-Unfolds
-act-reached-requires-in-Unfolds t c = reckons_bounded c.«unfold».ensures
 
 pub act-returns-in-Ends : goal.act-returns-in-Ends
 unfolding Leads
@@ -250,6 +238,38 @@ activate-returns-in-Joins t c =
     reckons_as g.is c.both.ensures
 
 -- ---- both: the right side's answer, then the left side's
+module _ (t : ℕ) where
+  -- the cells after each side
+  abbrev right_out : both-After-activate-l t → List ℤ
+  right_out c = c.activate-r.new.out
+
+  abbrev left_out : both-After-activate-l t → List ℤ
+  left_out c = c.activate-l.new.out
+
+  right_room : (c : both-After-activate-l t) → length (right_out c) ≤ 3072
+  right_room c = omega (arith, c.requires.1.room, c.activate-r.auto.out)
+
+  left_room : (c : both-After-activate-l t) → length (left_out c) ≡ c.room_left-e.result
+  left_room c = omega (
+    arith,
+    length-take c.room_left-e.result (right_out c),
+    c.room_left-e.ensures.1,
+    c.activate-l.auto.out,
+  )
+
+  -- what the side at x does
+  abbrev does : both-After-activate-l t → ℕ → List ℕ → cells.Reckoned
+  does c x bytes = let s = c.args in
+      reckon_at s.event s.rs.now s.agreement.now (inner_site s.site x s.site.a) bytes s.ps.now s.vs.now
+
+  right_answer : (c : both-After-activate-l t) → let s = c.args in
+      Reckons (does c s.f (part s.s.now s.f (length s.s.now))) c.activate-r.result (right_out c)
+  right_answer c = rw c.inner_site-at_right.ensures at c.activate-r.ensures
+
+  left_answer : (c : both-After-activate-l t) → let s = c.args in
+      Reckons (does c 4 (part s.s.now 4 s.f)) c.activate-l.result (left_out c)
+  left_answer c = rw c.inner_site-at_left.ensures at c.activate-l.ensures
+
 pub both-slice_bounds-activate-end-2 : goal.both-slice_bounds-activate-end-2
 both-slice_bounds-activate-end-2 t c = c.requires.2.inside
 
@@ -301,38 +321,6 @@ both-activate-l-requires t c =
             (omega (arith, length-take c.room_left-e.result c.activate-r.new.out, c.activate-r.auto.out)),
       ),
     )
-
-module _ (t : ℕ) where
-  -- the cells after each side
-  abbrev right_out : both-After-activate-l t → List ℤ
-  right_out c = c.activate-r.new.out
-
-  abbrev left_out : both-After-activate-l t → List ℤ
-  left_out c = c.activate-l.new.out
-
-  right_room : (c : both-After-activate-l t) → length (right_out c) ≤ 3072
-  right_room c = omega (arith, c.requires.1.room, c.activate-r.auto.out)
-
-  left_room : (c : both-After-activate-l t) → length (left_out c) ≡ c.room_left-e.result
-  left_room c = omega (
-    arith,
-    length-take c.room_left-e.result (right_out c),
-    c.room_left-e.ensures.1,
-    c.activate-l.auto.out,
-  )
-
-  -- what the side at x does
-  abbrev does : both-After-activate-l t → ℕ → List ℕ → cells.Reckoned
-  does c x bytes = let s = c.args in
-      reckon_at s.event s.rs.now s.agreement.now (inner_site s.site x s.site.a) bytes s.ps.now s.vs.now
-
-  right_answer : (c : both-After-activate-l t) → let s = c.args in
-      Reckons (does c s.f (part s.s.now s.f (length s.s.now))) c.activate-r.result (right_out c)
-  right_answer c = rw c.inner_site-at_right.ensures at c.activate-r.ensures
-
-  left_answer : (c : both-After-activate-l t) → let s = c.args in
-      Reckons (does c 4 (part s.s.now 4 s.f)) c.activate-l.result (left_out c)
-  left_answer c = rw c.inner_site-at_left.ensures at c.activate-l.ensures
 
 pub both-join_tallies-tally-requires : goal.both-join_tallies-tally-requires
 both-join_tallies-tally-requires t c =
