@@ -102,3 +102,87 @@ pub fn emit<W: Write>(writer: &mut W, out: &[u8], at: usize) -> io::Result<()>
 {
     writer.write_all(&out[..at])
 }
+
+// ---- lines in a buffer, which drops what has no room, and reads and writes that tell no failure
+
+// Puts b at `at`, where there is room, and answers the place after it.
+pub fn put(out: &mut [u8], at: usize, b: u8) -> usize {
+    if at < out.len() {
+        out[at] = b;
+        return at + 1;
+    }
+    at
+}
+
+// Puts all of s.
+pub fn put_all(out: &mut [u8], at: usize, s: &[u8]) -> usize {
+    let mut to = at;
+    for i in 0..s.len() {
+        to = put(out, to, s[i]);
+    }
+    to
+}
+
+// Puts a number in decimal.
+pub fn put_decimal(out: &mut [u8], at: usize, n: u64) -> usize {
+    let mut text = [0u8; 20];
+    let k = lines::put_decimal(&mut text, 0, n);
+    put_all(out, at, &text[..k])
+}
+
+// Puts a space and a number.
+pub fn put_next(out: &mut [u8], at: usize, n: u64) -> usize {
+    let to = put(out, at, b' ');
+    put_decimal(out, to, n)
+}
+
+// Writes what the buffer holds from `from` up to `at`.
+pub fn flush<W: Write>(writer: &mut W, out: &[u8], from: usize, at: usize) {
+    if from <= at {
+        if at <= out.len() {
+            let _ = writer.write_all(&out[from..at]);
+        }
+    }
+}
+
+// Writes a buffer of 65,536 bytes where it is nearly full, and answers how much of it is in use then.
+pub fn make_room<W: Write>(writer: &mut W, out: &[u8], at: usize) -> usize {
+    if at < 65_000 {
+        return at;
+    }
+    flush(writer, out, 0, at);
+    0
+}
+
+// Reads into buf from `from` on, up to `to`, and answers how many bytes came before the end or a read that failed.
+pub fn read_part<R: Read>(reader: &mut R, buf: &mut [u8], from: usize, to: usize) -> usize {
+    if from <= to {
+        if to <= buf.len() {
+            return read_full(reader, &mut buf[from..to]);
+        }
+    }
+    0
+}
+
+// Reads until buf is full, the input ends or a read fails.
+fn read_full<R: Read>(reader: &mut R, buf: &mut [u8]) -> usize {
+    let mut done = 0;
+    while done < buf.len() {
+        let came = read_once(reader, &mut buf[done..]);
+        if came == 0 {
+            return done;
+        }
+        done += came;
+    }
+    done
+}
+
+// How many bytes one read brought; a failed one brings none.
+fn read_once<R: Read>(reader: &mut R, rest: &mut [u8]) -> usize
+    ensures { result ≤ length rest.old }
+{
+    match reader.read(rest) {
+        Ok(n) => n,
+        Err(_) => 0,
+    }
+}

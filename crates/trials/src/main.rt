@@ -6,170 +6,359 @@
 #![tactic(auto)]
 
 use monitor::{Checked, Foretold, Started, Taken};
-use std::alloc::Global;
+use octets::{byte, unsigned16, unsigned32};
 use std::io;
-use std::io::{BufReader, BufWriter, Read, Write};
+use std::io::{Read, Write};
+use stream::{flush, make_room, put, put_all, put_decimal, put_next, read_part};
 
-// What was given last.
-#[derive(Drop)]
-struct Given {
-    agreement: Vec<u8>,
-    reading: Vec<u8>,
-    table: Vec<i64>,
+// The bytes of each buffer.
+const ROOM: usize = 65_536;
+
+// More cells than a table has.
+const MOST_CELLS: usize = 4096;
+
+// Whether to go on; the lengths of agreement, reading and table; how many bytes of the output's buffer are in use.
+#[derive(Clone, Copy)]
+struct Turn {
+    go: bool,
+    agreement: usize,
+    reading: usize,
+    table: usize,
+    at: usize,
 }
 
 // ---- lines
-
-// The number, and the parties by bit.
-fn write_checked<W: Write>(out: &mut W, checked: Checked) -> io::Result<()> {
-    match checked {
-        Checked::Accepted(parties) => write!(out, "check 0 {parties}"),
-        Checked::Refused(why) => {
-            let number = monitor::number(why);
-            write!(out, "check {number} 0")
-        }
-    }
-}
-
 fn started_number(started: Started) -> u32 {
     match started {
         Started::Begun => 0,
-        Started::Refused(why) => monitor::number(why),
+        Started::Refused(refusal) => monitor::number(refusal),
     }
 }
 
+fn put_number(out: &mut [u8], at: usize, word: &[u8], number: u32) -> usize {
+    let to = put_all(out, at, word);
+    put_next(out, to, number as u64)
+}
+
+// The number, and the parties by bit.
+fn put_check(out: &mut [u8], at: usize, checked: Checked) -> usize {
+    match checked {
+        Checked::Accepted(parties) => {
+            let to = put_number(out, at, b"check", 0);
+            put_next(out, to, parties as u64)
+        }
+        Checked::Refused(refusal) => {
+            let to = put_number(out, at, b"check", monitor::number(refusal));
+            put_next(out, to, 0)
+        }
+    }
+}
+
+fn one_or_zero(b: bool) -> u64 {
+    if b { 1 } else { 0 }
+}
+
 // The number, the mark `early` and the cost.
-fn write_taken<W: Write>(out: &mut W, taken: Taken) -> io::Result<()> {
+fn put_reading(out: &mut [u8], at: usize, number: u32, early: bool, cost: usize) -> usize {
+    let to = put_number(out, at, b"reading", number);
+    let then = put_next(out, to, one_or_zero(early));
+    put_next(out, then, cost as u64)
+}
+
+fn put_taken(out: &mut [u8], at: usize, taken: Taken) -> usize {
     match taken {
-        Taken::Accepted { early, cost } => {
-            let mark = u8::from(early);
-            write!(out, "reading 0 {mark} {cost}")
-        }
-        Taken::Refused { why, cost } => {
-            let number = monitor::number(why);
-            write!(out, "reading {number} 0 {cost}")
-        }
+        Taken::Accepted { early, cost } => put_reading(out, at, 0, early, cost),
+        Taken::Refused { why, cost } => put_reading(out, at, monitor::number(why), false, cost),
     }
 }
 
 // The number, and the time and parties by bit, or `none`.
-fn write_foretold<W: Write>(out: &mut W, foretold: Foretold) -> io::Result<()> {
+fn put_forecast(out: &mut [u8], at: usize, foretold: Foretold) -> usize {
     match foretold {
-        Foretold::Nothing => write!(out, "forecast 0 none"),
-        Foretold::Breach { time, parties } => write!(out, "forecast 0 {time} {parties}"),
-        Foretold::Refused(why) => {
-            let number = monitor::number(why);
-            write!(out, "forecast {number} none")
+        Foretold::Nothing => {
+            let to = put_number(out, at, b"forecast", 0);
+            put_all(out, to, b" none")
+        }
+        Foretold::Breach { time, parties } => {
+            let to = put_number(out, at, b"forecast", 0);
+            let then = put_next(out, to, time);
+            put_next(out, then, parties as u64)
+        }
+        Foretold::Refused(refusal) => {
+            let to = put_number(out, at, b"forecast", monitor::number(refusal));
+            put_all(out, to, b" none")
         }
     }
 }
 
-// The cells that are not zero, each with its place. A negative number stands as `~` and its complement: -1 is `~0`.
-fn write_cells<W: Write>(out: &mut W, table: &[i64]) -> io::Result<()> {
-    for (i, &cell) in table.iter().enumerate() {
-        if cell > 0 {
-            write!(out, " {i}={cell}")?;
-        } else if cell < 0 {
-            let complement = !cell;
-            write!(out, " {i}=~{complement}")?;
+// A number from 0 on.
+fn whole(z: i64) -> u64 {
+    if z < 0 {
+        return 0;
+    }
+    z as u64
+}
+
+// A negative number as `~` and its complement: -1 is `~0`.
+fn put_signed(out: &mut [u8], at: usize, z: i64) -> usize {
+    if z < 0 {
+        let to = put(out, at, b'~');
+        return put_decimal(out, to, whole(!z));
+    }
+    put_decimal(out, at, whole(z))
+}
+
+// A cell that is not zero: its place and its value.
+fn put_cell<W: Write>(written: &mut W, out: &mut [u8], at: usize, i: usize, z: i64) -> usize {
+    if z == 0 {
+        return at;
+    }
+    let room = make_room(written, out, at);
+    let to = put_next(out, room, i as u64);
+    let then = put(out, to, b'=');
+    put_signed(out, then, z)
+}
+
+fn put_cells<W: Write>(written: &mut W, out: &mut [u8], from: usize, table: &[i64]) -> usize {
+    let mut at = from;
+    for i in 0..table.len() {
+        at = put_cell(written, out, at, i, table[i]);
+    }
+    at
+}
+
+// The number, and the table's cells that are not zero.
+fn put_table<W: Write>(
+    written: &mut W,
+    out: &mut [u8],
+    at: usize,
+    word: &[u8],
+    number: u32,
+    table: &[i64],
+) -> usize {
+    let to = put_number(out, at, word, number);
+    put_cells(written, out, to, table)
+}
+
+// ---- calls
+fn call<W: Write>(
+    written: &mut W,
+    what: usize,
+    agreement: &[u8],
+    reading: &[u8],
+    table: &mut [i64],
+    out: &mut [u8],
+    at: usize,
+) -> usize {
+    if what == 5 {
+        return put_check(out, at, monitor::check(agreement));
+    }
+    if what == 6 {
+        let number = started_number(monitor::start(agreement, table));
+        return put_table(written, out, at, b"start", number, table);
+    }
+    if what == 7 {
+        let to = put_taken(out, at, monitor::reading(agreement, table, reading));
+        return put_cells(written, out, to, table);
+    }
+    put_forecast(out, at, monitor::forecast(agreement, table))
+}
+
+// Calls on the first n bytes of the agreement's buffer, m of the reading's and k cells of the table's.
+fn call_on<W: Write>(
+    written: &mut W,
+    what: usize,
+    agreement: &[u8],
+    n: usize,
+    reading: &[u8],
+    m: usize,
+    table: &mut [i64],
+    k: usize,
+    out: &mut [u8],
+    at: usize,
+) -> usize {
+    if n <= agreement.len() {
+        if m <= reading.len() {
+            if k <= table.len() {
+                return call(
+                    written,
+                    what,
+                    &agreement[0..n],
+                    &reading[0..m],
+                    &mut table[0..k],
+                    out,
+                    at,
+                );
+            }
         }
     }
-    Ok(())
+    at
+}
+
+// The line of a call on what was given last.
+fn call_line<W: Write>(
+    written: &mut W,
+    what: usize,
+    agreement: &[u8],
+    reading: &[u8],
+    table: &mut [i64],
+    out: &mut [u8],
+    t: Turn,
+) -> usize {
+    let room = make_room(written, out, t.at);
+    let to = call_on(
+        written,
+        what,
+        agreement,
+        t.agreement,
+        reading,
+        t.reading,
+        table,
+        t.table,
+        out,
+        room,
+    );
+    put(out, to, b'\n')
 }
 
 // ---- steps
-
-// The line of a call on what was given last.
-fn call<W: Write>(out: &mut W, what: u8, given: &mut Given) -> io::Result<()> {
-    match what {
-        5 => write_checked(out, monitor::check(&given.agreement))?,
-        6 => {
-            let number = started_number(monitor::start(&given.agreement, &mut given.table));
-            write!(out, "start {number}")?;
-            write_cells(out, &given.table)?;
-        }
-        7 => {
-            let taken = monitor::reading(&given.agreement, &mut given.table, &given.reading);
-            write_taken(out, taken)?;
-            write_cells(out, &given.table)?;
-        }
-        _ => write_foretold(out, monitor::forecast(&given.agreement, &given.table))?,
+fn take_length<R: Read>(input: &mut R, head: &mut [u8]) -> usize {
+    if read_part(input, head, 0, 2) < 2 {
+        return 0;
     }
-    writeln!(out, "")
+    unsigned16(head, 0)
 }
 
-fn read_length<R: Read>(input: &mut R) -> io::Result<u16> {
-    let mut bytes = [0u8; 2];
-    input.read_exact(&mut bytes)?;
-    Ok(u16::from_le_bytes(bytes))
-}
-
-// A length and so many bytes.
-fn read_bytes<R: Read>(alloc: Global, input: &mut R) -> io::Result<Vec<u8>> {
-    let length = read_length(input)?;
-    let mut bytes = vec![in alloc; 0u8; usize::from(length)]?;
-    input.read_exact(&mut bytes)?;
-    Ok(bytes)
-}
-
-// A cell's place and value.
-fn read_cell<R: Read>(input: &mut R, table: &mut [i64]) -> io::Result<()> {
-    let place = usize::from(read_length(input)?);
-    let mut bytes = [0u8; 8];
-    input.read_exact(&mut bytes)?;
-    if place < table.len() {
-        table[place] = i64::from_le_bytes(bytes);
+// A length and so many bytes; answers how many there are.
+fn take_bytes<R: Read>(input: &mut R, head: &mut [u8], buf: &mut [u8]) -> usize {
+    let n = take_length(input, head);
+    if read_part(input, buf, 0, n) < n {
+        return 0;
     }
-    Ok(())
+    n
+}
+
+// A table of zeros; answers its length.
+fn take_table<R: Read>(input: &mut R, head: &mut [u8], table: &mut [i64]) -> usize {
+    for i in 0..table.len() {
+        table[i] = 0;
+    }
+    take_length(input, head)
+}
+
+// The eight bytes after a place as a signed number.
+fn value(cell: &[u8]) -> i64 {
+    let low = unsigned32(cell, 2) as i64;
+    let high = unsigned32(cell, 6) as i64;
+    (high << 32) | low
+}
+
+fn take_cell<R: Read>(input: &mut R, head: &mut [u8], table: &mut [i64]) {
+    if read_part(input, head, 0, 10) < 10 {
+        return;
+    }
+    let i = unsigned16(head, 0);
+    if i < table.len() {
+        table[i] = value(head);
+    }
+}
+
+// A line with the name of the calls that follow.
+fn put_name<W: Write>(written: &mut W, out: &mut [u8], at: usize, name: &[u8], n: usize) -> usize {
+    let room = make_room(written, out, at);
+    let to = put_all(out, room, b"# ");
+    if n <= name.len() {
+        let then = put_all(out, to, &name[0..n]);
+        return put(out, then, b'\n');
+    }
+    to
+}
+
+fn ended(t: Turn) -> Turn {
+    Turn {
+        go: false,
+        agreement: t.agreement,
+        reading: t.reading,
+        table: t.table,
+        at: t.at,
+    }
 }
 
 fn step<R: Read, W: Write>(
-    alloc: Global,
     input: &mut R,
-    out: &mut W,
-    what: u8,
-    given: &mut Given,
-) -> io::Result<()> {
-    match what {
-        1 => given.agreement = read_bytes(alloc, input)?,
-        2 => given.reading = read_bytes(alloc, input)?,
-        3 => {
-            let length = read_length(input)?;
-            given.table = vec![in alloc; 0i64; usize::from(length)]?;
-        }
-        4 => read_cell(input, &mut given.table)?,
-        9 => {
-            let name = read_bytes(alloc, input)?;
-            given.reading = Vec::new(alloc);
-            out.write_all(b"# ")?;
-            out.write_all(&name)?;
-            out.write_all(b"\n")?;
-        }
-        _ => call(out, what, given)?,
+    written: &mut W,
+    head: &mut [u8],
+    agreement: &mut [u8],
+    reading: &mut [u8],
+    table: &mut [i64],
+    out: &mut [u8],
+    t: Turn,
+) -> Turn {
+    let mut next = t;
+    if read_part(input, head, 0, 1) < 1 {
+        return ended(t);
     }
-    Ok(())
+    let what = byte(head, 0);
+    if what == 1 {
+        next.agreement = take_bytes(input, head, agreement);
+    } else if what == 2 {
+        next.reading = take_bytes(input, head, reading);
+    } else if what == 3 {
+        next.table = take_table(input, head, table);
+    } else if what == 4 {
+        take_cell(input, head, table);
+    } else if what == 9 {
+        let n = take_bytes(input, head, reading);
+        next.reading = 0;
+        next.at = put_name(written, out, t.at, reading, n);
+    } else {
+        next.at = call_line(written, what, agreement, reading, table, out, t);
+    }
+    next
 }
 
-// A proved loop has to end, and nothing says that the input does: so there are at most 2^64 - 1 steps.
-fn run<R: Read, W: Write>(alloc: Global, input: &mut R, out: &mut W) -> io::Result<()> {
-    let mut given = Given {
-        agreement: Vec::new(alloc),
-        reading: Vec::new(alloc),
-        table: Vec::new(alloc),
+// A proved loop has to end, and nothing says that the input does: so there are at most 2^64 - 1 turns.
+fn run<R: Read, W: Write>(
+    input: &mut R,
+    written: &mut W,
+    head: &mut [u8],
+    agreement: &mut [u8],
+    reading: &mut [u8],
+    table: &mut [i64],
+    out: &mut [u8],
+) -> usize {
+    let mut t = Turn {
+        go: true,
+        agreement: 0,
+        reading: 0,
+        table: 0,
+        at: 0,
     };
     for _ in 0..u64::MAX {
-        let mut what = [0u8; 1];
-        if input.read(&mut what)? == 0 {
-            break;
+        t = step(input, written, head, agreement, reading, table, out, t);
+        if !t.go {
+            return t.at;
         }
-        step(alloc, input, out, what[0], &mut given)?;
     }
-    Ok(())
+    t.at
 }
 
-fn main(rt: HostRuntime) -> io::Result<()> {
-    let mut input = BufReader::new(rt.alloc(), rt.reader())?;
-    let mut out = BufWriter::new(rt.alloc(), io::writer(&rt))?;
-    run(rt.alloc(), &mut input, &mut out)?;
-    out.flush()
+fn main(rt: HostRuntime) {
+    let mut input = rt.reader();
+    let mut written = io::writer(&rt);
+    let mut head = [0u8; 10];
+    let mut agreement = [0u8; ROOM];
+    let mut reading = [0u8; ROOM];
+    let mut table = [0i64; MOST_CELLS];
+    let mut out = [0u8; ROOM];
+    let at = run(
+        &mut input,
+        &mut written,
+        &mut head,
+        &mut agreement,
+        &mut reading,
+        &mut table,
+        &mut out,
+    );
+    flush(&mut written, &out, 0, at);
 }
