@@ -16,7 +16,7 @@ use Rattle.watch.specs.Runs.{Opens, Writes}
 use Rattle.watch.specs.declared.Failure.{Failure}
 use Rattle.watch.specs.declared.First.{First}
 use Rattle.watch.proofs.Carried.{front_is}
-use Rattle.watch.proofs.Serving.{appends_then, same_appends, rest_is}
+use Rattle.watch.proofs.Serving.{appends_then, same_appends, rest_of_front}
 
 -- ---- the start's line, and the readings' lines if the start was accepted
 lines_then : Bool → List ℕ → List ℤ → List (List ℕ) → List ℕ
@@ -50,7 +50,7 @@ module _ {s : List ℕ} {cells cells₂ : List ℤ} {out out₂ : List ℕ} {t :
     begun_writes go buf buf₁ takes size size₁ kept (Err why) p = tt
     begun_writes go buf buf₁ takes size size₁ kept (Ok done) p =
         let rest : drop takes (take size buf) ≡ take size₁ buf₁ =
-        ap (drop takes) (sym (front_is buf size)) ∙ rest_is buf takes size ∙ sym kept in
+        ap (drop takes) (sym (front_is buf size)) ∙ rest_of_front buf takes size ∙ sym kept in
         record {
           writes = λ bytes e h.
               let readings = records_of (drop takes (take size buf) ++ bytes) in

@@ -30,8 +30,8 @@ pub same_appends : (a b : Option (List ℕ)) {w v : List ℕ} → w ≡ v → Ap
 same_appends a b e p = subst (Appends a b) e p
 
 -- ---- the bytes that are left at hand
-pub rest_is : (buf : List ℕ) (from size : ℕ) → drop from (part buf 0 size) ≡ part buf from size
-rest_is buf from size = ap (drop from) (front_is buf size) ∙ take_drop from size buf
+pub rest_of_front : (buf : List ℕ) (from size : ℕ) → drop from (part buf 0 size) ≡ part buf from size
+rest_of_front buf from size = ap (drop from) (front_is buf size) ∙ take_drop from size buf
 
 left_goes : (stage : Stage) (s : List ℕ) (cells : List ℤ) (n : ℕ) (rest : List ℕ)
     → left stage s cells n rest ≡ left (stage_after (goes_on stage)) s cells n rest
@@ -63,7 +63,7 @@ turn_serves s cells cells₂ n buf buf₁ buf₂ size size₁ ended out out₂ c
             ap (λ hand. reading_lines s cells n (records_of (hand ++ bytes))) (sym (front_is buf size))
                 ∙ turns.same bytes h
                 ∙ ap (λ l. take t.at out₂ ++ l)
-                (ap (λ hand. left t.stage s cells₂ t.line (hand ++ bytes)) (rest_is buf t.from size ∙ sym kept)
+                (ap (λ hand. left t.stage s cells₂ t.line (hand ++ bytes)) (rest_of_front buf t.from size ∙ sym kept)
                 ∙ ap (left t.stage s cells₂ t.line) w.3
                 ∙ left_goes t.stage s cells₂ t.line rest
                 ∙ ap₂ (λ g m. left (stage_after g) s cells₂ m rest) (sym go) (sym line)),

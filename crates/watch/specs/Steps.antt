@@ -27,8 +27,7 @@ abbrev pub Comes : Bool → List ℕ → Type 0
 Comes ended more = ended ≡ true → more ≡ []
 
 -- ---- readings taken from `input`, of which `from` bytes were taken before: whatever comes after the input, what is
--- put
--- and what is left to write, together, stay the same; and where more input is waited for, no whole record is left
+-- put and what is left to write, together, stay the same; and where more input is waited for, no whole record is left
 pub record Turns (s : List ℕ) (cells cells₂ : List ℤ) (n : ℕ) (input : List ℕ) (ended : Bool) (from : ℕ)
     (out : List ℕ) (at : ℕ) (out₂ : List ℕ) (t : Turn) : Type 0 where
   pub same : (more : List ℕ) → Comes ended more → take at out
