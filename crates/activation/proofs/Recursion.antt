@@ -1,7 +1,7 @@
 -- Laws for the recursion: what each activation within another is promised, that its weight falls, and what its answer
 -- says of the whole.
 use mathlib.Core.Path.{◌≡◌, refl, sym, ap, ◌∙◌, subst}
-use mathlib.Core.List.{List, [], ◌++◌}
+use mathlib.Core.List.{List, ◌++◌}
 use Prim.Native.Nat.{ℕ, ◌+◌, ◌-◌, ◌*◌, ◌^◌, ◌≤◌, ◌<◌}
 use native.Mathlib.Omega.{arith}
 use lib.IntN.{ℤ, pos}
@@ -9,103 +9,51 @@ use lib.Signed.{mag}
 use lib.ListN.{length, take, drop, length-append, length-drop}
 use lib.Seq.{drop_at, take_at}
 use Rattle.arith.proofs.Ints.{seen, read! }
-use Rattle.arith.proofs.Lists.{length_part}
-use Rattle.csl.specs.Bytes.{byte, part}
 use Rattle.csl.specs.Syntax.{Join}
 use Rattle.cells.specs.Reduce as cells
+use Rattle.kinds.specs.Kinds.{wait_number}
+use Rattle.kinds.specs.declared.WaitKind.{WaitKind}
+use Rattle.kinds.specs.declared.WaitKind.TheVariants.{Obligation, Choice}
 use Rattle.residues.specs.Reduces.{Stands, Is, Sides, JoinIs, room_left, farthest}
 use Rattle.residues.specs.Tallies.{Reckons, Makes, MakesOne, JoinTallies}
-use Rattle.activation.specs.Leads.{Ready, Fits, inner_site, weight}
+use Rattle.activation.specs.Leads.{inner_site, StandsAt, does, reckon_at}
+use Rattle.activation.specs.Leads.{Follows, weight}
 use Rattle.residues.specs.declared.Reduced.{Reduced}
 use Rattle.residues.specs.declared.Reduced.TheVariants.{Done, Breach, Running}
 use Rattle.residues.specs.declared.Reckoned.{Reckoned}
 use Rattle.residues.specs.declared.Tally.{Tally}
 use Rattle.waits.specs.declared.Event.{Event}
-use Rattle.waits.specs.declared.Step.TheVariants.{Activate, Follow}
-use Rattle.activation.specs.declared.Site.{Site}
+use Rattle.waits.specs.declared.Event.TheVariants.{Activate, Forecast, Follow}
+use denote.Ref.{Bor}
+use Rattle.readings.specs.declared.reading.Reading.{Reading}
+use Rattle.activation.specs.declared.sites.Site.{Site}
+use Rattle.activation.specs.declared.sites.Clause.{Clause as Here}
 use Rattle.residues.proofs.Reduces.{is_done, is_breach, is_running}
 
--- ---- a part of the clause
-module _ {places ag : List ℕ} {e : Event} {rs : List ℤ} {t : Site} {ps vs : List ℤ} (r : Ready places ag e rs t ps vs)
-    {w : Site} (x : ℕ) {b : ℕ} (ew : w ≡ inner_site t x b) (deep : 1 ≤ t.depth) where
-  pub ready_within : b ≤ t.a + 2_000_000_000 → Ready places ag e rs w ps vs
-  ready_within soon = rw ew (record {
-    indexed = r.indexed;
-    few = r.few;
-    params = r.params;
-    values = r.values;
-    reading = r.reading;
-    shallow = omega (arith, r.shallow);
-    soon = omega (arith, r.soon);
-    dated = r.dated;
-  })
+-- ---- what falls
+module _ (e : Event) (t : Site) {w : Site} where
+  pub lighter_within : (x b : ℕ) → w ≡ inner_site t x b → (n m : ℕ) → n < m → weight e w n < weight e t m
+  lighter_within x b ew n m h = rw ew (omega arith)
 
-  pub lighter_within : (n m : ℕ) → n < m → weight e w n < weight e t m
-  lighter_within n m h = rw ew (omega arith)
+-- what follows a reading is heavier than what takes none
+pub heavy : {e : Event} {r : Bor Reading} → e ≡ Follow r → (t : Site) (n : ℕ) → 64 * (farthest + 1) ≤ weight e t n
+heavy q t n = rw q (omega arith)
 
-pub fits_within : {ag : List ℕ} {t : Site} {s : List ℕ} {out : List ℤ} → Fits ag t s out → {w : Site} {x y b : ℕ}
-    → w ≡ inner_site t x b → x ≤ y → y ≤ length s → {o : List ℤ} → length o ≤ length out → Fits ag w (part s x y) o
-fits_within {s = s} f {x = x} {y = y} ew h i l = rw ew (record {
-  inside = omega (arith, f.inside, length_part s x y i);
-  near = f.near;
-  room = omega (arith, f.room);
-})
+-- what follows has a reading
+pub follows_some : (e : Event) → Follows e → ((r : Bor Reading) → e ≡ Follow r → ⊥) → ⊥
+follows_some Activate f n = f
+follows_some Forecast f n = f
+follows_some (Follow r) f n = n r refl
 
--- ---- a `then`
-abbrev first_event : Event → Event
-first_event e = record { step = Activate; time = e.time; tag = e.tag }
+-- a unit's sort is a small number
+pub few_sorts : (sort : WaitKind) → wait_number sort ≤ farthest
+few_sorts Obligation = omega arith
+few_sorts Choice = omega arith
 
-abbrev then_site : Site → ℕ → ℕ → ℕ → Site
-then_site t x a n = record { below = n; place = t.place + x; a = a; depth = t.depth - 1 }
-
-module _ {places ag : List ℕ} {e : Event} {rs : List ℤ} {t : Site} {ps vs : List ℤ} (r : Ready places ag e rs t ps vs)
-    {f : Event} {w : Site} (x : ℕ) {n : ℕ} (ef : f ≡ first_event e) (ew : w ≡ then_site t x e.time n)
-    (en : n ≡ byte ag 10) (deep : 1 ≤ t.depth) where
-  pub ready_then : {us : List ℤ} → length us ≤ 16 → Ready places ag f rs w ps us
-  ready_then few = rw (ef, ew) (record {
-    indexed = r.indexed;
-    few = omega arith;
-    params = r.params;
-    values = few;
-    reading = r.reading;
-    shallow = omega (arith, r.shallow);
-    soon = omega (arith, r.dated, r.shallow, r.indexed.few_templates);
-    dated = r.dated;
-  })
-
-  pub lighter_then : e.step ≡ Follow → (n m : ℕ) → n ≤ farthest → weight f w n < weight e t m
-  lighter_then h n m few = rw (ef, ew, h) (omega (arith, r.indexed.few_templates))
-
-pub fits_then : {ag : List ℕ} {t : Site} {s : List ℕ} {out : List ℤ} → Fits ag t s out → {w : Site} {x y b n : ℕ}
-    → w ≡ then_site t x b n → x ≤ y → y ≤ length s → {o : List ℤ} → length o ≤ length out → Fits ag w (part s x y) o
-fits_then {s = s} f {x = x} {y = y} ew h i l = rw ew (record {
-  inside = omega (arith, f.inside, length_part s x y i);
-  near = f.near;
-  room = omega (arith, f.room);
-})
-
--- ---- a template's body
-module _ {places ag : List ℕ} {e : Event} {rs : List ℤ} {t : Site} {ps vs : List ℤ} (r : Ready places ag e rs t ps vs)
-    {w : Site} {k p : ℕ} (ew : w ≡ record {
-      below = k;
-      place = p;
-      a = t.a;
-      depth = 22;
-    }) (less : k < t.below) where
-  pub ready_body : {qs us : List ℤ} → length qs ≤ 4 → length us ≤ 16 → Ready places ag e rs w qs us
-  ready_body few fewer = rw ew (record {
-    indexed = r.indexed;
-    few = omega (arith, r.few);
-    params = few;
-    values = fewer;
-    reading = r.reading;
-    shallow = omega arith;
-    soon = omega (arith, r.soon);
-    dated = r.dated;
-  })
-
-  pub lighter_body : (n : ℕ) → n ≤ farthest → weight e w n < weight e t 0
-  lighter_body n few = rw ew (omega arith)
+-- what a clause at its site does
+pub stood : (e : Event) {ag : List ℕ} {t : Site} {s : List ℕ} {ps vs : List ℤ} {c : Here} → StandsAt ag t s ps vs c
+    → does e c ≡ reckon_at e ag t s ps vs
+stood e h = rw (h.agreement, h.site, h.bytes, h.params, h.values)
 
 -- ---- what an answer within says of the whole
 pub reckons_as : {x y : cells.Reckoned} {r : Reckoned} {o : List ℤ} → x ≡ y → Reckons y r o → Reckons x r o
@@ -186,12 +134,3 @@ reckons_laid o₁ o₂ {r} e ee he l₂ room i t {x} {y} hx hy = record {
       (laid o₁ o₂ r.outcome e ee he l₂ room x.outcome y.outcome hx.outcome hy.outcome);
   tally = t.is x.tally y.tally hx.tally hy.tally;
 }
-
-pub fits_body : {ag : List ℕ} {t : Site} {out : List ℤ} → Fits ag t [] out → {w : Site} {k x y a : ℕ}
-    → w ≡ record { below = k; place = x; a = a; depth = 22 } → x ≤ y → y ≤ length ag → {o : List ℤ}
-    → length o ≤ length out → Fits ag w (part ag x y) o
-fits_body {ag = ag} f {x = x} {y = y} ew h i l = rw ew (record {
-  inside = omega (arith, length_part ag x y i);
-  near = f.near;
-  room = omega (arith, f.room);
-})

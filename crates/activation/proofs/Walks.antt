@@ -1,35 +1,31 @@
 -- Laws of the rules as the code knows things: what each clause leads to.
 use mathlib.Core.Path.{◌≡◌, refl, sym, ap, ◌∙◌, subst}
 use mathlib.Core.Bool.{Bool, true, false, cond, ◌&&◌}
-use mathlib.Core.List.{List, ◌++◌}
+use mathlib.Core.List.{List}
 use mathlib.Core.Option.{Option, none, some}
 use Prim.Native.Nat.{ℕ, zero, suc, ◌+◌, ◌-◌, ◌≤◌, ◌<◌}
 use native.Mathlib.Nat.{add_comm}
 use native.Mathlib.Omega.{arith}
 use native.Mathlib.Decide.{dec_le}
-use lib.IntN.{ℤ, pos, ◌-ℤ◌}
+use lib.IntN.{ℤ, pos}
 use lib.Dec.{eqb}
-use lib.ListN.{length, take, drop}
-use lib.Seq.{drop_at, take-append-le, take-take, length-take-le}
-use borrow.Rule.Slice.PartMut.{put_mid}
+use lib.ListN.{length}
 use borrow.Author.Tests.{ne_eqb, eq-eqb}
 use Rattle.laws.proofs.Clash.{impossible}
 use Rattle.arith.specs.Near.{Near}
 use Rattle.arith.proofs.Ints.{seen, read}
 use Rattle.arith.proofs.Numbers.{held_fits}
-use Rattle.arith.proofs.Lists.{length_part, part_part, tail_put}
-use Rattle.octets.proofs.Bytes.{record_end_within, record_end_after}
-use Rattle.records.specs.Index.{Indexed, template_place, piece_at, head_at, body_from, body_to}
-use Rattle.records.proofs.Index.{piece, heads_at, templates_at, templates_length, template_within}
+use Rattle.records.specs.Index.{Lists, template_place, head_at, body_from, body_bytes}
+use Rattle.records.proofs.Index.{piece, heads_at, templates_at, templates_length, body_there, body_is}
 use Rattle.csl.specs.Lists.{at}
 use Rattle.csl.specs.Numbers.{Held, later_of}
 use Rattle.csl.specs.Bytes.{byte, part, is_record, kind_number, record_end}
-use Rattle.csl.specs.Syntax.{Expr, Join, and, or, Clause, bad_clause, Wait, Template, Head}
+use Rattle.csl.specs.Syntax.{Expr, and, or, Clause, bad_clause, Wait, Template, Head}
+use Rattle.csl.specs.Syntax as syntax
 use Rattle.csl.specs.Decode.{ClauseKind, clause_kind, expr, wait_at, wait_end, clause, clause_body, instance_of}
 use Rattle.csl.specs.Decode.{heads_of}
-use Rattle.csl.specs.Decode.{arguments, records_end, if_kind, obligation_kind, choice_kind, instance_kind}
-use Rattle.laws.specs.Joins.{join_of}
-use Rattle.csl.specs.Decode.{body_place, body_of, template_of}
+use Rattle.csl.specs.Decode.{arguments, records_end, if_kind, obligation_kind, choice_kind, instance_kind, join_kind}
+use Rattle.csl.specs.Decode.{body_of, template_of}
 use Rattle.csl.specs.Cost.{Tally, both_at_once, tally_join, nothing_yet, one_more}
 use Rattle.cells.specs.Evaluate.{eval_cells, evals_cells, is_true_cell}
 use Rattle.cells.specs.Reduce as cells
@@ -37,15 +33,20 @@ use Rattle.cells.proofs.Unfolds.{unfold_at, unfold_past}
 use Rattle.cells.specs.Reduce.{Mode, activating, fate, waits, late, taken, last_of, then_values, blamed_cells}
 use Rattle.cells.specs.Reduce.{blame_bits}
 use Rattle.records.proofs.Trees.{clause_zero, clause_none, clause_at_lem, kind_no_clause_low, kind_no_clause_high}
-use Rattle.records.proofs.Trees.{kind_fulfilled, kind_join}
-use Rattle.waits.specs.Fates.{mode_of, mode_at, FateIs}
+use Rattle.records.proofs.Trees.{kind_fulfilled}
+use denote.Ref.{Bor}
+use Rattle.kinds.specs.Kinds.{join_in, join_number}
+use Rattle.kinds.specs.declared.Join.{Join}
+use Rattle.kinds.specs.declared.Join.TheVariants.{And, Or}
+use Rattle.kinds.specs.declared.WaitKind.TheVariants.{Obligation, Choice}
+use Rattle.readings.specs.declared.reading.Reading.{Reading}
+use Rattle.waits.specs.Fates.{mode_at, FateIs}
 use Rattle.residues.specs.Tallies.{ended_by}
-use Rattle.activation.specs.Leads.{Leads, Shaped, Outlined, Acting, Ended, reckon_at, reckon_below, body_in}
+use Rattle.activation.specs.Leads.{Leads, Shaped, Outlined, Acting, Told, Ended, reckon_at, reckon_below, body_in}
 use Rattle.activation.specs.Leads.{templates_of}
 use Rattle.waits.specs.declared.Event.{Event}
-use Rattle.activation.specs.declared.Site.{Site}
-use Rattle.waits.specs.declared.Step.{Step}
-use Rattle.waits.specs.declared.Step.TheVariants.{Activate, Forecast, Follow}
+use Rattle.activation.specs.declared.sites.Site.{Site}
+use Rattle.waits.specs.declared.Event.TheVariants.{Activate, Forecast, Follow}
 use Rattle.waits.specs.declared.Fate.{Fate}
 use Rattle.waits.specs.declared.Fate.TheVariants.{Waits as WaitsOn, Late, Taken}
 use Rattle.activation.specs.declared.Next.{Next}
@@ -72,72 +73,68 @@ module _ (m : Mode) (vs : List ℤ) (a : ℕ) (w : Wait) {f : Fate} (h : FateIs 
   is_taken e = rw e at h
 
 -- only a reading that is followed is taken
-taken_follows : (e : Event) (rs vs : List ℤ) (a : ℕ) (w : Wait) → fate (mode_at e rs) vs a w ≡ taken → e.step ≡ Follow
+taken_follows : (e : Event) (vs : List ℤ) (a : ℕ) (w : Wait) → fate (mode_at e) vs a w ≡ taken
+    → (r : Bor Reading) × (e ≡ Follow r)
 unfolding fate
-taken_follows e rs vs a w f = by_step e.step f
-  where
-    by_step : (s : Step) → fate (mode_of s e.time e.tag rs) vs a w ≡ taken → s ≡ Follow
-    by_step Activate q = impossible cc
-    by_step Forecast q = impossible cc
-    by_step Follow q = refl
+taken_follows Activate vs a w q = impossible cc
+taken_follows Forecast vs a w q = impossible cc
+taken_follows (Follow r) vs a w q = (r, refl)
 
 -- ---- obligations and choices
-module _ (e : Event) (rs : List ℤ) (ag : List ℕ) (below : ℕ) (s : List ℕ) (place : ℕ) (ps vs : List ℤ) (a depth : ℕ)
-    (deep : 1 ≤ depth) (written : List ℤ) where
+module _ (e : Event) (ag : List ℕ) (below : ℕ) (s : List ℕ) (place : ℕ) (ps vs : List ℤ) (a depth : ℕ)
+    (deep : 1 ≤ depth) where
   abbrev wait_of : ℕ → Wait
   wait_of i = wait_at (expr (depth - 1)) place s i
 
   abbrev LeadsTo : ClauseKind → Next → Type 0
-  LeadsTo k r = Leads e rs ag below s place ps vs a depth (body_in ag (depth - 1) place s k) written r
+  LeadsTo k r = Leads e ag below s place ps vs a depth (body_in ag (depth - 1) place s k) r
 
-  pub obligation_waits : fate (mode_at e rs) vs a (wait_of 5) ≡ waits → LeadsTo obligation_kind (Waits 17)
+  pub obligation_waits : fate (mode_at e) vs a (wait_of 5) ≡ waits → LeadsTo obligation_kind (Waits Obligation)
   unfolding Leads reckon_below cells.walk clause_body wait_at
-  obligation_waits f = (rw (f, cells.walk), omega arith)
+  obligation_waits f = rw (f, cells.walk)
 
-  pub obligation_late : fate (mode_at e rs) vs a (wait_of 5) ≡ late → {l t : ℤ} {b : ℕ} → l ≡ last_of vs a (wait_of 5)
+  pub obligation_late : fate (mode_at e) vs a (wait_of 5) ≡ late → {l t : ℤ} {b : ℕ} → l ≡ last_of vs a (wait_of 5)
       → t ≡ pos (later_of a l) → b ≡ blame_bits ps (byte s 4) → LeadsTo obligation_kind (Breaks t b)
   unfolding Leads reckon_below cells.walk clause_body
   obligation_late f {l} el et eb = (later_of a l, rw (f, cells.walk, ← eb, ← el), et)
 
   -- a `then` at c
-  module _ {c z n : ℕ} (o : (c ≤ z) × (z ≤ length s)) (few : n ≤ 16) {l : ℤ} where
-    pub obligation_taken : c ≡ wait_end s 5 → z ≡ length s → fate (mode_at e rs) vs a (wait_of 5) ≡ taken
-        → l ≡ last_of vs a (wait_of 5) → take n written ≡ then_values vs rs (l -ℤ pos e.time)
-        → LeadsTo obligation_kind (Takes c z n)
+  module _ {c z : ℕ} (o : (c ≤ z) × (z ≤ length s)) {l : ℤ} (near : Near (a + 2_000_000_000) l) where
+    pub obligation_taken : c ≡ wait_end s 5 → z ≡ length s → fate (mode_at e) vs a (wait_of 5) ≡ taken
+        → l ≡ last_of vs a (wait_of 5) → LeadsTo obligation_kind (Takes c z l)
     unfolding Leads reckon_below cells.walk cells.on_taken clause_body
-    obligation_taken ec ez f el ew =
-        let w = taken_follows e rs vs a (wait_of 5) f in
+    obligation_taken ec ez f el =
+        let w = taken_follows e vs a (wait_of 5) f in
         record {
-          is = rw (f, cells.walk, w, cells.on_taken, ew, ← el, ec, ez);
+          is = rw (f, cells.walk, w.1, cells.on_taken, ← el, ec, ez);
           order = o.0;
           inside = o.1;
           deep = deep;
-          few = few;
-          follows = w;
+          near = near;
+          follows = rw w.1 tt;
         }
 
-    pub choice_taken : c ≡ wait_end s 4 → z ≡ record_end s c → fate (mode_at e rs) vs a (wait_of 4) ≡ taken
-        → l ≡ last_of vs a (wait_of 4) → take n written ≡ then_values vs rs (l -ℤ pos e.time)
-        → LeadsTo choice_kind (Takes c z n)
+    pub choice_taken : c ≡ wait_end s 4 → z ≡ record_end s c → fate (mode_at e) vs a (wait_of 4) ≡ taken
+        → l ≡ last_of vs a (wait_of 4) → LeadsTo choice_kind (Takes c z l)
     unfolding Leads reckon_below cells.walk cells.on_taken clause_body
-    choice_taken ec ez f el ew =
-        let w = taken_follows e rs vs a (wait_of 4) f in
+    choice_taken ec ez f el =
+        let w = taken_follows e vs a (wait_of 4) f in
         record {
-          is = rw (f, cells.walk, w, cells.on_taken, ew, ← el, ez, ec);
+          is = rw (f, cells.walk, w.1, cells.on_taken, ← el, ez, ec);
           order = o.0;
           inside = o.1;
           deep = deep;
-          few = few;
-          follows = w;
+          near = near;
+          follows = rw w.1 tt;
         }
 
-  pub choice_waits : fate (mode_at e rs) vs a (wait_of 4) ≡ waits → LeadsTo choice_kind (Waits 18)
+  pub choice_waits : fate (mode_at e) vs a (wait_of 4) ≡ waits → LeadsTo choice_kind (Waits Choice)
   unfolding Leads reckon_below cells.walk clause_body wait_at
-  choice_waits f = (rw (f, cells.walk), omega arith)
+  choice_waits f = rw (f, cells.walk)
 
   -- the else at z
   pub choice_late : {c z y b : ℕ} → c ≡ wait_end s 4 → z ≡ record_end s c → y ≡ length s → (4 ≤ z) × (z ≤ y)
-      → fate (mode_at e rs) vs a (wait_of 4) ≡ late → {l : ℤ} → l ≡ last_of vs a (wait_of 4) → (b ≡ later_of a l)
+      → fate (mode_at e) vs a (wait_of 4) ≡ late → {l : ℤ} → l ≡ last_of vs a (wait_of 4) → (b ≡ later_of a l)
       × (b ≤ a + 2_000_000_000) → LeadsTo choice_kind (Lapses z y b)
   unfolding Leads reckon_below cells.walk clause_body
   choice_late ec ez ey o f el eb = record {
@@ -183,26 +180,17 @@ module _ (e : Event) (rs : List ℤ) (ag : List ℕ) (below : ℕ) (s : List ℕ
 
 -- ---- templates
 -- a template's body, by where it stands in the agreement
-module _ {places ag : List ℕ} (x : Indexed places ag) (k : ℕ) (h : k < byte ag 10) where
-  body_is : body_of (heads_of ag) (piece ag (template_place ag k)) ≡ clause (heads_of ag) 22 (body_from ag k)
-      (part ag (body_from ag k) (body_to ag k))
-  unfolding body_of
-  body_is =
-      let t = template_place ag k in
-      let r = record_end ag t in
-      let b = body_place (piece_at ag t) in
-      let tr : t ≤ r = record_end_after ag t (template_within x k) in
-      let l : length (piece_at ag t) ≡ r - t = length_part ag t r (record_end_within ag t) in
-      let f : t + (r - t) ≡ r = omega arith in
-      ap (clause (heads_of ag) 22 (t + b)) (ap (λ n. part (piece_at ag t) b n) l
-      ∙ part_part ag t r b (r - t) (omega arith) ∙ ap (λ n. part ag (t + b) n) f)
+module _ {ag : List ℕ} (x : Lists ag) (k : ℕ) (h : k < byte ag 10) where
+  body_here : body_of (heads_of ag) (piece ag (template_place ag k)) ≡ clause (heads_of ag) 22 (body_from ag k)
+      (body_bytes ag k)
+  body_here = body_is (body_there (x, h)) (heads_of ag)
 
   pub body_below : (m : Mode) (below : ℕ) (ps vs : List ℤ) (a : ℕ) → k < below
       → cells.unfold_below m (cells.activate (templates_of ag)) (templates_of ag) below k ps vs a ≡ reckon_below m ag k
-      (clause (heads_of ag) 22 (body_from ag k) (part ag (body_from ag k) (body_to ag k))) ps vs a
+      (clause (heads_of ag) 22 (body_from ag k) (body_bytes ag k)) ps vs a
   unfolding reckon_below template_of
   body_below m below ps vs a l = unfold_at m (cells.activate (templates_of ag)) (templates_of ag) ps vs a below k l
-      (templates_at ag k h) ∙ ap (λ c. reckon_below m ag k c ps vs a) body_is
+      (templates_at ag k h) ∙ ap (λ c. reckon_below m ag k c ps vs a) body_here
 
 -- ---- instances
 instance_walk : (m : Mode) (ag : List ℕ) (below k : ℕ) (es : List Expr) (bs : List ℕ) (ps vs : List ℤ) (a : ℕ)
@@ -211,68 +199,54 @@ instance_walk : (m : Mode) (ag : List ℕ) (below k : ℕ) (es : List Expr) (bs 
 unfolding reckon_below cells.walk
 instance_walk m ag below k es bs ps vs a = refl
 
-module _ (e : Event) (rs : List ℤ) (ag : List ℕ) (below : ℕ) (s : List ℕ) (place : ℕ) (ps vs : List ℤ) (a d depth : ℕ)
-    (written : List ℤ) where
-  abbrev LeadsOn : Next → Type 0
-  LeadsOn r = Leads e rs ag below s place ps vs a d (body_in ag depth place s instance_kind) written r
+module _ (e : Event) (ag : List ℕ) (below : ℕ) (s : List ℕ) (place : ℕ) (ps vs : List ℤ) (a d : ℕ)
+  where
+    abbrev LeadsOn : Next → Type 0
+    LeadsOn r = Leads e ag below s place ps vs a d (body_in ag (d - 1) place s instance_kind) r
 
-  ends_past : (o : Option Head) → below ≤ byte s 4
-      → reckon_below (mode_at e rs) ag below (instance_of (expr depth) s o) ps vs a ≡ ended_by 1
-  unfolding instance_of reckon_below cells.walk
-  ends_past none h = ended_once
-  ends_past (some hd) h = by_length (eqb (records_end (length hd.values) s 5 + hd.params) (length s))
-    where
-      by_length : (b : Bool) → reckon_below (mode_at e rs) ag below
-          (cond b (Clause.instance (byte s 4) (arguments (expr depth) (length hd.values) s 5)
-          (part s (records_end (length hd.values) s 5) (length s))) bad_clause) ps vs a ≡ ended_by 1
-      by_length true = ap cells.reaches (unfold_past (mode_at e rs) (cells.activate (templates_of ag)) (templates_of ag)
-          (blamed_cells ps (part s (records_end (length hd.values) s 5) (length s)))
-          (evals_cells vs (arguments (expr depth) (length hd.values) s 5)) a below (byte s 4) h) ∙ ended_once
-      by_length false = ended_once
-
-  pub instance_past : {k : ℕ} → k ≡ byte s 4 → below ≤ k → LeadsOn Ends
-  unfolding Leads clause_body
-  instance_past ek h = ends_past (at (heads_of ag) (byte s 4)) (omega arith)
-
-  module _ {places : List ℕ} (x : Indexed places ag) (few : below ≤ byte ag 10) {k n i m : ℕ} (ek : k ≡ byte s 4)
-      (h : k < below) (en : n ≡ length (head_at ag k).values) (ei : i ≡ records_end n s 5)
-      (em : m ≡ (head_at ag k).params) where
-    named : instance_of (expr depth) s (at (heads_of ag) (byte s 4)) ≡ cond (eqb (i + m) (length s))
-        (Clause.instance k (arguments (expr depth) n s 5) (part s i (length s))) bad_clause
-    unfolding instance_of
-    named = let hk : at (heads_of ag) (byte s 4) ≡ some (head_at ag k) = rw (← ek) (heads_at ag k (omega arith)) in
-        rw (hk, em, ei, en, ek)
-
-    pub instance_bad : (i + m ≡ length s → ⊥) → LeadsOn Ends
-    unfolding Leads clause_body reckon_below cells.walk
-    instance_bad f = rw (named, ne_eqb (i + m) (length s) f) ended_once
-
-    pub instance_is : i + m ≡ length s → (g w : List ℤ) → length g ≡ 24 → n ≤ 8
-        → written ≡ put_mid 16 (length g - 16) g w → take n g ≡ evals_cells vs (arguments (expr depth) n s 5)
-        → take (length (part s i (length s))) w ≡ blamed_cells ps (part s i (length s)) → LeadsOn (Unfolds k)
-    unfolding Leads clause_body
-    instance_is f g w lg fn ew eg eb =
-        let p : written ≡ take 16 g ++ w = ew ∙ tail_put 16 g w (omega arith) in
-        let l16 : length (take 16 g) ≡ 16 = length-take-le 16 g (omega arith) in
-        let lm : length (part s i (length s)) ≡ m = length_part s i (length s) (omega arith) ∙ omega arith in
-        let pw : take m (drop 16 written) ≡ blamed_cells ps (part s i (length s)) = ap (λ l. take m (drop 16 l)) p
-        ∙ ap (take m) (drop_at (take 16 g) w 16 l16) ∙ ap (λ j. take j w) (sym lm) ∙ eb in
-        let vw : take n written ≡ evals_cells vs (arguments (expr depth) n s 5) = ap (take n) p
-        ∙ take-append-le n (take 16 g) w (omega arith) ∙ take-take n 16 g (omega arith) ∙ eg in
-        record { is = is pw vw; less = h }
+    ends_past : (o : Option Head) → below ≤ byte s 4
+        → reckon_below (mode_at e) ag below (instance_of (expr (d - 1)) s o) ps vs a ≡ ended_by 1
+    unfolding instance_of reckon_below cells.walk
+    ends_past none h = ended_once
+    ends_past (some hd) h = by_length (eqb (records_end (length hd.values) s 5 + hd.params) (length s))
       where
-        is : take m (drop 16 written) ≡ blamed_cells ps (part s i (length s))
-            → take n written ≡ evals_cells vs (arguments (expr depth) n s 5)
-            → reckon_below (mode_at e rs) ag below (instance_of (expr depth) s (at (heads_of ag) (byte s 4))) ps vs
-            a ≡ cells.reaches (reckon_below (mode_at e rs) ag k (clause (heads_of ag) 22 (body_from ag k)
-            (part ag (body_from ag k) (body_to ag k))) (take (head_at ag k).params (drop 16 written))
-            (take (length (head_at ag k).values) written) a)
-        is pw vw =
-            ap (λ c. reckon_below (mode_at e rs) ag below c ps vs a) (named ∙ rw (eq-eqb (i + m) (length s) f))
-            ∙ instance_walk (mode_at e rs) ag below k (arguments (expr depth) n s 5) (part s i (length s)) ps vs a
-            ∙ ap cells.reaches (body_below x k (omega arith) (mode_at e rs) below
-            (blamed_cells ps (part s i (length s))) (evals_cells vs (arguments (expr depth) n s 5)) a h)
-            ∙ rw (← em, ← en, ← pw, ← vw)
+        by_length : (b : Bool) → reckon_below (mode_at e) ag below
+            (cond b (Clause.instance (byte s 4) (arguments (expr (d - 1)) (length hd.values) s 5)
+            (part s (records_end (length hd.values) s 5) (length s))) bad_clause) ps vs a ≡ ended_by 1
+        by_length true = ap cells.reaches (unfold_past (mode_at e) (cells.activate (templates_of ag))
+            (templates_of ag) (blamed_cells ps (part s (records_end (length hd.values) s 5) (length s)))
+            (evals_cells vs (arguments (expr (d - 1)) (length hd.values) s 5)) a below (byte s 4) h) ∙ ended_once
+        by_length false = ended_once
+
+    pub instance_past : {k : ℕ} → k ≡ byte s 4 → below ≤ k → LeadsOn Ends
+    unfolding Leads clause_body
+    instance_past ek h = ends_past (at (heads_of ag) (byte s 4)) (omega arith)
+
+    module _ (x : Lists ag) (few : below ≤ byte ag 10) (deep : 1 ≤ d) {k n i m : ℕ} (ek : k ≡ byte s 4) (h : k < below)
+        (en : n ≡ length (head_at ag k).values) (ei : i ≡ records_end n s 5) (em : m ≡ (head_at ag k).params) where
+      named : instance_of (expr (d - 1)) s (at (heads_of ag) (byte s 4)) ≡ cond (eqb (i + m) (length s))
+          (Clause.instance k (arguments (expr (d - 1)) n s 5) (part s i (length s))) bad_clause
+      unfolding instance_of
+      named = let hk : at (heads_of ag) (byte s 4) ≡ some (head_at ag k) = rw (← ek) (heads_at ag k (omega arith)) in
+          rw (hk, em, ei, en, ek)
+
+      pub instance_bad : (i + m ≡ length s → ⊥) → LeadsOn Ends
+      unfolding Leads clause_body reckon_below cells.walk
+      instance_bad f = rw (named, ne_eqb (i + m) (length s) f) ended_once
+
+      pub instance_is : m ≤ 4 → i + m ≡ length s → LeadsOn (Unfolds k i)
+      unfolding Leads clause_body
+      instance_is fm f = record {
+        is = ap (λ c. reckon_below (mode_at e) ag below c ps vs a) (named ∙ rw (eq-eqb (i + m) (length s) f))
+            ∙ instance_walk (mode_at e) ag below k (arguments (expr (d - 1)) n s 5) (part s i (length s)) ps vs a
+            ∙ ap cells.reaches (body_below x k (omega arith) (mode_at e) below
+            (blamed_cells ps (part s i (length s))) (evals_cells vs (arguments (expr (d - 1)) n s 5)) a h)
+            ∙ rw en;
+        less = h;
+        deep = deep;
+        inside = omega arith;
+        few = omega arith;
+      }
 
 -- ---- what is activated takes no reading: how a `then` is activated makes no difference
 module _ (th th' : Clause → List ℤ → List ℤ → ℕ → cells.Reckoned)
@@ -349,56 +323,50 @@ then_is ag c ps vs a =
     vs a) (templates_length ag)
 
 -- ---- by the record's kind
--- a record of kind m, with depths left
-pub record Told (s : List ℕ) (depth m : ℕ) : Type 0 where
-  pub deep : 1 ≤ depth
-  pub is_whole : is_record s ≡ true
-  pub kind : m ≡ kind_number s
-
-module _ (e : Event) (rs : List ℤ) (ag : List ℕ) (below : ℕ) (s : List ℕ) (place : ℕ) (ps vs : List ℤ) (a depth : ℕ)
+module _ (e : Event) (ag : List ℕ) (below : ℕ) (s : List ℕ) (place : ℕ) (ps vs : List ℤ) (a depth : ℕ)
   where
-    abbrev does : Clause → cells.Reckoned
-    does c = reckon_below (mode_at e rs) ag below c ps vs a
+    abbrev comes_to : Clause → cells.Reckoned
+    comes_to c = reckon_below (mode_at e) ag below c ps vs a
 
     abbrev here : Clause
     here = clause (heads_of ag) depth place s
 
-    does_bad : ended_by 1 ≡ does bad_clause
+    does_bad : ended_by 1 ≡ comes_to bad_clause
     unfolding reckon_below cells.walk
     does_bad = sym ended_once
 
-    ends_zero : depth ≡ 0 → does here ≡ ended_by 1
-    ends_zero h = sym (clause_zero does (heads_of ag) depth place s h does_bad)
+    ends_zero : depth ≡ 0 → comes_to here ≡ ended_by 1
+    ends_zero h = sym (clause_zero comes_to (heads_of ag) depth place s h does_bad)
 
-    ends_none : (depth ≡ 0 → ⊥) → is_record s ≡ false → does here ≡ ended_by 1
-    ends_none n h = sym (clause_none does (heads_of ag) depth place s n refl h does_bad)
+    ends_none : (depth ≡ 0 → ⊥) → is_record s ≡ false → comes_to here ≡ ended_by 1
+    ends_none n h = sym (clause_none comes_to (heads_of ag) depth place s n refl h does_bad)
 
     module _ {m : ℕ} (t : Told s depth m) where
       clause_is : {k : ClauseKind} → clause_kind m ≡ k → body_in ag (depth - 1) place s k ≡ here
       clause_is {k} q = clause_at_lem (λ c. c) (heads_of ag) depth place s (λ z. omega (arith, t.deep)) refl t.is_whole
           t.kind (ap (body_in ag (depth - 1) place s) (sym q))
 
-      ends_low : m ≤ 16 → does here ≡ ended_by 1
+      ends_low : m ≤ 16 → comes_to here ≡ ended_by 1
       unfolding reckon_below cells.walk clause_body
       ends_low l = by_number (dec_le m 15)
         where
-          by_length : (t : Bool) → does (cond t Clause.fulfilled bad_clause) ≡ ended_by 1
+          by_length : (t : Bool) → comes_to (cond t Clause.fulfilled bad_clause) ≡ ended_by 1
           by_length true = ended_once
           by_length false = ended_once
 
-          by_number : Dec (m ≤ 15) → does here ≡ ended_by 1
-          by_number (yes p) = ap does (sym (clause_is (kind_no_clause_low m (omega arith)))) ∙ ended_once
-          by_number (no p) = ap does (sym (clause_is (kind_fulfilled {k = m} (omega arith))))
+          by_number : Dec (m ≤ 15) → comes_to here ≡ ended_by 1
+          by_number (yes p) = ap comes_to (sym (clause_is (kind_no_clause_low m (omega arith)))) ∙ ended_once
+          by_number (no p) = ap comes_to (sym (clause_is (kind_fulfilled {k = m} (omega arith))))
               ∙ by_length (eqb (length s) 4)
 
-      ends_high : 23 ≤ m → does here ≡ ended_by 1
+      ends_high : 23 ≤ m → comes_to here ≡ ended_by 1
       unfolding reckon_below cells.walk clause_body
-      ends_high l = ap does (sym (clause_is (kind_no_clause_high m l))) ∙ ended_once
+      ends_high l = ap comes_to (sym (clause_is (kind_no_clause_high m l))) ∙ ended_once
 
     pub leads_body : Acting depth s → {m : ℕ} → m ≡ kind_number s → {k : ClauseKind} → clause_kind m ≡ k
-        → (written : List ℤ) (r : Next) → Leads e rs ag below s place ps vs a depth (body_in ag (depth - 1) place s k)
-        written r → Leads e rs ag below s place ps vs a depth here written r
-    leads_body t em q written r x = subst (λ c. Leads e rs ag below s place ps vs a depth c written r)
+        → (r : Next) → Leads e ag below s place ps vs a depth (body_in ag (depth - 1) place s k) r
+        → Leads e ag below s place ps vs a depth here r
+    leads_body t em q r x = subst (λ c. Leads e ag below s place ps vs a depth c r)
         (clause_is (record { deep = t.deep; is_whole = t.is_whole; kind = em }) q) x
 
 -- the last kind of a clause that acts
@@ -412,48 +380,48 @@ acting_last {s = s} t {m} em f g h = by_number (dec_le m 21)
 
 -- a record of no kind that does anything, at any depth and of any length
 pub ended : (s : List ℕ) {m : ℕ} → m ≡ kind_number s → (17 ≤ m → m < 23 → ⊥) → Ended s
-ended s {m} em f = record { is = λ e rs ag t ps vs. by_depth e rs ag t ps vs t.depth refl }
+ended s {m} em f = record { is = λ e ag t ps vs. by_depth e ag t ps vs t.depth refl }
   where
-    by_record : (e : Event) (rs : List ℤ) (ag : List ℕ) (t : Site) (ps vs : List ℤ) → 1 ≤ t.depth → (b : Bool)
-        → is_record s ≡ b → reckon_at e rs ag t s ps vs ≡ ended_by 1
-    by_record e rs ag t ps vs d false g = ends_none e rs ag t.below s t.place ps vs t.a t.depth
+    by_record : (e : Event) (ag : List ℕ) (t : Site) (ps vs : List ℤ) → 1 ≤ t.depth → (b : Bool)
+        → is_record s ≡ b → reckon_at e ag t s ps vs ≡ ended_by 1
+    by_record e ag t ps vs d false g = ends_none e ag t.below s t.place ps vs t.a t.depth
         (λ z. omega arith) g
-    by_record e rs ag t ps vs d true g = by_number (dec_le m 16) (dec_le 23 m)
+    by_record e ag t ps vs d true g = by_number (dec_le m 16) (dec_le 23 m)
       where
         told : Told s t.depth m
         told = record { deep = d; is_whole = g; kind = em }
 
-        by_number : Dec (m ≤ 16) → Dec (23 ≤ m) → reckon_at e rs ag t s ps vs ≡ ended_by 1
-        by_number (yes p) q = ends_low e rs ag t.below s t.place ps vs t.a t.depth told p
-        by_number (no p) (yes q) = ends_high e rs ag t.below s t.place ps vs t.a t.depth told q
+        by_number : Dec (m ≤ 16) → Dec (23 ≤ m) → reckon_at e ag t s ps vs ≡ ended_by 1
+        by_number (yes p) q = ends_low e ag t.below s t.place ps vs t.a t.depth told p
+        by_number (no p) (yes q) = ends_high e ag t.below s t.place ps vs t.a t.depth told q
         by_number (no p) (no q) = absurd (f (omega arith) (omega arith))
 
-    by_depth : (e : Event) (rs : List ℤ) (ag : List ℕ) (t : Site) (ps vs : List ℤ) (d : ℕ) → t.depth ≡ d
-        → reckon_at e rs ag t s ps vs ≡ ended_by 1
-    by_depth e rs ag t ps vs zero h = ends_zero e rs ag t.below s t.place ps vs t.a t.depth h
-    by_depth e rs ag t ps vs (suc d) h = by_record e rs ag t ps vs (omega arith) (is_record s) refl
+    by_depth : (e : Event) (ag : List ℕ) (t : Site) (ps vs : List ℤ) (d : ℕ) → t.depth ≡ d
+        → reckon_at e ag t s ps vs ≡ ended_by 1
+    by_depth e ag t ps vs zero h = ends_zero e ag t.below s t.place ps vs t.a t.depth h
+    by_depth e ag t ps vs (suc d) h = by_record e ag t ps vs (omega arith) (is_record s) refl
 
 -- ---- what a record shows
 module _ (s : List ℕ) (depth : ℕ) where
   pub shows_zero : depth ≡ 0 → Outlined s depth (Shape.Ends 1)
   unfolding Shaped
-  shows_zero h = λ e rs ag below place ps vs a. (ends_zero e rs ag below s place ps vs a depth h, omega arith)
+  shows_zero h = λ e ag below place ps vs a. (ends_zero e ag below s place ps vs a depth h, omega arith)
 
   pub shows_none : (depth ≡ 0 → ⊥) → is_record s ≡ false → Outlined s depth (Shape.Ends 1)
   unfolding Shaped
-  shows_none n h = λ e rs ag below place ps vs a. (ends_none e rs ag below s place ps vs a depth n h, omega arith)
+  shows_none n h = λ e ag below place ps vs a. (ends_none e ag below s place ps vs a depth n h, omega arith)
 
 pub shows_idle : {s : List ℕ} {depth m : ℕ} → Told s depth m → (17 ≤ m → m < 23 → ⊥) → Outlined s depth (Shape.Ends 1)
 unfolding Shaped
-shows_idle {s} {depth} t f = λ e rs ag below place ps vs a. (
-  (ended s t.kind f).is e rs ag (record { below = below; place = place; a = a; depth = depth }) ps vs,
+shows_idle {s} {depth} t f = λ e ag below place ps vs a. (
+  (ended s t.kind f).is e ag (record { below = below; place = place; a = a; depth = depth }) ps vs,
   omega arith,
 )
 
 pub shows_acts : {s : List ℕ} {depth m : ℕ} → Told s depth m → 17 ≤ m → m < 23 → (20 ≤ m → m < 22 → ⊥)
     → Outlined s depth Shape.Acts
 unfolding Shaped
-shows_acts t l u f = λ e rs ag below place ps vs a. record {
+shows_acts t l u f = λ e ag below place ps vs a. record {
   deep = t.deep;
   is_whole = t.is_whole;
   from = omega (arith, t.kind);
@@ -462,7 +430,7 @@ shows_acts t l u f = λ e rs ag below place ps vs a. record {
 }
 
 -- ---- the two sides of a join
-ended_both : (j : Join) → cells.reaches (cells.joins j (ended_by 1) (ended_by 1)) ≡ ended_by 3
+ended_both : (j : syntax.Join) → cells.reaches (cells.joins j (ended_by 1) (ended_by 1)) ≡ ended_by 3
 unfolding cells.reaches cells.joins cells.joined cells.join_both cells.join_either one_more tally_join both_at_once
     ended_by
 ended_both and = refl
@@ -489,35 +457,36 @@ and_ended : (x : cells.Reckoned) → cells.joins and x (ended_by 1) ≡ cells.jo
 unfolding cells.joins cells.joined cells.join_both ended_by
 and_ended x = rw (and_done x.outcome, and_tally x.tally)
 
--- a clause of kind k with two sides, of which the right one begins at f
-pub record Paired (s : List ℕ) (depth k f : ℕ) : Type 0 where
-  pub told : Told s depth k
-  pub from : 20 ≤ k
-  pub to : k < 22
+join_is : (j : Join) → clause_kind (join_number j) ≡ join_kind (join_in j)
+unfolding clause_kind
+join_is And = refl
+join_is Or = refl
+
+-- a join whose right side begins at f
+pub record Paired (s : List ℕ) (depth : ℕ) (j : Join) (f : ℕ) : Type 0 where
+  pub told : Told s depth (join_number j)
   pub begins : f ≡ record_end s 4
   pub order : 4 ≤ f
   pub inside : f ≤ length s
 
-module _ {s : List ℕ} {depth k f : ℕ} (p : Paired s depth k f) where
-  module _ (e : Event) (rs : List ℤ) (ag : List ℕ) (below place : ℕ) (ps vs : List ℤ) (a : ℕ) where
+module _ {s : List ℕ} {depth : ℕ} {j : Join} {f : ℕ} (p : Paired s depth j f) where
+  module _ (e : Event) (ag : List ℕ) (below place : ℕ) (ps vs : List ℤ) (a : ℕ) where
     abbrev side_site : ℕ → Site
     side_site x = record { below = below; place = place + x; a = a; depth = depth - 1 }
 
     abbrev side : ℕ → ℕ → cells.Reckoned
-    side x y = reckon_at e rs ag (side_site x) (part s x y) ps vs
+    side x y = reckon_at e ag (side_site x) (part s x y) ps vs
 
-    two : reckon_below (mode_at e rs) ag below (clause (heads_of ag) depth place s) ps vs a ≡ cells.reaches
-        (cells.joins (join_of k) (side 4 f) (side f (length s)))
+    two : reckon_below (mode_at e) ag below (clause (heads_of ag) depth place s) ps vs a ≡ cells.reaches
+        (cells.joins (join_in j) (side 4 f) (side f (length s)))
     unfolding reckon_below cells.walk clause_body
-    two = ap (λ c. reckon_below (mode_at e rs) ag below c ps vs a)
-        (sym (clause_is e rs ag below s place ps vs a depth p.told (kind_join k p.from p.to))) ∙ rw p.begins
+    two = ap (λ c. reckon_below (mode_at e) ag below c ps vs a)
+        (sym (clause_is e ag below s place ps vs a depth p.told (join_is j))) ∙ rw p.begins
 
-  pub shows_sides : Outlined s depth (Shape.Joins k f)
+  pub shows_sides : Outlined s depth (Shape.Joins j f)
   unfolding Shaped
-  shows_sides = λ e rs ag below place ps vs a. record {
-    is = two e rs ag below place ps vs a;
-    from = p.from;
-    to = p.to;
+  shows_sides = λ e ag below place ps vs a. record {
+    is = two e ag below place ps vs a;
     order = p.order;
     inside = p.inside;
     deep = p.told.deep;
@@ -525,19 +494,19 @@ module _ {s : List ℕ} {depth k f : ℕ} (p : Paired s depth k f) where
 
   pub shows_both_ended : Ended (part s 4 f) → Ended (part s f (length s)) → Outlined s depth (Shape.Ends 3)
   unfolding Shaped
-  shows_both_ended l r = λ e rs ag below place ps vs a. (
-    two e rs ag below place ps vs a ∙ rw (
-      l.is e rs ag (side_site e rs ag below place ps vs a 4) ps vs,
-      r.is e rs ag (side_site e rs ag below place ps vs a f) ps vs,
-    ) (ended_both (join_of k)),
+  shows_both_ended l r = λ e ag below place ps vs a. (
+    two e ag below place ps vs a ∙ rw (
+      l.is e ag (side_site e ag below place ps vs a 4) ps vs,
+      r.is e ag (side_site e ag below place ps vs a f) ps vs,
+    ) (ended_both (join_in j)),
     omega arith,
   )
 
-  pub shows_right : Ended (part s 4 f) → k ≡ 20 → Outlined s depth (Shape.Goes f (length s))
-  unfolding Shaped join_of
-  shows_right l x = λ e rs ag below place ps vs a. record {
-    is = two e rs ag below place ps vs a
-        ∙ rw (x, l.is e rs ag (side_site e rs ag below place ps vs a 4) ps vs);
+  pub shows_right : Ended (part s 4 f) → j ≡ And → Outlined s depth (Shape.Goes f (length s))
+  unfolding Shaped
+  shows_right l x = λ e ag below place ps vs a. record {
+    is = two e ag below place ps vs a
+        ∙ rw (x, l.is e ag (side_site e ag below place ps vs a 4) ps vs);
     past = p.order;
     order = p.inside;
     inside = omega arith;
@@ -545,12 +514,12 @@ module _ {s : List ℕ} {depth k f : ℕ} (p : Paired s depth k f) where
     soon = omega arith;
   }
 
-  pub shows_left : Ended (part s f (length s)) → k ≡ 20 → Outlined s depth (Shape.Goes 4 f)
-  unfolding Shaped join_of
-  shows_left r x = λ e rs ag below place ps vs a. record {
-    is = two e rs ag below place ps vs a
-        ∙ rw (x, r.is e rs ag (side_site e rs ag below place ps vs a f) ps vs)
-        (ap cells.reaches (and_ended (side e rs ag below place ps vs a 4 f)));
+  pub shows_left : Ended (part s f (length s)) → j ≡ And → Outlined s depth (Shape.Goes 4 f)
+  unfolding Shaped
+  shows_left r x = λ e ag below place ps vs a. record {
+    is = two e ag below place ps vs a
+        ∙ rw (x, r.is e ag (side_site e ag below place ps vs a f) ps vs)
+        (ap cells.reaches (and_ended (side e ag below place ps vs a 4 f)));
     past = omega arith;
     order = p.order;
     inside = p.inside;

@@ -1,25 +1,45 @@
 -- What a clause leads to, as the code says it before it recurs.
-use Rattle.std.specs.Prelude.{◌≡◌, true, List, ℕ, ◌+◌, ◌-◌, ◌*◌, ◌≤◌, ◌<◌, ℤ, pos, length, take, drop}
+use Rattle.std.specs.Prelude.{◌≡◌, true, List, [], ℕ, ◌+◌, ◌-◌, ◌*◌, ◌≤◌, ◌<◌, ℤ, pos, ◌-ℤ◌, length}
 use Rattle.csl.specs.Bytes.{byte, part, is_record, kind_number}
 use Rattle.csl.specs.Syntax.{Clause, Template, and}
-use Rattle.csl.specs.Decode.{ClauseKind, clause_body, clause, expr, heads_of, agreement_of}
-use Rattle.laws.specs.Joins.{join_of}
-use Rattle.records.specs.Index.{Indexed, head_at, body_from, body_to}
+use Rattle.csl.specs.Decode.{ClauseKind, clause_body, clause, expr, heads_of, agreement_of, arguments}
+use Rattle.records.specs.Index.{head_at, body_from, body_bytes}
+use Rattle.arith.specs.Near.{Near}
+use Rattle.cells.specs.Evaluate.{evals_cells}
 use Rattle.cells.specs.Reduce as cells
-use Rattle.cells.specs.Reduce.{Mode, unit_of, joins, reaches, becomes}
+use Rattle.cells.specs.Reduce.{Mode, activating, unit_of, joins, reaches, becomes, then_values, blamed_cells}
+use Rattle.kinds.specs.Kinds.{join_in, wait_number}
+use Rattle.kinds.specs.declared.Join.{Join}
+use Rattle.readings.specs.declared.reading.Reading.{Reading}
 use Rattle.waits.specs.Fates.{mode_at}
+use Rattle.waits.specs.declared.Event.{Event}
+use Rattle.waits.specs.declared.Event.TheVariants.{Activate, Forecast, Follow}
 use Rattle.residues.specs.Reduces.{farthest}
 use Rattle.residues.specs.Tallies.{ended_by}
-use Rattle.waits.specs.declared.Step.{Step}
-use Rattle.waits.specs.declared.Step.TheVariants.{Activate, Forecast, Follow}
-use Rattle.activation.specs.declared.Site.{Site}
-use Rattle.waits.specs.declared.Event.{Event}
+use Rattle.activation.specs.declared.sites.Site.{Site}
+use Rattle.activation.specs.declared.sites.Clause.{Clause as Here}
 use Rattle.activation.specs.declared.Next.{Next}
 use Rattle.activation.specs.declared.Next.TheVariants.{Ends, Breaks, Waits, Picks, Lapses, Takes, Unfolds}
 use Rattle.activation.specs.declared.Shape.{Shape}
 
 abbrev pub templates_of : List ℕ → List Template
 templates_of ag = (agreement_of ag).templates
+
+-- ---- a reading that is followed: its time and its values
+abbrev pub time_of : Event → ℕ
+time_of Activate = 0
+time_of Forecast = 0
+time_of (Follow r) = r.now.time
+
+abbrev pub values_of : Event → List ℤ
+values_of Activate = []
+values_of Forecast = []
+values_of (Follow r) = r.now.values.items
+
+abbrev pub Follows : Event → Type 0
+Follows Activate = ⊥
+Follows Forecast = ⊥
+Follows (Follow r) = Unit {0}
 
 -- the rules, with instances of the templates below n
 unfoldable pub reckon_below : Mode → List ℕ → ℕ → Clause → List ℤ → List ℤ → ℕ → cells.Reckoned
@@ -39,10 +59,10 @@ pub record Acting (depth : ℕ) (s : List ℕ) : Type 0 where
   pub single : 20 ≤ kind_number s → kind_number s < 22 → ⊥
 
 -- what the clause c does, which stands in the record s
-module _ (e : Event) (rs : List ℤ) (ag : List ℕ) (below : ℕ) (s : List ℕ) (place : ℕ) (ps vs : List ℤ) (a depth : ℕ)
+module _ (e : Event) (ag : List ℕ) (below : ℕ) (s : List ℕ) (place : ℕ) (ps vs : List ℤ) (a depth : ℕ)
     (c : Clause) where
   abbrev reckoned : Clause → ℕ → cells.Reckoned
-  reckoned x b = reckon_below (mode_at e rs) ag below x ps vs b
+  reckoned x b = reckon_below (mode_at e) ag below x ps vs b
 
   abbrev inner : ℕ → ℕ → Clause
   inner x y = clause (heads_of ag) (depth - 1) (place + x) (part s x y)
@@ -56,10 +76,8 @@ module _ (e : Event) (rs : List ℤ) (ag : List ℕ) (below : ℕ) (s : List ℕ
     pub deep : 1 ≤ depth
     pub soon : b ≤ a + 2_000_000_000
 
-  pub record HasSides (k f : ℕ) : Type 0 where
-    pub is : reckoned c a ≡ reaches (joins (join_of k) (reckoned (inner 4 f) a) (reckoned (inner f (length s)) a))
-    pub from : 20 ≤ k
-    pub to : k < 22
+  pub record HasSides (j : Join) (f : ℕ) : Type 0 where
+    pub is : reckoned c a ≡ reaches (joins (join_in j) (reckoned (inner 4 f) a) (reckoned (inner f (length s)) a))
     pub order : 4 ≤ f
     pub inside : f ≤ length s
     pub deep : 1 ≤ depth
@@ -68,100 +86,133 @@ module _ (e : Event) (rs : List ℤ) (ag : List ℕ) (below : ℕ) (s : List ℕ
   unfoldable pub Shaped : Shape → Type 0
   Shaped (Shape.Ends n) = (reckoned c a ≡ ended_by n) × (n ≤ 3)
   Shaped (Shape.Goes x y) = GoesOn (λ z. reaches (joins and (ended_by 1) z)) x y a
-  Shaped (Shape.Joins k f) = HasSides k f
+  Shaped (Shape.Joins j f) = HasSides j f
   Shaped Shape.Acts = Acting depth s
 
-  -- `written` is what an arm has written
-  module _ (written : List ℤ) where
-    pub record IsTaken (x y n : ℕ) : Type 0 where
-      pub is : reckoned c a ≡ reaches (becomes
-          (cells.activate (templates_of ag) (inner x y) ps (take n written) e.time))
-      pub order : x ≤ y
-      pub inside : y ≤ length s
-      pub deep : 1 ≤ depth
-      pub few : n ≤ 16
-      pub follows : e.step ≡ Follow
+  -- a `then`, l being the wait's last minute
+  pub record IsTaken (x y : ℕ) (l : ℤ) : Type 0 where
+    pub is : reckoned c a ≡ reaches (becomes (cells.activate (templates_of ag) (inner x y) ps
+        (then_values vs (values_of e) (l -ℤ pos (time_of e))) (time_of e)))
+    pub order : x ≤ y
+    pub inside : y ≤ length s
+    pub deep : 1 ≤ depth
+    pub near : Near (a + 2_000_000_000) l
+    pub follows : Follows e
 
-    pub record IsInstance (k : ℕ) : Type 0 where
-      pub is : reckoned c a ≡ reaches (reckon_below (mode_at e rs) ag k
-          (clause (heads_of ag) 22 (body_from ag k) (part ag (body_from ag k) (body_to ag k)))
-          (take (head_at ag k).params (drop 16 written)) (take (length (head_at ag k).values) written) a)
-      pub less : k < below
+  -- an instance of template k whose parties begin at i
+  pub record IsInstance (k i : ℕ) : Type 0 where
+    pub is : reckoned c a ≡ reaches (reckon_below (mode_at e) ag k
+        (clause (heads_of ag) 22 (body_from ag k) (body_bytes ag k)) (blamed_cells ps (part s i (length s)))
+        (evals_cells vs (arguments (expr (depth - 1)) (length (head_at ag k).values) s 5)) a)
+    pub less : k < below
+    pub deep : 1 ≤ depth
+    pub inside : i ≤ length s
+    pub few : length s ≤ i + 4
 
-    unfoldable pub Leads : Next → Type 0
-    Leads Ends = reckoned c a ≡ ended_by 1
-    Leads (Breaks t b) = (u : ℕ) × (reckoned c a ≡ reaches (cells.broken u b)) × (t ≡ pos u)
-    Leads (Waits k) = (reckoned c a ≡ reaches (cells.waiting (unit_of k place a ps vs))) × (k ≤ 18)
-    Leads (Picks x y) = GoesOn reaches x y a
-    Leads (Lapses x y b) = GoesOn (λ z. reaches (becomes z)) x y b
-    Leads (Takes x y n) = IsTaken x y n
-    Leads (Unfolds k) = IsInstance k
+  unfoldable pub Leads : Next → Type 0
+  Leads Ends = reckoned c a ≡ ended_by 1
+  Leads (Breaks t b) = (u : ℕ) × (reckoned c a ≡ reaches (cells.broken u b)) × (t ≡ pos u)
+  Leads (Waits w) = reckoned c a ≡ reaches (cells.waiting (unit_of (wait_number w) place a ps vs))
+  Leads (Picks x y) = GoesOn reaches x y a
+  Leads (Lapses x y b) = GoesOn (λ z. reaches (becomes z)) x y b
+  Leads (Takes x y l) = IsTaken x y l
+  Leads (Unfolds k i) = IsInstance k i
 
 -- what a record shows by kinds alone, wherever it stands and whatever is in sight
 abbrev pub Outlined : List ℕ → ℕ → Shape → Type 0
-Outlined s depth r = (e : Event) (rs : List ℤ) (ag : List ℕ) (below place : ℕ) (ps vs : List ℤ) (a : ℕ)
-    → Shaped e rs ag below s place ps vs a depth (clause (heads_of ag) depth place s) r
+Outlined s depth r = (e : Event) (ag : List ℕ) (below place : ℕ) (ps vs : List ℤ) (a : ℕ)
+    → Shaped e ag below s place ps vs a depth (clause (heads_of ag) depth place s) r
 
--- ---- what the code is promised: an indexed agreement, few values, and a time so near that no window within is far
-pub record Ready (places ag : List ℕ) (e : Event) (rs : List ℤ) (t : Site) (ps vs : List ℤ) : Type 0 where
-  pub indexed : Indexed places ag
-  pub few : t.below ≤ byte ag 10
-  pub params : length ps ≤ 4
-  pub values : length vs ≤ 16
-  pub reading : length rs ≤ 4
-  pub shallow : t.depth ≤ 23
-  pub soon : t.a + 2_000_000_000 * (32 * t.below + t.depth) ≤ farthest
-  pub dated : e.time ≤ 4_294_967_296
-
--- the record lies within the agreement, and the residue's cells have the room of a table
-pub record Fits (ag : List ℕ) (t : Site) (s : List ℕ) (out : List ℤ) : Type 0 where
-  pub inside : t.place + length s ≤ length ag
-  pub near : length ag ≤ farthest
-  pub room : length out ≤ 3072
-
--- a clause of kind k whose right side begins at f
-pub record Sided (depth n k f : ℕ) : Type 0 where
+-- a record of kind m, with depths left
+pub record Told (s : List ℕ) (depth m : ℕ) : Type 0 where
   pub deep : 1 ≤ depth
-  pub from : 20 ≤ k
-  pub to : k < 22
+  pub is_whole : is_record s ≡ true
+  pub kind : m ≡ kind_number s
+
+-- a clause with two sides, of which the right one begins at f
+pub record Sided (depth n f : ℕ) : Type 0 where
+  pub deep : 1 ≤ depth
   pub order : 4 ≤ f
   pub inside : f ≤ n
 
--- the site of a part that begins at x, and of the body of template k
+-- ---- sites
+-- the site of a part that begins at x, of a `then`, n templates being named, and of the body of template k
 abbrev pub inner_site : Site → ℕ → ℕ → Site
 inner_site t x a = record { below = t.below; place = t.place + x; a = a; depth = t.depth - 1 }
+
+abbrev pub then_site : Site → ℕ → ℕ → ℕ → Site
+then_site t x a n = record { below = n; place = t.place + x; a = a; depth = t.depth - 1 }
 
 abbrev pub body_site : List ℕ → Site → ℕ → Site
 body_site ag t k = record { below = k; place = body_from ag k; a = t.a; depth = 22 }
 
--- what a clause in the record s at a site does
-abbrev pub reckon_at : Event → List ℤ → List ℕ → Site → List ℕ → List ℤ → List ℤ → cells.Reckoned
-reckon_at e rs ag t s ps vs = reckon_below (mode_at e rs) ag t.below (clause (heads_of ag) t.depth t.place s) ps
-    vs t.a
+-- the clause c stands at the site t of the agreement ag, with the bytes s, the party parameters and the values in sight
+pub record StandsAt (ag : List ℕ) (t : Site) (s : List ℕ) (ps vs : List ℤ) (c : Here) : Type 0 where
+  pub agreement : c.agreement.now ≡ ag
+  pub site : c.site ≡ t
+  pub bytes : c.bytes.now ≡ s
+  pub params : c.params.now ≡ ps
+  pub values : c.values.now ≡ vs
 
--- what the two sides of a clause of kind k do, of which the right one begins at f
-abbrev pub sides_reckoned : Event → List ℤ → List ℕ → Site → List ℕ → ℕ → ℕ → List ℤ → List ℤ → cells.Reckoned
-sides_reckoned e rs ag t s k f ps vs = reaches (joins (join_of k)
-    (reckon_at e rs ag (inner_site t 4 t.a) (part s 4 f) ps vs)
-    (reckon_at e rs ag (inner_site t f t.a) (part s f (length s)) ps vs))
+-- ---- what a clause does
+-- in the record s at a site
+abbrev pub reckon_at : Event → List ℕ → Site → List ℕ → List ℤ → List ℤ → cells.Reckoned
+reckon_at e ag t s ps vs = reckon_below (mode_at e) ag t.below (clause (heads_of ag) t.depth t.place s) ps vs t.a
 
--- what the body of template k does, its values at the front of `given` and its parties from cell 16 on
-abbrev pub body_reckoned : Event → List ℤ → List ℕ → Site → ℕ → List ℤ → cells.Reckoned
-body_reckoned e rs ag t k given = reckon_at e rs ag (body_site ag t k) (part ag (body_from ag k) (body_to ag k))
-    (take (head_at ag k).params (drop 16 given)) (take (length (head_at ag k).values) given)
+abbrev pub does : Event → Here → cells.Reckoned
+does e c = reckon_at e c.agreement.now c.site c.bytes.now c.params.now c.values.now
+
+-- what it decodes to, and what it decodes to as of a kind
+abbrev pub clause_at : Here → Clause
+clause_at c = clause (heads_of c.agreement.now) c.site.depth c.site.place c.bytes.now
+
+abbrev pub body_at : Here → ClauseKind → Clause
+body_at c k = body_in c.agreement.now (c.site.depth - 1) c.site.place c.bytes.now k
+
+abbrev pub LeadsFrom : Event → Here → Clause → Next → Type 0
+LeadsFrom e c x r = Leads e c.agreement.now c.site.below c.bytes.now c.site.place c.params.now c.values.now c.site.a
+    c.site.depth x r
+
+-- its part from x to y, at the time a
+abbrev pub part_reckoned : Event → Here → ℕ → ℕ → ℕ → cells.Reckoned
+part_reckoned e c x y a = reckon_at e c.agreement.now (inner_site c.site x a) (part c.bytes.now x y) c.params.now
+    c.values.now
+
+-- its two sides, of which the right one begins at f
+abbrev pub sides_reckoned : Event → Here → Join → ℕ → cells.Reckoned
+sides_reckoned e c j f = reaches (joins (join_in j) (part_reckoned e c 4 f c.site.a)
+    (part_reckoned e c f (length c.bytes.now) c.site.a))
+
+-- its `then` from x to y, l being the wait's last minute
+abbrev pub then_reckoned : Reading → Here → ℕ → ℕ → ℤ → cells.Reckoned
+then_reckoned r c x y l = reckon_below activating c.agreement.now (byte c.agreement.now 10)
+    (clause (heads_of c.agreement.now) (c.site.depth - 1) (c.site.place + x) (part c.bytes.now x y)) c.params.now
+    (then_values c.values.now r.values.items (l -ℤ pos r.time)) r.time
+
+-- the body of template k, the clause being an instance of it whose parties begin at i
+abbrev pub instance_reckoned : Event → Here → ℕ → ℕ → cells.Reckoned
+instance_reckoned e c k i = reckon_at e c.agreement.now (body_site c.agreement.now c.site k)
+    (body_bytes c.agreement.now k)
+    (blamed_cells c.params.now (part c.bytes.now i (length c.bytes.now))) (evals_cells c.values.now
+    (arguments (expr (c.site.depth - 1)) (length (head_at c.agreement.now k).values) c.bytes.now 5))
+
+pub record OfInstance (c : Here) (k i : ℕ) : Type 0 where
+  pub less : k < c.site.below
+  pub deep : 1 ≤ c.site.depth
+  pub inside : i ≤ length c.bytes.now
+  pub few : length c.bytes.now ≤ i + 4
 
 -- there is nothing to do in the record s, wherever it stands
 pub record Ended (s : List ℕ) : Type 0 where
-  pub is : (e : Event) (rs : List ℤ) (ag : List ℕ) (t : Site) (ps vs : List ℤ)
-      → reckon_at e rs ag t s ps vs ≡ ended_by 1
+  pub is : (e : Event) (ag : List ℕ) (t : Site) (ps vs : List ℤ) → reckon_at e ag t s ps vs ≡ ended_by 1
 
 -- a reading that is followed activates a `then` anew, with every template in reach: its step stands before the pair
 -- that falls
-abbrev pub rank : Step → ℕ
+abbrev pub rank : Event → ℕ
 rank Activate = 0
 rank Forecast = 0
-rank Follow = 1
+rank (Follow r) = 1
 
 -- what falls from an activation to those within it: the pair of the template number and the clause's size in bytes
 abbrev pub weight : Event → Site → ℕ → ℕ
-weight e t size = (rank e.step * 64 + t.below) * (farthest + 1) + size
+weight e t size = (rank e * 64 + t.below) * (farthest + 1) + size

@@ -1,66 +1,65 @@
-// What an instance names: its values, its parties, its template's body.
-ghost use Rattle.std.specs.Prelude.{◌≡◌, List, ℕ, ◌+◌, ◌≤◌, ◌<◌, ℤ, length, take};
+// What an instance names: its template's number, its values and its parties.
+ghost use Rattle.std.specs.Prelude.{◌≡◌, ◌+◌, ◌-◌, ◌≤◌, ◌<◌, length};
 ghost use Rattle.csl.specs.Bytes as bytes;
 ghost use Rattle.csl.specs.Decode.{expr, records_end, instance_kind};
 ghost use Rattle.csl.specs.Decode as decode;
 ghost use Rattle.cells.specs.Evaluate.{evals_cells};
-ghost use Rattle.records.specs.Index.{Indexed};
-ghost use Rattle.activation.specs.Leads.{Leads, body_in};
+ghost use Rattle.records.specs.Index.{head_at};
+ghost use Rattle.activation.specs.Leads.{LeadsFrom, body_at};
 ghost use Rattle.waits.specs.declared.Event.{Event};
 
 use crate::Next;
-use crate::blames::blames;
-use arith::lesser;
+use crate::sites::Clause;
+use arrayvec::ArrayVec;
 use evaluation::eval;
 use octets::{byte, record_end};
-use records::{IN_SIGHT, param_count, value_count};
 
-// The values of n expressions that stand one after another from byte 5 of s, and where the last of them ends.
-fn arguments(s: &[u8], n: usize, values: &[i64], depth: usize, cells: &mut [i64]) -> usize
-    requires { n ≤ length cells.old }
-    ensures { (result ≡ records_end n s.now 5)
-        × (take n cells.new ≡ evals_cells values.now
-        (decode.arguments (expr depth) n s.now 5)) × (result ≤ 5 + length s.now) }
+// The most values of an instance.
+const MOST_VALUES: usize = 8;
+
+// Where the last of n expressions ends that stand one after another from byte 5 of s. Their values are no part of the
+// answer: it would be copied with them at each activation.
+fn arguments_end(s: &[u8], n: usize) -> usize
+    ensures { (result ≡ records_end n s.now 5) × (result ≤ 5 + length s.now) }
 {
     let mut at = 5;
-    let mut i = 0;
-    while i < n {
-        let a = lesser(at, s.len());
-        let e = record_end(s, at);
-        let x = eval(&s[a..e], values, depth);
-        cells[i] = x;
-        at = e;
-        i += 1;
+    for _ in 0..n {
+        at = record_end(s, at);
     }
     at
 }
 
-// The template that an instance names, its values at the front of cells and its parties from cell 16 on.
-pub fn instance(
-    agreement: &[u8],
-    places: &[usize],
-    below: usize,
-    s: &[u8],
-    params: &[i64],
-    values: &[i64],
-    depth: usize,
-    cells: &mut [i64],
-) -> Next
-    requires { Indexed places.now agreement.now × (below ≤ bytes.byte agreement.now 10) × (length cells.old ≡ 24) }
-    ensures { (e : Event) (rs : List ℤ) (place a d : ℕ)
-        → Leads e rs agreement.now below s.now place params.now values.now
-        a d (body_in agreement.now depth place s.now instance_kind) cells.new result }
+// The values that the clause gives, an instance of a template.
+pub(crate) fn arguments(clause: &Clause<'_>, template: usize) -> ArrayVec<i64, MOST_VALUES>
+    requires { (1 ≤ clause.now.site.depth) × (template < bytes.byte clause.now.agreement.now 10) }
+    ensures { result.items ≡ evals_cells clause.now.values.now (decode.arguments (expr (clause.now.site.depth - 1))
+        (length (head_at clause.now.agreement.now template).values) clause.now.bytes.now 5) }
 {
-    let k = byte(s, 4);
-    if k >= below {
+    let s = clause.bytes;
+    let depth = clause.site.depth - 1;
+    let mut values = ArrayVec::new();
+    let mut at = 5;
+    for _ in 0..clause.agreement.value_count(template) {
+        let e = record_end(s, at);
+        values.push(eval(&s[at.min(s.len())..e], clause.values, depth));
+        at = e;
+    }
+    values
+}
+
+// The template that an instance names, and where its parties begin.
+pub fn instance(clause: &Clause<'_>) -> Next
+    requires { 1 ≤ clause.now.site.depth }
+    ensures { (e : Event) → LeadsFrom e clause.now (body_at clause.now instance_kind) result }
+{
+    let s = clause.bytes;
+    let template = byte(s, 4);
+    if template >= clause.site.below {
         return Next::Ends;
     }
-    let n = value_count(agreement, places, k);
-    let at = arguments(s, n, values, depth, cells);
-    let m = param_count(agreement, places, k);
-    if at + m != s.len() {
+    let parties = arguments_end(s, clause.agreement.value_count(template));
+    if parties + clause.agreement.param_count(template) != s.len() {
         return Next::Ends;
     }
-    blames(&s[at..], params, &mut cells[IN_SIGHT..]);
-    Next::Unfolds(k)
+    Next::Unfolds { template, parties }
 }

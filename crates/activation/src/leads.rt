@@ -1,40 +1,38 @@
 // What a clause leads to, before anything within it is activated.
-ghost use Rattle.std.specs.Prelude.{◌≡◌, true, List, ℕ, ◌+◌, ◌-◌, ◌≤◌, ℤ, length};
+ghost use Rattle.std.specs.Prelude.{◌≡◌, true, ℕ, ◌+◌, ◌-◌, ◌≤◌, length};
 ghost use Rattle.csl.specs.Numbers.{later_of};
-ghost use Rattle.csl.specs.Decode.{if_kind, obligation_kind, choice_kind, clause, heads_of};
+ghost use Rattle.csl.specs.Decode.{if_kind, obligation_kind, choice_kind};
 ghost use Rattle.arith.specs.Near.{Near};
+ghost use Rattle.kinds.specs.Kinds.{join_number};
 ghost use Rattle.residues.specs.Reduces.{farthest};
-ghost use Rattle.activation.specs.Leads.{Leads, Ready, Outlined, Acting, Ended, body_in};
+ghost use Rattle.activation.specs.Leads.{LeadsFrom, Outlined, Acting, Told, Ended, body_at, clause_at};
 
 use crate::blames::blame_bits;
 use crate::instances::instance;
-use crate::{Next, Shape, Site};
-use arith::later;
+use crate::sites::Clause;
+use crate::{Next, Shape};
 use evaluation::{eval, is_true};
+use kinds::{Join, WaitKind};
 use octets::{byte, is_record, kind, record_end};
 use records::wait_end;
-use residues::AND;
-use waits::{Event, Fate, becomes, then_values};
+use waits::{Event, Fate, becomes};
 
 // The later of a time and a window's last minute, as a time.
 fn moved(a: usize, last: i64) -> usize
     requires { (a ≤ farthest) × Near (a + 2_000_000_000) last }
     ensures { (result ≡ later_of a last) × (result ≤ a + 2_000_000_000) }
 {
-    let t = later(a as i64, last);
-    t as usize
+    (a as i64).max(last) as usize
 }
 
-fn chosen(s: &[u8], values: &[i64], a: usize, depth: usize) -> Next
-    requires { (4 ≤ length s.now) × (1 ≤ depth) }
-    ensures { (e : Event) (rs : List ℤ) (ag : List ℕ) (below place : ℕ) (ps written : List ℤ)
-        → Leads e rs ag below s.now place ps values.now a depth
-        (body_in ag (depth - 1) place s.now if_kind) written result }
+fn chosen(clause: &Clause<'_>) -> Next
+    requires { (4 ≤ length clause.now.bytes.now) × (1 ≤ clause.now.site.depth) }
+    ensures { (e : Event) → LeadsFrom e clause.now (body_at clause.now if_kind) result }
 {
+    let s = clause.bytes;
     let c = record_end(s, 4);
     let f = record_end(s, c);
-    let x = eval(&s[4..c], values, depth - 1);
-    if is_true(x) {
+    if is_true(eval(&s[4..c], clause.values, clause.site.depth - 1)) {
         return Next::Picks { from: c, to: f };
     }
     Next::Picks {
@@ -43,107 +41,61 @@ fn chosen(s: &[u8], values: &[i64], a: usize, depth: usize) -> Next
     }
 }
 
-fn obligation(
-    event: Event,
-    s: &[u8],
-    params: &[i64],
-    values: &[i64],
-    reading: &[i64],
-    a: usize,
-    depth: usize,
-    cells: &mut [i64],
-) -> Next
-    requires { (4 ≤ length s.now) × (1 ≤ depth) × (event.time ≤ farthest) × (a ≤ farthest)
-        × (length values.now ≤ 16) × (length reading.now ≤ 4) × (length cells.old ≡ 24) }
-    ensures { (ag : List ℕ) (below place : ℕ)
-        → Leads event reading.now ag below s.now place params.now
-        values.now a depth (body_in ag (depth - 1) place s.now obligation_kind)
-        cells.new result }
+fn obligation(event: Event<'_>, clause: &Clause<'_>) -> Next
+    requires { (4 ≤ length clause.now.bytes.now) × (1 ≤ clause.now.site.depth) }
+    ensures { LeadsFrom event.entry clause.now (body_at clause.now obligation_kind) result }
 {
-    match becomes(event, s, 5, values, reading, a, depth - 1) {
-        Fate::Waits => Next::Waits(17),
+    let s = clause.bytes;
+    let a = clause.site.a;
+    match becomes(event, s, 5, clause.values, a, clause.site.depth - 1) {
+        Fate::Waits => Next::Waits(WaitKind::Obligation),
         Fate::Late(last) => {
-            let bits = blame_bits(params, byte(s, 4));
-            let t = later(a as i64, last);
+            let bits = blame_bits(clause.params, byte(s, 4));
+            let t = (a as i64).max(last);
             Next::Breaks { at: t, by: bits }
         }
-        Fate::Taken(last) => {
-            let c = wait_end(s, 5);
-            let n = then_values(values, reading, last, event.time, cells);
-            Next::Takes {
-                from: c,
-                to: s.len(),
-                values: n,
-            }
-        }
+        Fate::Taken(last) => Next::Takes {
+            from: wait_end(s, 5),
+            to: s.len(),
+            last,
+        },
     }
 }
 
-fn choice(
-    event: Event,
-    s: &[u8],
-    params: &[i64],
-    values: &[i64],
-    reading: &[i64],
-    a: usize,
-    depth: usize,
-    cells: &mut [i64],
-) -> Next
-    requires { (4 ≤ length s.now) × (1 ≤ depth) × (event.time ≤ farthest) × (a ≤ farthest)
-        × (length values.now ≤ 16) × (length reading.now ≤ 4) × (length cells.old ≡ 24) }
-    ensures { (ag : List ℕ) (below place : ℕ)
-        → Leads event reading.now ag below s.now place params.now
-        values.now a depth (body_in ag (depth - 1) place s.now choice_kind) cells.new
-        result }
+fn choice(event: Event<'_>, clause: &Clause<'_>) -> Next
+    requires { (4 ≤ length clause.now.bytes.now) × (1 ≤ clause.now.site.depth) }
+    ensures { LeadsFrom event.entry clause.now (body_at clause.now choice_kind) result }
 {
-    let fate = becomes(event, s, 4, values, reading, a, depth - 1);
+    let s = clause.bytes;
+    let a = clause.site.a;
+    let fate = becomes(event, s, 4, clause.values, a, clause.site.depth - 1);
     let c = wait_end(s, 4);
     let f = record_end(s, c);
     match fate {
-        Fate::Waits => Next::Waits(18),
+        Fate::Waits => Next::Waits(WaitKind::Choice),
         Fate::Late(last) => Next::Lapses {
             from: f,
             to: s.len(),
             at: moved(a, last),
         },
-        Fate::Taken(last) => {
-            let n = then_values(values, reading, last, event.time, cells);
-            Next::Takes {
-                from: c,
-                to: f,
-                values: n,
-            }
-        }
+        Fate::Taken(last) => Next::Takes {
+            from: c,
+            to: f,
+            last,
+        },
     }
 }
 
-// What the clause that acts in the record s does at a site, before anything within it is activated.
-pub fn leads_to(
-    agreement: &[u8],
-    places: &[usize],
-    event: Event,
-    rs: &[i64],
-    site: Site,
-    s: &[u8],
-    ps: &[i64],
-    vs: &[i64],
-    cells: &mut [i64],
-) -> Next
-    requires { Ready places.now agreement.now event rs.now site ps.now vs.now
-        × Acting site.depth s.now × (length cells.old ≡ 24) }
-    ensures { Leads event rs.now agreement.now site.below s.now
-        site.place ps.now vs.now site.a site.depth
-        (clause (heads_of agreement.now) site.depth site.place s.now) cells.new
-        result }
+// What a clause that acts does, before anything within it is activated.
+pub fn leads_to(event: Event<'_>, clause: &Clause<'_>) -> Next
+    requires { Acting clause.now.site.depth clause.now.bytes.now }
+    ensures { LeadsFrom event.entry clause.now (clause_at clause.now) result }
 {
-    let below = site.below;
-    let a = site.a;
-    let depth = site.depth;
-    match kind(s) {
-        17 => obligation(event, s, ps, vs, rs, a, depth, cells),
-        18 => choice(event, s, ps, vs, rs, a, depth, cells),
-        19 => chosen(s, vs, a, depth),
-        _ => instance(agreement, places, below, s, ps, vs, depth - 1, cells),
+    match kind(clause.bytes) {
+        17 => obligation(event, clause),
+        18 => choice(event, clause),
+        19 => chosen(clause),
+        _ => instance(clause),
     }
 }
 
@@ -151,47 +103,37 @@ pub fn leads_to(
 fn ends(s: &[u8]) -> bool
     ensures { result ≡ true → Ended s.now }
 {
-    match kind(s) {
-        17..=22 => false,
-        _ => true,
+    !matches!(kind(s), 17..=22)
+}
+
+// What a join shows. Two sides with nothing to do are fulfilled, and beside one an `and` does what its other side does.
+// All that is skipped is counted.
+fn sides(s: &[u8], join: Join) -> Shape
+    requires { 4 ≤ length s.now }
+    ensures { (depth : ℕ) → Told s.now depth (join_number join) → Outlined s.now depth result }
+{
+    let f = record_end(s, 4);
+    match (ends(&s[4..f]), ends(&s[f..]), join) {
+        (true, true, _) => Shape::Ends(3),
+        (true, false, Join::And) => Shape::Goes {
+            from: f,
+            to: s.len(),
+        },
+        (false, true, Join::And) => Shape::Goes { from: 4, to: f },
+        _ => Shape::Joins { join, right: f },
     }
 }
 
-// What the record s shows. Two sides with nothing to do are fulfilled, and beside one an `and` does what its other side
-// does. All that is skipped is counted.
+// What the record s shows.
 pub fn outline(s: &[u8], depth: usize) -> Shape
     ensures { Outlined s.now depth result }
 {
-    if depth == 0 {
+    if depth == 0 || !is_record(s) {
         return Shape::Ends(1);
     }
-    if !is_record(s) {
-        return Shape::Ends(1);
-    }
-    let k = kind(s);
-    match k {
-        20..=21 => {
-            let f = record_end(s, 4);
-            let right = ends(&s[f..]);
-            if ends(&s[4..f]) {
-                if right {
-                    return Shape::Ends(3);
-                }
-                if k == AND {
-                    return Shape::Goes {
-                        from: f,
-                        to: s.len(),
-                    };
-                }
-                return Shape::Joins { kind: k, right: f };
-            }
-            if right {
-                if k == AND {
-                    return Shape::Goes { from: 4, to: f };
-                }
-            }
-            Shape::Joins { kind: k, right: f }
-        }
+    match kind(s) {
+        20 => sides(s, Join::And),
+        21 => sides(s, Join::Or),
         17..=22 => Shape::Acts,
         _ => Shape::Ends(1),
     }

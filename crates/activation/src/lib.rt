@@ -4,239 +4,161 @@
 pub mod blames;
 pub mod instances;
 pub mod leads;
+mod parts;
 pub mod sites;
 
-ghost use Rattle.std.specs.Prelude.{◌≡◌, [], ◌+◌, ◌≤◌, ◌<◌, length};
-ghost use Rattle.csl.specs.Bytes.{part};
+ghost use Rattle.std.specs.Prelude.{◌+◌, ◌-◌, ◌≤◌, ◌<◌, length};
+ghost use Rattle.arith.specs.Near.{Near};
 ghost use Rattle.residues.specs.Tallies.{Reckons};
-ghost use Rattle.activation.specs.Leads.{Ready, Fits, Sided, Acting, reckon_at, inner_site, sides_reckoned};
-ghost use Rattle.activation.specs.Leads.{body_reckoned};
+ghost use Rattle.activation.specs.Leads.{Sided, Acting, OfInstance, does, sides_reckoned, then_reckoned};
+ghost use Rattle.activation.specs.Leads.{instance_reckoned};
 
+use crate::blames::blames;
+use crate::instances::arguments;
 use crate::leads::{leads_to, outline};
-use crate::sites::{body_site, inner_site, then_event, then_site};
-use octets::byte;
-use records::{IN_SIGHT, TEMPLATES_AT, body_span, param_count, value_count};
-use residues::tallies::{alone, beside_ended, ended, ended_wait, join_tallies, reached};
+use kinds::{Join, WaitKind};
+use readings::Reading;
+use residues::tallies::join_tallies;
 use residues::{Reckoned, Reduced, join, put_unit, room_left};
-use waits::{Event, SIGHT_CELLS};
+pub use sites::{Clause, Site};
+use waits::{Event, then_values};
 
-// Where a clause is activated: the number that the templates are below which it may name, its byte place, its time,
-// and the depths that are left within it.
-#[derive(Clone, Copy)]
-pub struct Site {
-    pub below: usize,
-    pub place: usize,
-    pub a: usize,
-    pub depth: usize,
-}
+// The most parties of an instance.
+const MOST_PARAMS: usize = 4;
 
 // What a record shows by kinds alone: that there is nothing to do, in so many clauses; an `and` whose one side has
-// nothing to do, and the part of its bytes that is the other; the kind of a join and where its right side begins; a
-// clause that acts.
-#[derive(Clone, Copy)]
+// nothing to do, and the part of its bytes that is the other; a join and where its right side begins; a clause that
+// acts.
+#[derive(Clone, Copy, Debug, PartialEq, Eq)]
 pub enum Shape {
     Ends(usize),
     Goes { from: usize, to: usize },
-    Joins { kind: usize, right: usize },
+    Joins { join: Join, right: usize },
     Acts,
 }
 
 // What a clause that acts leads to: an end, a breach, a waiting unit of a sort; of an `if` the side that is picked, in
 // a part of its bytes; of a late choice the else, in a part of its bytes at a time; a `then` in a part of its bytes,
-// with so many values; a template.
-#[derive(Clone, Copy)]
+// with the wait's last minute; an instance of a template, and where its parties begin.
+#[derive(Clone, Copy, Debug, PartialEq, Eq)]
 pub enum Next {
     Ends,
-    Breaks {
-        at: i64,
-        by: usize,
-    },
-    Waits(usize),
-    Picks {
-        from: usize,
-        to: usize,
-    },
-    Lapses {
-        from: usize,
-        to: usize,
-        at: usize,
-    },
-    Takes {
-        from: usize,
-        to: usize,
-        values: usize,
-    },
-    Unfolds(usize),
+    Breaks { at: i64, by: usize },
+    Waits(WaitKind),
+    Picks { from: usize, to: usize },
+    Lapses { from: usize, to: usize, at: usize },
+    Takes { from: usize, to: usize, last: i64 },
+    Unfolds { template: usize, parties: usize },
 }
 
-// What the clause in the record s becomes at a site; rs, ps and vs are the reading's values, the party parameters and
-// the values in sight. A residue grows downward from the end of out.
-#[cycle(act_activate_both_inside_unfold)]
-pub fn activate(
-    agreement: &[u8],
-    places: &[usize],
-    event: Event,
-    rs: &[i64],
-    site: Site,
-    s: &[u8],
-    ps: &[i64],
-    vs: &[i64],
-    out: &mut [i64],
-) -> Reckoned
-    requires { Ready places.now agreement.now event rs.now site ps.now vs.now × Fits agreement.now site s.now out.old }
-    ensures { Reckons (reckon_at event rs.now agreement.now site s.now
-        ps.now vs.now) result out.new }
+// What a clause becomes. A residue grows downward from the end of out.
+#[cycle(activation)]
+pub fn activate(event: Event<'_>, clause: &Clause<'_>, out: &mut [i64]) -> Reckoned
+    requires { length out.old ≤ 3072 }
+    ensures { Reckons (does event.entry clause.now) result out.new }
 {
-    match outline(s, site.depth) {
-        Shape::Ends(n) => ended(n),
-        Shape::Goes { from: x, to: y } => {
-            let a = site.a;
-            let side = inside(agreement, places, event, rs, site, s, x, y, a, ps, vs, out);
-            beside_ended(side)
+    match outline(clause.bytes, clause.site.depth) {
+        Shape::Ends(n) => Reckoned::ended(n),
+        Shape::Goes { from, to } => {
+            let side = clause.part(from, to, clause.site.a);
+            activate(event, &side, out).beside_ended()
         }
-        Shape::Joins { kind: k, right: f } => {
-            both(agreement, places, event, rs, site, s, k, f, ps, vs, out)
-        }
-        Shape::Acts => act(agreement, places, event, rs, site, s, ps, vs, out),
+        Shape::Joins { join, right } => both(event, clause, join, right, out),
+        Shape::Acts => act(event, clause, out),
     }
 }
 
-// The same of a clause that acts. It alone needs cells, which ends and joins, being many, are spared.
-#[cycle(act_activate_both_inside_unfold)]
-#[tactic(auto, using(residues::proofs::Counts::reckons_bounded))]
-fn act(
-    agreement: &[u8],
-    places: &[usize],
-    event: Event,
-    rs: &[i64],
-    site: Site,
-    s: &[u8],
-    ps: &[i64],
-    vs: &[i64],
-    out: &mut [i64],
-) -> Reckoned
-    requires { Ready places.now agreement.now event rs.now site ps.now vs.now
-        × Fits agreement.now site s.now out.old × Acting site.depth s.now }
-    ensures { Reckons (reckon_at event rs.now agreement.now site s.now
-        ps.now vs.now) result out.new }
+// The same of a clause that acts.
+#[cycle(activation)]
+fn act(event: Event<'_>, clause: &Clause<'_>, out: &mut [i64]) -> Reckoned
+    requires { (length out.old ≤ 3072) × Acting clause.now.site.depth clause.now.bytes.now }
+    ensures { Reckons (does event.entry clause.now) result out.new }
 {
-    let mut cells = [0i64; SIGHT_CELLS];
-    match leads_to(agreement, places, event, rs, site, s, ps, vs, &mut cells) {
-        Next::Ends => ended(1),
-        Next::Breaks { at: t, by: b } => alone(Reduced::Breach { at: t, by: b }),
-        Next::Waits(sort) => alone(put_unit(out, sort, site.place, site.a, ps, vs)),
-        Next::Picks { from: x, to: y } => {
-            let a = site.a;
-            reached(inside(agreement, places, event, rs, site, s, x, y, a, ps, vs, out))
+    let site = clause.site;
+    match leads_to(event, clause) {
+        Next::Ends => Reckoned::ended(1),
+        Next::Breaks { at, by } => Reckoned::alone(Reduced::Breach { at, by }),
+        Next::Waits(sort) => {
+            let sort = usize::from(sort);
+            let unit = put_unit(out, sort, site.place, site.a, clause.params, clause.values);
+            Reckoned::alone(unit)
         }
-        Next::Takes { from, to, values } => {
-            let first = then_event(event);
-            let at = then_site(site, from, event.time, byte(agreement, TEMPLATES_AT));
-            let us = &cells[..values];
-            ended_wait(activate(agreement, places, first, rs, at, &s[from..to], ps, us, out))
+        Next::Picks { from, to } => {
+            let side = clause.part(from, to, site.a);
+            activate(event, &side, out).reached()
         }
-        Next::Lapses { from: x, to, at: a } => {
-            ended_wait(inside(agreement, places, event, rs, site, s, x, to, a, ps, vs, out))
+        Next::Takes { from, to, last } => {
+            let Event::Follow(reading) = event else {
+                unreachable!();
+            };
+            taken(reading, clause, from, to, last, out).ended_wait()
         }
-        Next::Unfolds(k) => reached(unfold(agreement, places, event, rs, site, k, &cells, out)),
+        Next::Lapses { from, to, at } => {
+            let otherwise = clause.part(from, to, at);
+            activate(event, &otherwise, out).ended_wait()
+        }
+        Next::Unfolds { template, parties } => unfold(
+            event, clause, template, parties, out,
+        ).reached(),
     }
-}
-
-// The clause in a part of the record s, at the time a. It stands apart so that `activate` copies no arguments before
-// it knows the shape.
-#[cycle(act_activate_both_inside_unfold)]
-fn inside(
-    agreement: &[u8],
-    places: &[usize],
-    event: Event,
-    rs: &[i64],
-    site: Site,
-    s: &[u8],
-    from: usize,
-    to: usize,
-    a: usize,
-    ps: &[i64],
-    vs: &[i64],
-    out: &mut [i64],
-) -> Reckoned
-    requires { Ready places.now agreement.now event rs.now site ps.now vs.now
-        × Fits agreement.now site s.now out.old × (1 ≤ site.depth)
-        × (from ≤ to) × (to ≤ length s.now) × (a ≤ site.a + 2_000_000_000) }
-    ensures { Reckons (reckon_at event rs.now agreement.now (inner_site site from a)
-        (part s.now from to) ps.now vs.now) result out.new }
-{
-    let inner = inner_site(site, from, a);
-    let t = &s[from..to];
-    activate(agreement, places, event, rs, inner, t, ps, vs, out)
 }
 
 // A clause with two sides, of which the right one begins at f: the right side first, the left side into the cells
 // that are left, the join's unit below both.
-#[cycle(act_activate_both_inside_unfold)]
-fn both(
-    agreement: &[u8],
-    places: &[usize],
-    event: Event,
-    rs: &[i64],
-    site: Site,
-    s: &[u8],
-    kind: usize,
-    f: usize,
-    ps: &[i64],
-    vs: &[i64],
-    out: &mut [i64],
-) -> Reckoned
-    requires { Ready places.now agreement.now event rs.now site ps.now vs.now
-        × Fits agreement.now site s.now out.old × Sided site.depth (length s.now) kind f }
-    ensures { Reckons (sides_reckoned event rs.now agreement.now site s.now kind f
-        ps.now vs.now) result out.new }
+#[cycle(activation)]
+fn both(event: Event<'_>, clause: &Clause<'_>, kind: Join, f: usize, out: &mut [i64]) -> Reckoned
+    requires { (length out.old ≤ 3072) × Sided clause.now.site.depth (length clause.now.bytes.now) f }
+    ensures { Reckons (sides_reckoned event.entry clause.now kind f) result out.new }
 {
-    let at_right = inner_site(site, f, site.a);
-    let r = activate(agreement, places, event, rs, at_right, &s[f..], ps, vs, out);
-    let right = r.outcome;
-    let e = room_left(right, out.len());
-    let at_left = inner_site(site, 4, site.a);
-    let l = activate(
-        agreement,
-        places,
-        event,
-        rs,
-        at_left,
-        &s[4..f],
-        ps,
-        vs,
-        &mut out[..e],
-    );
-    let left = l.outcome;
+    let a = clause.site.a;
+    let right = clause.part(f, clause.bytes.len(), a);
+    let r = activate(event, &right, out);
+    let room = room_left(r.outcome, out.len());
+    let left = clause.part(4, f, a);
+    let l = activate(event, &left, &mut out[..room]);
     let tally = join_tallies(kind, l.tally, r.tally);
     Reckoned {
-        outcome: join(kind, left, right, out),
+        outcome: join(kind, l.outcome, r.outcome, out),
         tally,
     }
 }
 
-// The body of template k, its values at the front of cells and its parties from cell 16 on.
-#[cycle(act_activate_both_inside_unfold)]
-fn unfold(
-    agreement: &[u8],
-    places: &[usize],
-    event: Event,
-    rs: &[i64],
-    site: Site,
-    k: usize,
-    cells: &[i64],
+// The `then` in a part of the clause's bytes: it is activated at the reading's time, and takes no reading.
+#[cycle(activation)]
+#[inline(never)]
+fn taken(
+    reading: &Reading,
+    clause: &Clause<'_>,
+    from: usize,
+    to: usize,
+    last: i64,
     out: &mut [i64],
 ) -> Reckoned
-    requires { Ready places.now agreement.now event rs.now site [] []
-        × Fits agreement.now site [] out.old × (k < site.below) × (length cells.now ≡ 24) }
-    ensures { Reckons (body_reckoned event rs.now agreement.now site k cells.now) result out.new }
+    requires { (length out.old ≤ 3072) × (1 ≤ clause.now.site.depth) × (from ≤ to) × (to ≤ length clause.now.bytes.now)
+        × Near (clause.now.site.a + 2_000_000_000) last }
+    ensures { Reckons (then_reckoned reading.now clause.now from to last) result out.new }
 {
-    let b = body_span(agreement, places, k);
-    let from = b.from;
-    let to = b.to;
-    let inner = body_site(site, k, from);
-    let vs = &cells[..value_count(agreement, places, k)];
-    let ps = &cells[IN_SIGHT..IN_SIGHT + param_count(agreement, places, k)];
-    let s = &agreement[from..to];
-    activate(agreement, places, event, rs, inner, s, ps, vs, out)
+    let values = then_values(clause.values, reading, last);
+    let then = (&*clause).then(from, to, reading.time, &values);
+    activate(Event::Activate, &then, out)
+}
+
+// The body of the template that the clause names, an instance whose parties begin at `parties`. It stands apart so that
+// its values take no room at each activation.
+#[cycle(activation)]
+#[inline(never)]
+fn unfold(
+    event: Event<'_>,
+    clause: &Clause<'_>,
+    template: usize,
+    parties: usize,
+    out: &mut [i64],
+) -> Reckoned
+    requires { (length out.old ≤ 3072) × OfInstance clause.now template parties }
+    ensures { Reckons (instance_reckoned event.entry clause.now template parties) result out.new }
+{
+    let values = arguments(clause, template);
+    let params = blames::<MOST_PARAMS>(&clause.bytes[parties..], clause.params);
+    let body = (&*clause).body(template, &params, &values);
+    activate(event, &body, out)
 }

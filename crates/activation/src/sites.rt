@@ -1,55 +1,34 @@
-// Where a clause is activated, and the sites within it.
-ghost use Rattle.std.specs.Prelude.{◌≡◌, ◌+◌, ◌-◌, ◌≤◌};
+// Where a clause is activated, and what is in sight there.
+ghost use Rattle.std.specs.Prelude.{◌+◌, ◌*◌, ◌≤◌, length};
+ghost use Rattle.csl.specs.Bytes.{byte};
 ghost use Rattle.residues.specs.Reduces.{farthest};
 
-use crate::Site;
-use records::BODY_DEPTH;
-use waits::{Event, Step};
+use records::Agreement;
 
-// The site of a part of a clause that begins at `from`, and of a `then`, which may name any template.
-pub fn inner_site(site: Site, from: usize, a: usize) -> Site
-    requires { (1 ≤ site.depth) × (site.place + from ≤ farthest) }
-    ensures { result ≡ record { below = site.below; place = site.place + from; a = a; depth = site.depth - 1 } }
-{
-    Site {
-        below: site.below,
-        place: site.place + from,
-        a: a,
-        depth: site.depth - 1,
-    }
+// The number that the templates are below which a clause may name, its byte place, its time, and the depths that are
+// left within it.
+#[derive(Clone, Copy, Debug, PartialEq, Eq)]
+pub struct Site {
+    pub below: usize,
+    pub place: usize,
+    pub a: usize,
+    pub depth: usize,
 }
 
-pub fn then_site(site: Site, from: usize, a: usize, below: usize) -> Site
-    requires { (1 ≤ site.depth) × (site.place + from ≤ farthest) }
-    ensures { result ≡ record { below = below; place = site.place + from; a = a; depth = site.depth - 1 } }
-{
-    Site {
-        below: below,
-        place: site.place + from,
-        a: a,
-        depth: site.depth - 1,
-    }
-}
-
-// The site of the body of template k.
-pub fn body_site(site: Site, k: usize, place: usize) -> Site
-    ensures { result ≡ record { below = k; place = place; a = site.a; depth = 22 } }
-{
-    Site {
-        below: k,
-        place: place,
-        a: site.a,
-        depth: BODY_DEPTH,
-    }
-}
-
-// A `then` is activated, and takes no reading.
-pub fn then_event(event: Event) -> Event
-    ensures { result ≡ record { step = Step.Activate; time = event.time; tag = event.tag } }
-{
-    Event {
-        step: Step::Activate,
-        time: event.time,
-        tag: event.tag,
-    }
+// A clause at its site: its bytes, the party parameters and the values in sight. Few of them are in sight, and the time
+// is so near that no window within is far.
+#[derive(Clone, Copy)]
+pub struct Clause<'a> {
+    pub agreement: &'a Agreement<'a>,
+    pub site: Site,
+    pub bytes: &'a [u8],
+    pub params: &'a [i64],
+    pub values: &'a [i64],
+    ghost few: { site.below ≤ byte agreement.now 10 },
+    ghost near: { length agreement.now ≤ farthest },
+    ghost placed: { site.place + length bytes.now ≤ farthest },
+    ghost params_fit: { length params.now ≤ 4 },
+    ghost values_fit: { length values.now ≤ 16 },
+    ghost shallow: { site.depth ≤ 23 },
+    ghost soon: { site.a + 2_000_000_000 * (32 * site.below + site.depth) ≤ farthest },
 }

@@ -1,12 +1,12 @@
 -- Sizes of integers, in ℕ, where omega reads them; and what the machine reads back from an integer's bits.
 use mathlib.Core.Path.{◌≡◌, refl, sym, ap}
 use mathlib.Core.Bool.{cond}
-use Prim.Native.Nat.{ℕ, zero, suc, ◌+◌, ◌-◌, ◌*◌, ◌/◌, ◌^◌, ◌≤◌, ◌<◌}
+use Prim.Native.Nat.{ℕ, zero, suc, ◌+◌, ◌-◌, ◌*◌, ◌^◌, ◌≤◌, ◌<◌}
 use native.Mathlib.Nat.{le_refl}
 use native.Mathlib.Omega.{arith}
 use lib.IntN.{ℤ, pos, negsuc, neg_ℤ, nat_abs, sub_ℕ, ◌+ℤ◌, ◌-ℤ◌, ◌*ℤ◌}
 use lib.Dec.{T, ltb, eqb}
-use lib.Signed.{mag, quot_z, non_neg, ◌≤ℤ◌, yes_non_neg, pos-nat_abs, nat_abs-le}
+use lib.Signed.{mag, non_neg, ◌≤ℤ◌, yes_non_neg, nat_abs-le}
 use borrow.Author.Tests.{ltb-true, ltb-false, eqb-true, eqb-false, eq-eqb, ne_eqb}
 use mir.Syntax.{w64}
 use mir.Val.{Fits, SFits, sel, to_z, of_z}
@@ -34,12 +34,6 @@ abs_mul (pos a) (pos b) = refl
 abs_mul (pos a) (negsuc b) = abs_neg (pos (a * suc b))
 abs_mul (negsuc a) (pos b) = abs_neg (pos (suc a * b))
 abs_mul (negsuc a) (negsuc b) = refl
-
-pub abs_quot : (a b : ℤ) → nat_abs (quot_z a b) ≡ nat_abs a / nat_abs b
-abs_quot (pos a) (pos b) = refl
-abs_quot (pos a) (negsuc b) = abs_neg (pos (a / suc b))
-abs_quot (negsuc a) (pos b) = abs_neg (pos (suc a / b))
-abs_quot (negsuc a) (negsuc b) = refl
 
 mag_abs : (z : ℤ) → mag z ≤ nat_abs z
 mag_abs (pos n) = le_refl n
@@ -93,6 +87,3 @@ eqb_bits (negsuc a) (negsuc b) h k = by (λ t. eqb (2 ^ 64 - suc a) (2 ^ 64 - su
 module _ {z : ℤ} (f : SFits w64 z) (h : pos 0 ≤ℤ z) where
   pub index_asked : T (non_neg (seen z)) × Fits w64 (nat_abs (seen z))
   index_asked = rw (read f) (yes_non_neg h, record { fits = omega (arith, nat_abs-le z f.sfits) })
-
-  pub index_given : pos (nat_abs (seen z)) ≡ z
-  index_given = rw (read f) (pos-nat_abs z (yes_non_neg h))

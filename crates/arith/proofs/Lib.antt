@@ -1,8 +1,7 @@
 -- What the proofs of several crates use.
 pub mod Ints
-pub mod Linear
 pub mod Numbers
 pub mod Quotients
 pub mod Lists
 pub mod Conds
-mod Ranges
+pub mod Ranges

@@ -1,19 +1,24 @@
--- Laws for the range of the language's numbers.
-use mathlib.Core.Path.{◌≡◌, refl, sym}
-use mathlib.Core.Bool.{true, false, false≢true}
-use Prim.Native.Nat.{suc}
+-- The range of the language's numbers, as the machine tests it.
+use mathlib.Core.Path.{◌≡◌, refl}
+use mathlib.Core.Bool.{Bool, ◌&&◌}
 use native.Mathlib.Omega.{arith}
-use borrow.Author.Tests.{le-leb, lt-leb, leb-true, leb-false}
 use lib.IntN.{ℤ, pos, negsuc}
-use lib.Signed.{le_z}
-use Rattle.csl.specs.Numbers.{in_range}
+use Rattle.std.proofs.lemmas.Bool.Decides.{nat_tests}
+use Rattle.std.specs.Ordering.{partial_le, int_cmp, int_eq, as_partial_cmp}
+use Rattle.csl.specs.Numbers.{in_range, eq_z}
 
-pub high_range : (z : ℤ) → le_z (negsuc 999_999_999) z ≡ true → le_z z (pos 1_000_000_000) ≡ in_range z
-unfolding in_range
-high_range (pos n) h = refl
-high_range (negsuc n) h = sym (le-leb (suc n) 1_000_000_000 (omega (arith, leb-true n 999_999_999 h)))
+abbrev at_most : ℤ → ℤ → Bool
+at_most a b = partial_le (as_partial_cmp int_cmp) a b
 
-pub low_range : (z : ℤ) → le_z (negsuc 999_999_999) z ≡ false → false ≡ in_range z
+pub range_is : (z : ℤ) → (at_most (negsuc 999_999_999) z && at_most z (pos 1_000_000_000)) ≡ in_range z
 unfolding in_range
-low_range (pos n) h = absurd (false≢true (sym h))
-low_range (negsuc n) h = sym (lt-leb (suc n) 1_000_000_000 (omega (arith, leb-false n 999_999_999 h)))
+range_is (pos n) = grind (arith, nat_tests)
+range_is (negsuc n) = grind (arith, nat_tests)
+
+-- std's test for equal numbers
+pub equal_is : (a b : ℤ) → int_eq a b ≡ eq_z a b
+unfolding eq_z
+equal_is (pos a) (pos b) = grind (arith, nat_tests)
+equal_is (pos a) (negsuc b) = refl
+equal_is (negsuc a) (pos b) = refl
+equal_is (negsuc a) (negsuc b) = grind (arith, nat_tests)

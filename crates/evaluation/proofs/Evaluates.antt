@@ -2,57 +2,52 @@
 use mathlib.Core.Path.{◌≡◌, refl, sym, ap, ◌∙◌}
 use mathlib.Core.Bool.{Bool, true, false, cond, not}
 use mathlib.Core.List.{List}
-use Prim.Native.Nat.{ℕ, ◌-◌, ◌^◌, ◌≤◌, ◌<◌}
+use Prim.Native.Nat.{ℕ, ◌-◌, ◌≤◌, ◌<◌}
 use native.Mathlib.Omega.{arith}
 use lib.IntN.{ℤ, pos}
 use lib.Dec.{eqb, lit≤}
-use lib.Signed.{mag}
-use lib.ListN.{length, get_or, get_or-eq_default}
-use borrow.Author.Tests.{eq-eqb, ne_eqb, eqb-false, not-true, not-false}
+use lib.ListN.{length, get_or}
+use borrow.Author.Tests.{eq-eqb, ne_eqb, eqb-false, not-false}
 use mir.Syntax.{w64}
-use mir.Val.{SFits, to_z}
+use mir.Val.{to_z, bool_byte}
 use mir.ValLaws.{to_z_pos}
-use Rattle.arith.proofs.Ints.{seen, read, read! }
-use Rattle.arith.proofs.Numbers.{Answer, held_fits}
+use Rattle.arith.proofs.Ints.{seen}
+use Rattle.arith.proofs.Numbers.{held_same}
 use Rattle.octets.proofs.Bytes.{whole_from}
-use Rattle.csl.specs.Numbers.{Held, held, Arithmetic, calculate}
+use Rattle.csl.specs.Numbers.{Held, held, quot}
 use Rattle.csl.specs.Bytes.{byte, signed32, part, is_record, kind_number, record_end}
-use Rattle.csl.specs.Syntax.{Op, Expr, bad_expr}
+use Rattle.csl.specs.Syntax.{Expr, bad_expr, arithmetic}
 use Rattle.csl.specs.Decode.{ExprKind, number_kind, truth_kind, party_kind, variable_kind, expr_kind, expr_body, expr}
 use Rattle.csl.specs.Decode.{of_length}
-use Rattle.cells.specs.Evaluate.{apply_cells, eval_cells}
+use Rattle.cells.specs.Evaluate.{apply_cells, eval_cells, is_true_cell, truth_cell}
 use Rattle.records.proofs.Trees.{expr_zero, expr_none, expr_at, kind_leaf, kind_not, kind_binary, kind_no_expr_low}
 use Rattle.records.proofs.Trees.{kind_no_expr_high}
-use Rattle.records.specs.Kinds.{leaf_kind, op_of}
-use Rattle.evaluation.specs.Parts.{leaf_of, negated_cell}
-
--- ---- what a call's result is, read back
-pub told : {z x : ℤ} → mag z < 2 ^ 63 → (z ≡ x) × Held z → (seen z ≡ x) × Held (seen z)
-told {z} h p = rw (read! h) p
-
-pub told_as : {z x y : ℤ} → mag z < 2 ^ 63 → (z ≡ x) × Held z → x ≡ y → (seen z ≡ y) × Held (seen z)
-told_as h p e = told h (p.0 ∙ e, p.1)
+use Rattle.records.specs.Kinds.{leaf_kind, op_of, arithmetic_of}
+use Rattle.evaluation.specs.Parts.{leaf_of}
 
 pub nought_held : Held (pos 0)
 nought_held = record { bounded = lit≤ tt }
-
-pub one_held : Held (pos 1)
-one_held = record { bounded = lit≤ tt }
 
 -- any cell but 0 is true
 pub true_is : {t b : Bool} → b ≡ t → not b ≡ cond t false true
 true_is {t = true} e = rw e
 true_is {t = false} e = rw e
 
--- an operation by its kind, on cells as the machine reads them back
-module _ (x y : ℤ) (p : SFits w64 x) (q : SFits w64 y) where
-  pub as_op : {o o' : Op} {z : ℤ} → mag z < 2 ^ 63 → (z ≡ apply_cells o (seen x) (seen y)) × Held z → o ≡ o'
-      → (seen z ≡ apply_cells o' x y) × Held (seen z)
-  as_op h r e = told h (rw (← e, ← read p, ← read q) r.0, r.1)
+pub truth_held : (b : Bool) → held (seen (pos (bool_byte b))) ≡ truth_cell b
+unfolding held truth_cell
+truth_held true = refl
+truth_held false = refl
 
-  pub as_arithmetic : {o o' : Arithmetic} {z : ℤ} → mag z < 2 ^ 63 → (z ≡ calculate o (seen x) (seen y)) × Held z
-      → o ≡ o' → Answer o' x y (seen z)
-  as_arithmetic h r e = told h (rw (← e, ← read p, ← read q) r.0, r.1)
+-- the kinds of operators that are no others
+pub other_op : (k : ℕ) → (k ≡ 37 → ⊥) → (k ≡ 38 → ⊥) → (k ≡ 39 → ⊥) → (k ≡ 41 → ⊥) → (k ≡ 42 → ⊥) → (k ≡ 43 → ⊥)
+    → op_of k ≡ arithmetic quot
+unfolding op_of arithmetic_of
+other_op k a b c d e f = rw (ne_eqb k 41 d, ne_eqb k 42 e, ne_eqb k 43 f, ne_eqb k 37 a, ne_eqb k 38 b, ne_eqb k 39 c)
+
+turned : (t : Bool) → truth_cell (not t) ≡ cond t (pos 0) (pos 1)
+unfolding truth_cell
+turned true = refl
+turned false = refl
 
 -- ---- leaves
 module _ (vs : List ℤ) (s : List ℕ) {k : ℕ} where
@@ -96,13 +91,12 @@ module _ (vs : List ℤ) (s : List ℕ) (k : ℕ) where
       by_kind false false = rw (ne_eqb k 32 n, ne_eqb (length s) 5 l)
 
 -- a byte as a cell
-pub byte_held : {b n : ℕ} {x : ℤ} → b ≡ n → b < 256 → pos n ≡ x → (to_z w64 b ≡ x) × Held (to_z w64 b)
-byte_held {b} e l h = rw (to_z_pos w64 b (omega arith)) (ap pos e ∙ h, record { bounded = omega arith })
+pub byte_held : {b n : ℕ} → b ≡ n → b < 256 → held (to_z w64 b) ≡ pos n
+byte_held {b} {n} e l =
+    rw (to_z_pos w64 b (omega arith), e) (sym (held_same (record { bounded = omega arith })))
 
--- a value that is not there
-pub past_held : (vs : List ℤ) (b : ℕ) {n : ℕ} → b ≡ n → length vs ≤ b → pos 0 ≡ held (get_or vs n (pos 0))
-unfolding held
-past_held vs b e l = rw (← e, get_or-eq_default vs (pos 0) l)
+pub nought : held (pos 0) ≡ pos 0
+nought = sym (held_same nought_held)
 
 -- within a leaf there is nothing
 leaf_inner : (inner : List ℕ → Expr) (s : List ℕ) (k : ℕ) → leaf_of s k ≡ expr_body inner s (leaf_kind k)
@@ -117,48 +111,45 @@ leaf_inner inner s k = by_kind (eqb k 32) (eqb k 33) (eqb k 34)
     by_kind false false true = refl
     by_kind false false false = refl
 
--- ---- `eval`
+-- ---- `number`
 -- the code tests that the bytes are no record
 pub room : (s : List ℕ) {b : Bool} → b ≡ is_record s → not b ≡ false → 4 ≤ length s
 room s g h = (whole_from s (sym g ∙ not-false _ h)).room
 
 module _ (vs : List ℤ) (d : ℕ) (s : List ℕ) where
-  pub eval_zero : d ≡ 0 → (pos 0 ≡ eval_cells vs (expr d s)) × Held (pos 0)
+  pub number_zero : d ≡ 0 → pos 0 ≡ eval_cells vs (expr d s)
   unfolding eval_cells
-  eval_zero e = (expr_zero (eval_cells vs) d s e refl, nought_held)
+  number_zero e = expr_zero (eval_cells vs) d s e refl
 
-  pub eval_none : {b : Bool} → (d ≡ 0 → ⊥) → b ≡ is_record s → not b ≡ true → (pos 0 ≡ eval_cells vs (expr d s))
-      × Held (pos 0)
+  pub number_none : {b : Bool} → (d ≡ 0 → ⊥) → b ≡ is_record s → b ≡ false → pos 0 ≡ eval_cells vs (expr d s)
   unfolding eval_cells
-  eval_none n g h = (expr_none (eval_cells vs) d s n g (not-true _ h) refl, nought_held)
+  number_none n g h = expr_none (eval_cells vs) d s n g h refl
 
 module _ (vs : List ℤ) (d : ℕ) (s : List ℕ) {b : Bool} {m : ℕ} (n : d ≡ 0 → ⊥) (g : b ≡ is_record s)
-    (h : not b ≡ false) (k : m ≡ kind_number s) where
-  to : {e : ExprKind} → expr_kind m ≡ e → {z : ℤ} → mag z < 2 ^ 63 → (z ≡ eval_cells vs (expr_body (expr (d - 1)) s e))
-      × Held z → (seen z ≡ eval_cells vs (expr d s)) × Held (seen z)
-  to e f p = told f (expr_at (eval_cells vs) d s n g (not-false _ h) k (rw e p.0), p.1)
+    (h : b ≡ true) (k : m ≡ kind_number s) where
+  to : {e : ExprKind} → expr_kind m ≡ e → {z : ℤ} → z ≡ eval_cells vs (expr_body (expr (d - 1)) s e)
+      → z ≡ eval_cells vs (expr d s)
+  to e p = expr_at (eval_cells vs) d s n g h k (rw e p)
 
-  pub eval_leaf : {z : ℤ} → 32 ≤ m → m < 36 → mag z < 2 ^ 63 → (z ≡ eval_cells vs (leaf_of s m)) × Held z
-      → (seen z ≡ eval_cells vs (expr d s)) × Held (seen z)
-  eval_leaf l u f p = to (kind_leaf m l u) f (p.0 ∙ ap (eval_cells vs) (leaf_inner (expr (d - 1)) s m), p.1)
+  pub number_leaf : {z : ℤ} → 32 ≤ m → m < 36 → z ≡ eval_cells vs (leaf_of s m) → z ≡ eval_cells vs (expr d s)
+  number_leaf l u p = to (kind_leaf m l u) (p ∙ ap (eval_cells vs) (leaf_inner (expr (d - 1)) s m))
 
-  pub eval_not : {x z : ℤ} → m ≡ 36 → (x ≡ eval_cells vs (expr (d - 1) (part s 4 (length s)))) × Held x
-      → mag z < 2 ^ 63 → (z ≡ negated_cell (seen x)) × Held z → (seen z ≡ eval_cells vs (expr d s)) × Held (seen z)
-  unfolding eval_cells expr_body negated_cell
-  eval_not e q f p = to (kind_not e) f (p.0 ∙ ap negated_cell (read (held_fits q.1) ∙ q.0), p.1)
-
-  pub eval_binary : {cut : ℕ} {x y z : ℤ} → 37 ≤ m → m < 44 → cut ≡ record_end s 4
-      → (x ≡ eval_cells vs (expr (d - 1) (part s 4 cut))) × Held x
-      → (y ≡ eval_cells vs (expr (d - 1) (part s cut (length s)))) × Held y → mag z < 2 ^ 63
-      → (z ≡ apply_cells (op_of m) (seen x) (seen y)) × Held z → (seen z ≡ eval_cells vs (expr d s)) × Held (seen z)
+  pub number_not : {x z : ℤ} {t : Bool} → m ≡ 36 → x ≡ eval_cells vs (expr (d - 1) (part s 4 (length s)))
+      → t ≡ is_true_cell x → z ≡ truth_cell (not t) → z ≡ eval_cells vs (expr d s)
   unfolding eval_cells expr_body
-  eval_binary {cut} {x} {y} l u i q r f p = to (kind_binary m l u) f
-      (rw (← i, ← q.0, ← r.0, ← read (held_fits q.1), ← read (held_fits r.1)) p.0, p.1)
+  number_not {x} {t = t} e q r p =
+      to (kind_not e) (p ∙ turned t ∙ rw (r, q) refl)
 
-  pub eval_low : m < 32 → (pos 0 ≡ eval_cells vs (expr d s)) × Held (pos 0)
+  pub number_binary : {cut : ℕ} {x y z : ℤ} → 37 ≤ m → m < 44 → cut ≡ record_end s 4
+      → x ≡ eval_cells vs (expr (d - 1) (part s 4 cut)) → y ≡ eval_cells vs (expr (d - 1) (part s cut (length s)))
+      → z ≡ apply_cells (op_of m) x y → z ≡ eval_cells vs (expr d s)
   unfolding eval_cells expr_body
-  eval_low u = (expr_at (eval_cells vs) d s n g (not-false _ h) k (rw (kind_no_expr_low m u) refl), nought_held)
+  number_binary l u i q r p = to (kind_binary m l u) (rw (← i, ← q, ← r) p)
 
-  pub eval_high : 44 ≤ m → (pos 0 ≡ eval_cells vs (expr d s)) × Held (pos 0)
+  pub number_low : m < 32 → pos 0 ≡ eval_cells vs (expr d s)
   unfolding eval_cells expr_body
-  eval_high l = (expr_at (eval_cells vs) d s n g (not-false _ h) k (rw (kind_no_expr_high m l) refl), nought_held)
+  number_low u = expr_at (eval_cells vs) d s n g h k (rw (kind_no_expr_low m u) refl)
+
+  pub number_high : 44 ≤ m → pos 0 ≡ eval_cells vs (expr d s)
+  unfolding eval_cells expr_body
+  number_high l = expr_at (eval_cells vs) d s n g h k (rw (kind_no_expr_high m l) refl)

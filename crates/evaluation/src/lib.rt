@@ -2,119 +2,90 @@
 #![tactic(auto)]
 
 ghost use Rattle.std.specs.Prelude.{◌≡◌, ◌≤◌};
-ghost use Rattle.csl.specs.Numbers.{Held, calculate};
-ghost use Rattle.csl.specs.Syntax.{conj};
+ghost use Rattle.csl.specs.Numbers.{Held};
 ghost use Rattle.csl.specs.Decode.{expr};
-ghost use Rattle.records.specs.Kinds.{op_of, arithmetic_of};
+ghost use Rattle.records.specs.Kinds.{op_of};
 ghost use Rattle.cells.specs.Evaluate.{eval_cells, apply_cells, is_true_cell, truth_cell};
-ghost use Rattle.evaluation.specs.Parts.{leaf_of, negated_cell};
+ghost use Rattle.evaluation.specs.Parts.{leaf_of};
 
-use arith::{difference, equal, held, less, product, quotient, sum};
+use arith::Number;
 use octets::{byte, is_record, kind, record_end, signed32};
 
 // A truth is any cell but 0.
 pub fn is_true(x: i64) -> bool
     ensures { result ≡ is_true_cell x }
 {
-    !equal(x, 0)
+    x != 0
 }
 
-fn truth_cell(b: bool) -> i64
-    ensures { (result ≡ truth_cell b) × Held result }
+fn holds(x: Number) -> bool
+    ensures { result ≡ is_true_cell x }
 {
-    if b { 1 } else { 0 }
+    is_true(x.get())
 }
 
-fn negated(x: i64) -> i64
-    ensures { (result ≡ negated_cell x) × Held result }
+fn truth(b: bool) -> Number
+    ensures { result ≡ truth_cell b }
 {
-    if is_true(x) { 0 } else { 1 }
-}
-
-fn conjunction(x: i64, y: i64) -> i64
-    ensures { (result ≡ apply_cells conj x y) × Held result }
-{
-    if is_true(x) {
-        truth_cell(is_true(y))
-    } else {
-        0
-    }
-}
-
-fn arithmetic(kind: usize, x: i64, y: i64) -> i64
-    requires { Held x × Held y }
-    ensures { (result ≡ calculate (arithmetic_of kind) x y) × Held result }
-{
-    match kind {
-        37 => sum(x, y),
-        38 => difference(x, y),
-        39 => product(x, y),
-        _ => quotient(x, y),
-    }
+    Number::held(i64::from(b))
 }
 
 // Kinds 37 to 43.
-fn operate(kind: usize, x: i64, y: i64) -> i64
-    requires { Held x × Held y }
-    ensures { (result ≡ apply_cells (op_of kind) x y) × Held result }
+fn operate(kind: usize, x: Number, y: Number) -> Number
+    ensures { result ≡ apply_cells (op_of kind) x y }
 {
     match kind {
-        41 => conjunction(x, y),
-        42 => truth_cell(less(x, y)),
-        43 => truth_cell(equal(x, y)),
-        _ => arithmetic(kind, x, y),
+        37 => x + y,
+        38 => x - y,
+        39 => x * y,
+        41 => truth(holds(x) && holds(y)),
+        42 => truth(x.get() < y.get()),
+        43 => truth(x == y),
+        _ => x / y,
     }
 }
 
 // A number, a truth, a party or a value in sight: kinds 32 to 35.
-fn leaf(s: &[u8], kind: usize, values: &[i64]) -> i64
+fn leaf(s: &[u8], kind: usize, values: &[i64]) -> Number
     requires { 32 ≤ kind }
-    ensures { (result ≡ eval_cells values.now (leaf_of s.now kind)) × Held result }
+    ensures { result ≡ eval_cells values.now (leaf_of s.now kind) }
 {
-    if kind == 32 {
-        if s.len() == 8 {
-            return held(signed32(s, 4));
-        }
-        return 0;
+    match (kind, s.len()) {
+        (32, 8) => Number::held(signed32(s, 4)),
+        (33..=34, 5) => Number::held(byte(s, 4) as i64),
+        (35.., 5) => Number::held(values.get(byte(s, 4)).copied().unwrap_or(0)),
+        _ => Number::held(0),
     }
-    if s.len() != 5 {
-        return 0;
-    }
-    let b = byte(s, 4);
-    if kind < 35 {
-        return b as i64;
-    }
-    if b < values.len() {
-        let v = values[b];
-        return held(v);
-    }
-    0
 }
 
-// The value of an expression, truths being 0 and 1.
-pub fn eval(s: &[u8], values: &[i64], depth: usize) -> i64
-    ensures { (result ≡ eval_cells values.now (expr depth s.now)) × Held result }
+// The same, as the number that it is.
+fn number(s: &[u8], values: &[i64], depth: usize) -> Number
+    ensures { result ≡ eval_cells values.now (expr depth s.now) }
 {
-    if depth == 0 {
-        return 0;
-    }
-    if !is_record(s) {
-        return 0;
+    if depth == 0 || !is_record(s) {
+        return Number::held(0);
     }
     let d = depth - 1;
     let k = kind(s);
     match k {
         32..=35 => leaf(s, k, values),
         36 => {
-            let x = eval(&s[4..], values, d);
-            negated(x)
+            let x = number(&s[4..], values, d);
+            truth(!holds(x))
         }
         37..=43 => {
             let cut = record_end(s, 4);
-            let x = eval(&s[4..cut], values, d);
-            let y = eval(&s[cut..], values, d);
+            let x = number(&s[4..cut], values, d);
+            let y = number(&s[cut..], values, d);
             operate(k, x, y)
         }
-        _ => 0,
+        _ => Number::held(0),
     }
+}
+
+// The value of an expression, truths being 0 and 1.
+pub fn eval(s: &[u8], values: &[i64], depth: usize) -> i64
+    ensures { (result ≡ eval_cells values.now (expr depth s.now)) × Held result }
+{
+    number(s, values, depth).get()
 }

@@ -3,7 +3,6 @@ use mathlib.Core.Path.{◌≡◌, refl, sym, ◌∙◌}
 use mathlib.Core.Bool.{Bool, true, false, cond, ◌&&◌, and_assoc}
 use mathlib.Core.List.{List}
 use Prim.Native.Nat.{ℕ, zero, suc, ◌+◌, ◌-◌, ◌≤◌, ◌<◌}
-use native.Mathlib.Numerals.{sub-one}
 use native.Mathlib.Omega.{arith}
 use borrow.Author.Tests.{ne_eqb, lt-leb}
 use borrow.Author.Rules.{rules}
@@ -124,18 +123,25 @@ module _ (d : ℕ) (s : List ℕ) (i : ℕ) where
   wait_whole p q t h = h ∙ rw (t, q, p) (sym
       (and_assoc (whole_expr (expr d (part s (i + 1) (record_end s (i + 1))))) _ _))
 
--- ---- an instance's arguments, and where they end
-pub arguments_none : (d : ℕ) (s : List ℕ) (i n m : ℕ) → n ≡ 0 → eqb (i + m) (length s) ≡ arguments_whole d s i n m
-unfolding all arguments records_end
-arguments_none d s i n m e = rw e
+-- ---- an instance's arguments, and where they end; k of n are whole, and the next stands at a
+module _ (d : ℕ) (s : List ℕ) (n m : ℕ) (a : ℕ) {k : ℕ} {w : Bool} (h : w ≡ arguments_whole d s a (n - k) m) where
+  pub arguments_end : n ≤ k → eqb (a + m) (length s) ≡ w
+  unfolding all arguments records_end
+  arguments_end l = let none : n - k ≡ 0 = omega arith in rw none at (sym h)
 
-pub arguments_more : (d : ℕ) (s : List ℕ) (i n m : ℕ) {r : Bool} {e : ℕ} → (n ≡ 0 → ⊥) → e ≡ record_end s i
-    → r ≡ (whole_expr (expr d (part s i e)) && arguments_whole d s e (n - 1) m) → r ≡ arguments_whole d s i n m
-unfolding all arguments records_end
-arguments_more d s i zero m f p h = absurd (f refl)
-arguments_more d s i (suc n) m f p h = h
-    ∙ rw (p, sub-one) (sym (and_assoc (whole_expr (expr d (part s i (record_end s i)))) _ _))
+  module _ {e : ℕ} {r : Bool} (l : k < n) (p : e ≡ record_end s a) (q : r ≡ whole_expr (expr d (part s a e))) where
+    next : w ≡ (r && arguments_whole d s e (n - (k + 1)) m)
+    unfolding all arguments records_end
+    next =
+        let one : n - k ≡ suc (n - (k + 1)) = omega arith in
+        (rw one at h) ∙ rw (q, p) (and_assoc (whole_expr (expr d (part s a (record_end s a)))) _ _)
+
+    pub arguments_on : r ≡ true → w ≡ arguments_whole d s e (n - (k + 1)) m
+    arguments_on t = next ∙ rw t
+
+    pub arguments_off : r ≡ false → false ≡ w
+    arguments_off t = sym (next ∙ rw t)
 
 pub ruleset waits = (wait_short, wait_whole, walking)
 
-pub ruleset rows = (arguments_none, arguments_more, walking)
+pub ruleset rows = (arguments_end, arguments_on, arguments_off, walking)

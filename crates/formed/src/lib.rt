@@ -2,20 +2,17 @@
 // template'.
 #![tactic(auto)]
 
-ghost use Rattle.std.specs.Prelude.{◌≡◌, true, ◌&&◌, ◌≤◌, ◌<◌, length};
+ghost use Rattle.std.specs.Prelude.{◌≡◌, true, false, ◌&&◌, ◌≤◌, ◌<◌, length, MatchOption};
 ghost use Rattle.csl.specs.Bytes as bytes;
 ghost use Rattle.csl.specs.Lists.{at};
 ghost use Rattle.csl.specs.Decode.{expr, whole_expr, wait_at, whole_wait, instance_of, clause, whole, heads_of};
 ghost use Rattle.csl.specs.Decode.{body_of};
 ghost use Rattle.csl.specs.Decode.{main_of, well_formed};
-ghost use Rattle.records.specs.Index.{Indexed, template_piece};
+ghost use Rattle.records.specs.Index.{template_piece};
 ghost use Rattle.formed.specs.Tests.{tests_whole, arguments_whole, bodies_whole};
 
 use octets::{byte, is_record, kind, record_end};
-use records::{
-    BODY_DEPTH, MAIN_DEPTH, TEMPLATES_AT, body_span, fill_index, first_clause, main_place,
-    param_count, value_count,
-};
+use records::{Agreement, BODY_DEPTH, MAIN_DEPTH, first_clause};
 
 // The bytes are one expression, at most `depth` deep.
 fn expr_formed(s: &[u8], depth: usize) -> bool
@@ -78,33 +75,35 @@ fn arguments_formed(s: &[u8], i: usize, n: usize, blames: usize, depth: usize) -
     requires { (i ≤ length s.now) × (blames ≤ 4) }
     ensures { result ≡ arguments_whole depth s.now i n blames }
 {
-    if n == 0 {
-        return i + blames == s.len();
+    let mut a = i;
+    for _ in 0..n {
+        let e = record_end(s, a);
+        if !expr_formed(&s[a..e], depth) {
+            return false;
+        }
+        a = e;
     }
-    let e = record_end(s, i);
-    expr_formed(&s[i..e], depth) && arguments_formed(s, e, n - 1, blames, depth)
+    a + blames == s.len()
 }
 
 // 'instance: template, one expression per value, one blame byte per party parameter'
-fn instance_formed(agreement: &[u8], places: &[usize], s: &[u8], depth: usize) -> bool
-    requires { Indexed places.now agreement.now }
+fn instance_formed(agreement: &Agreement<'_>, s: &[u8], depth: usize) -> bool
     ensures { result ≡ whole (instance_of (expr depth) s.now (at (heads_of agreement.now) (bytes.byte s.now 4))) }
 {
     if s.len() < 5 {
         return false;
     }
     let k = byte(s, 4);
-    if k >= byte(agreement, TEMPLATES_AT) {
+    if k >= agreement.template_count() {
         return false;
     }
-    let n = value_count(agreement, places, k);
-    let blames = param_count(agreement, places, k);
+    let n = agreement.value_count(k);
+    let blames = agreement.param_count(k);
     arguments_formed(s, 5, n, blames, depth)
 }
 
 // The bytes are one clause, at most `depth` deep.
-fn clause_formed(agreement: &[u8], places: &[usize], s: &[u8], depth: usize) -> bool
-    requires { Indexed places.now agreement.now }
+fn clause_formed(agreement: &Agreement<'_>, s: &[u8], depth: usize) -> bool
     ensures { result ≡ whole (clause (heads_of agreement.now) depth 0 s.now) }
 {
     if depth == 0 {
@@ -119,7 +118,7 @@ fn clause_formed(agreement: &[u8], places: &[usize], s: &[u8], depth: usize) -> 
         16 => s.len() == 4,
         17 => {
             let c = first_clause(s, k);
-            tests_formed(s, k, d) && clause_formed(agreement, places, &s[c..], d)
+            tests_formed(s, k, d) && clause_formed(agreement, &s[c..], d)
         }
         18..=21 => {
             let c = first_clause(s, k);
@@ -127,56 +126,37 @@ fn clause_formed(agreement: &[u8], places: &[usize], s: &[u8], depth: usize) -> 
             if !tests_formed(s, k, d) {
                 return false;
             }
-            clause_formed(agreement, places, &s[c..f], d)
-                && clause_formed(agreement, places, &s[f..], d)
+            clause_formed(agreement, &s[c..f], d) && clause_formed(agreement, &s[f..], d)
         }
-        22 => instance_formed(agreement, places, s, d),
+        22 => instance_formed(agreement, s, d),
         _ => false,
     }
 }
 
 // The body of template k is one clause.
-fn body_formed(agreement: &[u8], places: &[usize], k: usize) -> bool
-    requires { Indexed places.now agreement.now × (k < bytes.byte agreement.now 10) }
+fn body_formed(agreement: &Agreement<'_>, k: usize) -> bool
+    requires { k < bytes.byte agreement.now 10 }
     ensures { result ≡ whole (body_of (heads_of agreement.now) (template_piece agreement.now k)) }
 {
-    let body = body_span(agreement, places, k);
-    let from = body.from;
-    let to = body.to;
-    clause_formed(agreement, places, &agreement[from..to], BODY_DEPTH)
+    clause_formed(agreement, agreement.body(k), BODY_DEPTH)
 }
 
-fn bodies_formed(agreement: &[u8], places: &[usize]) -> bool
-    requires { Indexed places.now agreement.now }
+fn bodies_formed(agreement: &Agreement<'_>) -> bool
     ensures { result ≡ bodies_whole agreement.now }
 {
-    for k in 0..byte(agreement, TEMPLATES_AT) {
-        if !body_formed(agreement, places, k) {
-            return false;
-        }
-    }
-    true
+    (0..agreement.template_count()).all(|k| body_formed(agreement, k))
 }
 
 // The main clause and the bodies.
-fn clauses_formed(agreement: &[u8], places: &[usize]) -> bool
-    requires { Indexed places.now agreement.now }
+fn clauses_formed(agreement: &Agreement<'_>) -> bool
     ensures { result ≡ (whole (main_of agreement.now) && bodies_whole agreement.now) }
 {
-    let main = main_place(agreement, places);
-    clause_formed(agreement, places, &agreement[main..], MAIN_DEPTH)
-        && bodies_formed(agreement, places)
+    clause_formed(agreement, agreement.main(), MAIN_DEPTH) && bodies_formed(agreement)
 }
 
-// What refusal 2 asks of an agreement; where it holds, `places` is the index.
-pub fn well_formed(agreement: &[u8], places: &mut [usize]) -> bool
-    requires { length places.old ≡ 49 }
-    ensures answer { result ≡ well_formed agreement.now }
-    ensures room { length places.new ≡ 49 }
-    ensures indexed { result ≡ true → Indexed places.new agreement.now }
+// The agreement in the bytes; none where refusal 2 is due.
+pub fn well_formed<'a>(bytes: &'a [u8]) -> Option<Agreement<'a>>
+    ensures { MatchOption result (well_formed bytes.now ≡ false) (λ a. (a ≡ bytes.now) × (well_formed bytes.now ≡ true)) }
 {
-    if !fill_index(agreement, places) {
-        return false;
-    }
-    clauses_formed(agreement, places)
+    Agreement::read(bytes).filter(clauses_formed)
 }

@@ -1,4 +1,5 @@
-// The entries as functions of numbers and slices alone, as a caller in C gives and takes them.
+// The entries as functions of numbers and slices alone, as a caller in C gives and takes them: the interface of C wants
+// a number returned, and all else written through references.
 #![tactic(auto)]
 
 ghost use Rattle.std.specs.Prelude.{◌≡◌};
@@ -6,19 +7,17 @@ ghost use Rattle.csl.specs.Check.{CheckAnswer, check_of};
 ghost use Rattle.csl.specs.Entries.{Answer, ReadingAnswer, start_of, reading_of, forecast_of};
 ghost use Rattle.givuntha.specs.Numbers.{ForecastNumbers, forecast_numbers};
 
-use monitor::{Checked, Foretold, Started, Taken};
-
 pub fn givuntha_check(agreement: &[u8], parties: &mut u64) -> u32
     ensures { record { number = result; parties = parties.new } ≡ check_of agreement.now }
 {
     match monitor::check(agreement) {
-        Checked::Accepted(bits) => {
+        Ok(bits) => {
             *parties = bits as u64;
             0
         }
-        Checked::Refused(why) => {
+        Err(why) => {
             *parties = 0;
-            monitor::number(why)
+            why.into()
         }
     }
 }
@@ -27,8 +26,8 @@ pub fn givuntha_start(agreement: &[u8], table: &mut [i64]) -> u32
     ensures { record { number = result; table = table.new } ≡ start_of agreement.now table.old }
 {
     match monitor::start(agreement, table) {
-        Started::Begun => 0,
-        Started::Refused(why) => monitor::number(why),
+        Ok(()) => 0,
+        Err(why) => why.into(),
     }
 }
 
@@ -43,18 +42,15 @@ pub fn givuntha_reading(
         ≡ reading_of agreement.now table.old reading.now }
 {
     match monitor::reading(agreement, table, reading) {
-        Taken::Accepted {
-            early: mark,
-            cost: n,
-        } => {
-            *early = if mark { 1 } else { 0 };
-            *cost = n as u64;
+        Ok(taken) => {
+            *early = u64::from(taken.early);
+            *cost = taken.cost as u64;
             0
         }
-        Taken::Refused { why, cost: n } => {
+        Err(refused) => {
             *early = 0;
-            *cost = n as u64;
-            monitor::number(why)
+            *cost = refused.cost as u64;
+            refused.why.into()
         }
     }
 }
@@ -63,25 +59,16 @@ pub fn givuntha_forecast(agreement: &[u8], table: &[i64], time: &mut u64, partie
     ensures { record { number = result; time = time.new; parties = parties.new }
         ≡ forecast_numbers (forecast_of agreement.now table.now) }
 {
+    *time = 0;
+    *parties = 0;
     match monitor::forecast(agreement, table) {
-        Foretold::Nothing => {
-            *time = 0;
-            *parties = 0;
+        Ok(None) => 0,
+        Ok(Some(breach)) => {
+            *time = breach.time;
+            *parties = breach.parties as u64;
             0
         }
-        Foretold::Breach {
-            time: t,
-            parties: bits,
-        } => {
-            *time = t;
-            *parties = bits as u64;
-            0
-        }
-        Foretold::Refused(why) => {
-            *time = 0;
-            *parties = 0;
-            monitor::number(why)
-        }
+        Err(why) => why.into(),
     }
 }
 

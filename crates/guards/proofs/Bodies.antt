@@ -1,20 +1,20 @@
 -- Laws for the clauses of a well-formed agreement: its main clause, and its templates' bodies one after another.
 use mathlib.Core.Path.{◌≡◌, sym, ap, ◌∙◌}
-use mathlib.Core.Bool.{Bool, true, false, ◌&&◌}
+use mathlib.Core.Bool.{Bool, true, ◌&&◌}
 use mathlib.Core.List.{List, [], ◌∷◌, ◌++◌, map}
-use Prim.Native.Nat.{ℕ, suc, ◌+◌, ◌-◌, ◌<◌, ◌≤◌}
+use Prim.Native.Nat.{ℕ, zero, suc, ◌+◌, ◌-◌, ◌<◌, ◌≤◌}
 use native.Mathlib.Numerals.{add-one}
 use native.Mathlib.Omega.{arith}
-use lib.ListN.{length}
 use Rattle.csl.specs.Lists.{all}
-use Rattle.csl.specs.Bytes.{byte, part}
+use Rattle.csl.specs.Bytes.{byte}
 use Rattle.csl.specs.Syntax.{Clause, Template}
 use Rattle.csl.specs.Decode.{whole, clause, pieces, records_end, templates_place, main_place, template_pieces, heads_of}
 use Rattle.csl.specs.Decode.{main_of, body_of, template_of, agreement_of, listed, well_formed}
 use Rattle.csl.specs.Guards.{guarded_in, guarded_from}
 use Rattle.csl.specs.Widths.{width, widths_from}
-use Rattle.records.specs.Index.{template_place, Spans}
-use Rattle.records.proofs.Index.{piece, all_pieces, pieces_more, body_is}
+use Rattle.records.specs.Index.{Lists, template_place, body_from, body_bytes, main_bytes}
+use Rattle.records.proofs.Index.{piece, all_pieces, pieces_more, body_is, body_there}
+use Rattle.std.specs.List.{list_all, range_with_len}
 use Rattle.guards.specs.Walk.{Formed, Answers, body_at}
 use Rattle.laws.proofs.Bools.{both_true, T→true, true→T}
 
@@ -32,26 +32,29 @@ module _ (s : List ℕ) (x : well_formed s ≡ true) where
   body_whole k l = both_true (listed s && whole (main_of s)) _ (true→T x) λ t u. T→true _
       (all_pieces (λ q. whole (body_of (heads_of s) q)) (byte s 10) s (templates_place s) k u l)
 
-  pub main_formed : {a : ℕ} → a ≡ main_place s → Formed 23 (part s a (length s))
-  unfolding main_of
-  main_formed e = record { heads = heads_of s; place = main_place s; formed = rw e main_whole }
+  module _ {w : List ℕ} (e : w ≡ main_bytes s) where
+    pub main_formed : Formed 23 w
+    unfolding main_of
+    main_formed = record { heads = heads_of s; place = main_place s; formed = rw e main_whole }
 
-  pub main_answers : {A : Type 0} (f : Clause → A) {a : ℕ} {r : A} → a ≡ main_place s
-      → Answers f 23 (part s a (length s)) r → r ≡ f (main_of s)
-  unfolding main_of
-  main_answers f e a = (rw e at a).is (heads_of s) (main_place s) main_whole
+    pub main_answers : {A : Type 0} (f : Clause → A) {r : A} → Answers f 23 w r → r ≡ f (main_of s)
+    unfolding main_of
+    main_answers f a = (rw e at a).is (heads_of s) (main_place s) main_whole
 
-  module _ {k from to : ℕ} (l : k < byte s 10) (b : Spans s k from to) where
-    whole_there : whole (clause (heads_of s) 22 from (part s from to)) ≡ true
+  -- the body of template k; w are its bytes, as code has them
+  module _ {k : ℕ} {w : List ℕ} (l : k < byte s 10) (h : (w ≡ body_bytes s k) × Lists s) where
+    same : clause (heads_of s) 22 (body_from s k) w ≡ body_at s k
     unfolding body_at
-    whole_there = ap whole (sym (body_is b (heads_of s))) ∙ body_whole k l
+    same = rw h.0 (sym (body_is (body_there (h.1, l)) (heads_of s)))
 
-    pub body_formed : Formed 22 (part s from to)
-    body_formed = record { heads = heads_of s; place = from; formed = whole_there }
+    whole_there : whole (clause (heads_of s) 22 (body_from s k) w) ≡ true
+    whole_there = ap whole same ∙ body_whole k l
 
-    pub body_answers : {A : Type 0} (f : Clause → A) {r : A} → Answers f 22 (part s from to) r → r ≡ f (body_at s k)
-    unfolding body_at
-    body_answers f a = a.is (heads_of s) from whole_there ∙ ap f (sym (body_is b (heads_of s)))
+    pub body_formed : Formed 22 w
+    body_formed = record { heads = heads_of s; place = body_from s k; formed = whole_there }
+
+    pub body_answers : {A : Type 0} (f : Clause → A) {r : A} → Answers f 22 w r → r ≡ f (body_at s k)
+    body_answers f a = a.is (heads_of s) (body_from s k) whole_there ∙ ap f same
 
 -- ---- the templates from number k on
 unfoldable pub templates_from : List ℕ → ℕ → List Template
@@ -97,10 +100,9 @@ module _ (s : List ℕ) (k : ℕ) (l : byte s 10 ≤ k) where
   unfolding all
   all_last p = rw (from_last s k l)
 
--- ---- a loop over the templates: t is what all of them say, a what one says, and x what the code found of it
-module _ (a b : Bool) {t x : Bool} (e : t ≡ (a && b)) (f : x ≡ a) where
-  pub loop_stops : x ≡ false → false ≡ t
-  loop_stops q = sym (e ∙ rw (sym f ∙ q))
-
-  pub loop_goes : x ≡ true → t ≡ b
-  loop_goes q = e ∙ rw (sym f ∙ q)
+-- ---- a chain over the templates' numbers: all is what all from k on say, and one what k says
+pub each_ranged : (all one : ℕ → Bool) (n : ℕ) → ((k : ℕ) → k < n → all k ≡ (one k && all (k + 1)))
+    → ((k : ℕ) → n ≤ k → all k ≡ true) → (m k : ℕ) → k + m ≡ n → list_all one (range_with_len k m) ≡ all k
+each_ranged all one n more last zero k e = sym (last k (omega arith))
+each_ranged all one n more last (suc m) k e =
+    ap (λ b. one k && b) (each_ranged all one n more last m (k + 1) (omega arith)) ∙ sym (more k (omega arith))

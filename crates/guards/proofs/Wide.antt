@@ -14,7 +14,7 @@ use Rattle.csl.specs.Syntax.{Expr, Join, Clause, if, join}
 use Rattle.csl.specs.Widths.{or_zero, width, narrow, thens_narrow, all_narrow}
 use Rattle.records.specs.Index.{first_clause}
 use Rattle.records.proofs.Trees.{sided_choice}
-use Rattle.guards.specs.Walk.{Answers, counted, strict_width}
+use Rattle.guards.specs.Walk.{Answers, counted, strict_width, width_by}
 use Rattle.guards.proofs.Walks.{answers_then, answers_two, answers_fulfilled, answers_instance, answers_low}
 use Rattle.guards.proofs.Walks.{answers_none, sided_same}
 
@@ -76,8 +76,6 @@ module _ (ws : List ℕ) (d : ℕ) (s : List ℕ) {m : ℕ} (k : m ≡ kind_numb
   width_choice {y = y} i j e a q = answers_two (counted ws) d s k (λ t. Unit {0}) (λ u. y ≡ counted ws u)
       (omega arith) (omega arith) i j (λ hs p w. tt) a.is
       (λ x p t u h g. sat_zero (width ws u) q g ∙ ap (counted ws) (sym (sided_choice x p s t u e)))
-
-pub ruleset widths = (width_low, width_none, width_instance, width_choice, counted_adds, adds_two)
 
 -- ---- `strict_width`
 pub leb_min : (a : ℕ) → leb (min a 257) 256 ≡ leb a 256
@@ -174,19 +172,76 @@ module _ (ws : List ℕ) (d : ℕ) (s : List ℕ) {m : ℕ} (k : m ≡ kind_numb
           (λ v p t u g h. sym (ap (λ n. cond (n && thens_narrow ws u) (min (1 + width ws u) 257) 257)
           (then_off ws t g l)) ∙ ap (strict_width ws) (sym (sided_choice v p s t u e)))
 
+-- ---- both, by a flag
+pub by_adds : (b : Bool) (ws : List ℕ) → Adds (width_by b ws)
+unfolding width_by
+by_adds true ws = strict_adds ws
+by_adds false ws = counted_adds ws
+
+pub by_low : (b : Bool) (ws : List ℕ) (d : ℕ) (s : List ℕ) {m : ℕ} → m ≡ kind_number s → m < 17
+    → Answers (width_by b ws) d s 1
+unfolding width_by
+by_low true ws d s k l = strict_low ws d s k l
+by_low false ws d s k l = width_low ws d s k (omega arith)
+
+pub by_none : (b : Bool) (ws : List ℕ) (d : ℕ) (s : List ℕ) {m : ℕ} → m ≡ kind_number s → (m ≡ 22 → ⊥) → 22 ≤ m
+    → Answers (width_by b ws) d s 1
+unfolding width_by
+by_none true ws d s k e l = strict_none ws d s k e l
+by_none false ws d s k e l = width_none ws d s k e l
+
+pub by_instance : (b : Bool) (ws : List ℕ) (d : ℕ) (s : List ℕ) {m i y r : ℕ} → m ≡ kind_number s → m ≡ 22
+    → i ≡ byte s 4 → y ≡ min (get_or ws i 0) 257 → r ≡ min (1 + 0 + y) 257 → Answers (width_by b ws) d s r
+unfolding width_by
+by_instance true ws d s k e g q h = strict_instance ws d s k e g q h
+by_instance false ws d s k e g q h = width_instance ws d s k e g q h
+
+module _ (b : Bool) (ws : List ℕ) (d : ℕ) (s : List ℕ) {m : ℕ} (k : m ≡ kind_number s) where
+  pub by_lax : b ≡ false → m ≡ 17 → Answers (width_by b ws) d s 1
+  unfolding width_by
+  by_lax f e = rw f (width_low ws d s k (omega arith))
+
+  module _ {c x : ℕ} (i : c ≡ first_clause m s) (f : b ≡ true) where
+    module _ (e : m ≡ 17) (a : Answers (width_by b ws) (d - 1) (part s c (length s)) x) where
+      pub by_wait_on : x ≤ 256 → Answers (width_by b ws) d s 1
+      unfolding width_by
+      by_wait_on l = rw f (strict_wait_on ws d s k i e (rw f at a) l)
+
+      pub by_wait_off : 256 < x → Answers (width_by b ws) d s 257
+      unfolding width_by
+      by_wait_off l = rw f (strict_wait_off ws d s k i e (rw f at a) l)
+
+    module _ {z : ℕ} (j : z ≡ record_end s c) (e : m ≡ 18) (a : Answers (width_by b ws) (d - 1) (part s c z) x) where
+      pub by_choice_on : {y r : ℕ} → x ≤ 256 → Answers (width_by b ws) (d - 1) (part s z (length s)) y
+          → r ≡ min (1 + 0 + y) 257 → Answers (width_by b ws) d s r
+      unfolding width_by
+      by_choice_on l h q = rw f (strict_choice_on ws d s k i j e (rw f at a) l (rw f at h) q)
+
+      pub by_choice_off : 256 < x → Answers (width_by b ws) d s 257
+      unfolding width_by
+      by_choice_off l = rw f (strict_choice_off ws d s k i j e (rw f at a) l)
+
+  pub by_choice_lax : {c z y r : ℕ} → b ≡ false → c ≡ first_clause m s → z ≡ record_end s c → m ≡ 18
+      → Answers (width_by b ws) (d - 1) (part s z (length s)) y → r ≡ min (1 + 0 + y) 257
+      → Answers (width_by b ws) d s r
+  unfolding width_by
+  by_choice_lax f i j e h q = rw f (width_choice ws d s k i j e (rw f at h) q)
+
 -- as a `match` with arms for 17 and 18 leaves the others
 pub past_wait : (m : ℕ) → (m ≡ 17 → ⊥) → 17 ≤ m → 18 ≤ m
 past_wait m e l = omega arith
 
-pub ruleset stricts = (
+pub ruleset walk = (
   past_wait,
-  strict_low,
-  strict_none,
-  strict_instance,
-  strict_wait_on,
-  strict_wait_off,
-  strict_choice_on,
-  strict_choice_off,
-  strict_adds,
+  by_adds,
+  by_low,
+  by_none,
+  by_instance,
+  by_lax,
+  by_wait_on,
+  by_wait_off,
+  by_choice_on,
+  by_choice_off,
+  by_choice_lax,
   adds_two,
 )

@@ -1,9 +1,11 @@
 -- No two answers of an entry mean the same: each can be told from what it means.
 -- And whatever is lent, a forecast is a refusal, none, or a breach by some party: `no_forecast` never occurs.
-use mathlib.Core.Path.{◌≡◌, refl, sym, subst}
+use mathlib.Core.Path.{◌≡◌, refl, sym, ap, subst}
 use mathlib.Core.Bool.{Bool, true, false}
 use mathlib.Core.List.{List, [], ◌∷◌}
 use mathlib.Core.Option.{Option, none, some}
+use Rattle.std.specs.Prelude as std
+use Rattle.std.specs.Prelude.{Result, Ok, Err}
 use Prim.Native.Nat.{ℕ, zero, suc, ◌<◌}
 use native.Mathlib.Omega.{arith}
 use borrow.Author.Tests.{eqb-true, eqb-false}
@@ -27,15 +29,8 @@ use Rattle.monitor.specs.declared.Refusal.TheVariants.{AgreementLength, Agreemen
 use Rattle.monitor.specs.declared.Refusal.TheVariants.{AgreementGuards, AgreementWidth, TableLength}
 use Rattle.monitor.specs.declared.Refusal.TheVariants.{TableContent, ReadingForm, ReadingTyping, ReadingTime}
 use Rattle.monitor.specs.declared.Refusal.TheVariants.{Units}
-use Rattle.monitor.specs.declared.Checked.{Checked}
-use Rattle.monitor.specs.declared.Checked.TheVariants.{Accepted, Refused}
-use Rattle.monitor.specs.declared.Started.{Started}
-use Rattle.monitor.specs.declared.Started.TheVariants.{Begun, Refused as refusedStart}
-use Rattle.monitor.specs.declared.Taken.{Taken}
-use Rattle.monitor.specs.declared.Taken.TheVariants.{Accepted as acceptedReading, Refused as refusedReading}
-use Rattle.monitor.specs.declared.Foretold.{Foretold}
-use Rattle.monitor.specs.declared.Foretold.TheVariants.{Nothing, Breach, Refused as refused_forecast}
-use Rattle.monitor.specs.Answers.{number_of, check_answer, start_answer, taken_answer, forecast_answer}
+use Rattle.monitor.specs.Answers.{Checked, Foretold, Started, Taken, number_of, check_answer, start_answer}
+use Rattle.monitor.specs.Answers.{taken_answer, forecast_answer}
 
 -- in the order of their numbers
 abbrev refusals : List Refusal
@@ -62,38 +57,47 @@ number_told success refused ReadingTime = refl
 number_told success refused Units = refl
 
 abbrev pub checked_by : CheckAnswer → Checked
-checked_by a = told (Accepted a.parties) Refused a.number
+checked_by a = told (Ok a.parties) Err a.number
 
 pub check_told : (r : Checked) → checked_by (check_answer r) ≡ r
-check_told (Accepted parties) = refl
-check_told (Refused r) = number_told (Accepted 0) Refused r
+check_told (Ok parties) = refl
+check_told (Err r) = number_told (Ok 0) Err r
 
 abbrev pub started_by : Answer → Started
-started_by a = told Begun refusedStart a.number
+started_by a = told (Ok tt) Err a.number
 
 pub start_told : (r : Started) (table : List ℤ) → started_by (start_answer r table) ≡ r
-start_told Begun table = refl
-start_told (refusedStart r) table = number_told Begun refusedStart r
+start_told (Ok begun) table = refl
+start_told (Err r) table = number_told (Ok tt) Err r
+
+abbrev pub accepted_by : Bool → ℕ → Taken
+accepted_by early cost = Ok (record { early = early; cost = cost })
+
+abbrev pub refused_by : ℕ → Refusal → Taken
+refused_by cost why = Err (record { why = why; cost = cost })
 
 abbrev pub taken_by : ReadingAnswer → Taken
-taken_by a = told (acceptedReading (eqb a.early 1) a.cost) (λ r. refusedReading r a.cost) a.number
+taken_by a = told (accepted_by (eqb a.early 1) a.cost) (refused_by a.cost) a.number
+
+marked : (early : Bool) → eqb (mark_of early) 1 ≡ early
+unfolding mark_of
+marked true = refl
+marked false = refl
 
 pub reading_told : (r : Taken) (table : List ℤ) → taken_by (taken_answer r table) ≡ r
-unfolding mark_of
-reading_told (acceptedReading true cost) table = refl
-reading_told (acceptedReading false cost) table = refl
-reading_told (refusedReading r cost) table = number_told (acceptedReading false cost) (λ w. refusedReading w cost) r
+reading_told (Ok a) table = ap (λ early. accepted_by early a.cost) (marked a.early)
+reading_told (Err r) table = number_told (accepted_by (eqb 0 1) r.cost) (refused_by r.cost) r.why
 
 abbrev pub foretold_by : Forecast → Foretold
-foretold_by entries.no_breach = Nothing
-foretold_by entries.no_forecast = Nothing
-foretold_by (entries.breach_at t b) = Breach t b
-foretold_by (entries.refused_forecast n) = told Nothing refused_forecast n
+foretold_by entries.no_breach = Ok std.None
+foretold_by entries.no_forecast = Ok std.None
+foretold_by (entries.breach_at t b) = Ok (std.Some (record { time = t; parties = b }))
+foretold_by (entries.refused_forecast n) = told (Ok std.None) Err n
 
 pub forecast_told : (r : Foretold) → foretold_by (forecast_answer r) ≡ r
-forecast_told Nothing = refl
-forecast_told (Breach t b) = refl
-forecast_told (refused_forecast r) = number_told Nothing refused_forecast r
+forecast_told (Ok std.None) = refl
+forecast_told (Ok (std.Some b)) = refl
+forecast_told (Err r) = number_told (Ok std.None) Err r
 
 -- ---- what a forecast can be
 abbrev pub Plain : Forecast → Type 0

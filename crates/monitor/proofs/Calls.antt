@@ -3,6 +3,7 @@
 -- (`last_table_lem`, `all_numbers`), and at each of its calls (`found`).
 use mathlib.Core.Path.{◌≡◌, refl, sym, ap, ap₂, subst, ◌∙◌}
 use mathlib.Core.List.{List, [], ◌∷◌, ◌++◌}
+use Rattle.std.specs.Prelude.{Ok, Err}
 use Prim.Native.Nat.{ℕ}
 use contract.Lifetimes.{Lfts}
 use borrow.Fn.Kinds.{Dens, ended_of}
@@ -18,11 +19,7 @@ use Rattle.csl.specs.Cost.{cost_of}
 use Rattle.csl.specs.Demand3.{AllBytes, costs_by, marks_by, numbers_by, run_after}
 use Rattle.soundness.proofs.Runs.{InvOf, reading_fine, step_inv}
 use Rattle.soundness.proofs.Demand3.{after_inv}
-use Rattle.monitor.specs.declared.Started.{Started}
-use Rattle.monitor.specs.declared.Taken.{Taken}
-use Rattle.monitor.specs.declared.Taken.TheVariants.{Accepted, Refused}
-use Rattle.monitor.specs.declared.Foretold.{Foretold}
-use Rattle.monitor.specs.Answers.{forecast_answer, start_answer, taken_answer}
+use Rattle.monitor.specs.Answers.{Foretold, Started, Taken, forecast_answer, start_answer, taken_answer}
 use Rattle.monitor.specs.Calls.{Call, Calls, cost_in, costs_in, early_in, last_table, marks_in, number_in, numbers_in}
 use Rattle.monitor.specs.Calls.{readings_in}
 use Rattle.monitor.proofs.start.Kinds as start-kinds
@@ -51,8 +48,8 @@ forecast_call lifetimes given r left meets = meets
 
 -- ---- lists of calls
 table_of_lem : (r : Taken) (us : List ℤ) → (taken_answer r us).table ≡ us
-table_of_lem (Accepted early cost) us = refl
-table_of_lem (Refused w cost) us = refl
+table_of_lem (Ok a) us = refl
+table_of_lem (Err w) us = refl
 
 calls_split : (s : List ℕ) (us : List ℤ) (before later : List Call) → Calls s us (before ++ later)
     → Calls s us before × Calls s (last_table us before) later

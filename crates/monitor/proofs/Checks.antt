@@ -1,18 +1,19 @@
 -- Laws for `verify`: what each test says of csl's check.
-use mathlib.Core.Path.{◌≡◌, refl, sym, ◌∙◌}
-use mathlib.Core.Bool.{Bool, true, false, not}
+use mathlib.Core.Path.{◌≡◌, refl, sym, ap, ◌∙◌}
+use mathlib.Core.Bool.{true, false}
 use mathlib.Core.List.{List}
 use mathlib.Core.Option.{Option, none, some}
 use Prim.Native.Nat.{ℕ}
 use native.Mathlib.Omega.{arith}
-use borrow.Author.Tests.{not-true, not-false}
+use Rattle.std.specs.Prelude as std
+use Rattle.std.specs.Prelude.{Some, None, Result, Ok, Err, MatchOption, ok_or}
 use Rattle.csl.specs.Parties.{bits_of}
 use Rattle.csl.specs.Decode.{sized, well_formed, agreement_of, decode}
 use Rattle.csl.specs.Typing.{typed}
 use Rattle.csl.specs.Guards.{guarded_from}
 use Rattle.csl.specs.Widths.{narrow_all}
 use Rattle.csl.specs.Check as csl
-use Rattle.csl.specs.Check.{checked, check_typed, check_decoded, check_of, refused, accepted}
+use Rattle.csl.specs.Check.{checked, check_typed, check_decoded, check_of, refused, accepted, mains_in, mains_of}
 use Rattle.laws.proofs.Bools.{elim_false, elim_true, true→T}
 use Rattle.laws.proofs.Clash.{impossible}
 use Rattle.soundness.proofs.Checked.{passed, fair}
@@ -20,29 +21,36 @@ use Rattle.soundness.proofs.Members.{member→in}
 use Rattle.soundness.proofs.Runs.{main_in}
 use Rattle.parties.specs.Masks.{mask_of}
 use Rattle.parties.proofs.Masks.{mask_bits}
-use Rattle.records.specs.Index.{Indexed}
-use Rattle.typing.specs.declared.Typed.{Typed}
-use Rattle.typing.specs.declared.Typed.TheVariants.{Parties, Untyped}
 use Rattle.typing.specs.Clauses.{typed_as}
-use Rattle.monitor.specs.declared.Checked.{Checked}
-use Rattle.monitor.specs.declared.Checked.TheVariants.{Accepted, Refused}
+use Rattle.monitor.specs.declared.Refusal.{Refusal}
+use Rattle.monitor.specs.declared.Refusal.TheVariants.{AgreementForm}
 use Rattle.monitor.specs.Answers.{check_answer}
-use Rattle.monitor.specs.Steps.{Goes, Verified}
+use Rattle.monitor.specs.Steps.{Formed, Read, Verified}
+
+-- ---- what `o.ok_or(e)` says of o
+module _ {A E : Type 0} where
+  pub is_none : (o : std.Option A) (e d : E) → Err d ≡ ok_or o e → (o ≡ None) × (d ≡ e)
+  is_none None e d h = (refl, cc)
+  is_none (Some a) e d h = impossible cc
+
+  pub is_some : (o : std.Option A) (e : E) (a : A) → Ok a ≡ ok_or o e → o ≡ Some a
+  is_some None e a h = impossible cc
+  is_some (Some b) e a h = cc
 
 -- ---- what typing answered
-pub untyped : (o : Option (List ℕ)) → Untyped ≡ typed_as o → o ≡ none
+untyped : (o : Option (List ℕ)) → None ≡ typed_as o → o ≡ none
 unfolding typed_as
 untyped none e = refl
 untyped (some ps) e = impossible cc
 
-pub typed_mask : (o : Option (List ℕ)) (p : ℕ) → Parties p ≡ typed_as o
+typed_mask : (o : Option (List ℕ)) (p : ℕ) → Some p ≡ typed_as o
     → (ps : List ℕ) × (o ≡ some ps) × (p ≡ mask_of ps)
 unfolding typed_as
 typed_mask none p e = impossible cc
 typed_mask (some ps) p e = (ps, refl, cc)
 
 -- ---- the main clause has no party parameters: its mask is its parties' bits
-pub main_bits : (s mains : List ℕ) → checked s ≡ accepted (agreement_of s) mains → mask_of mains ≡ bits_of mains
+main_bits : (s mains : List ℕ) → checked s ≡ accepted (agreement_of s) mains → mask_of mains ≡ bits_of mains
 main_bits s mains e =
     let f = fair s (agreement_of s) mains (passed s (agreement_of s) mains e) in
     mask_bits mains (λ q m. omega
@@ -64,65 +72,70 @@ decode_yes : (s : List ℕ) → well_formed s ≡ true → decode s ≡ some (ag
 unfolding decode
 decode_yes s e = elim_true (well_formed s) _ _ e
 
--- ---- the tests in order, as the code makes them: `if !test { return .. }`
-module _ (s : List ℕ) {l : Bool} (le : l ≡ sized s) where
-  pub length_refused : not l ≡ true → checked s ≡ refused 1
+-- ---- the tests in order, as the code makes them
+module _ (s : List ℕ) where
+  pub length_refused : sized s ≡ false → checked s ≡ refused 1
   unfolding checked
-  length_refused e = elim_false (sized s) _ _ (sym le ∙ not-true l e)
+  length_refused e = elim_false (sized s) _ _ e
 
-  module _ (lt : not l ≡ false) {w : Bool} (we : w ≡ well_formed s) where
+  module _ (le : sized s ≡ true) where
     on : checked s ≡ elim (decode s) [ none ↦ refused 2 | some a ↦ check_decoded a ]
     unfolding checked
-    on = elim_true (sized s) _ _ (sym le ∙ not-false l lt)
+    on = elim_true (sized s) _ _ le
 
-    pub form_refused : not w ≡ true → checked s ≡ refused 2
-    form_refused e = on ∙ have_none _ check_decoded (decode s) (decode_no s (sym we ∙ not-true w e))
+    pub read_as : (o : std.Option (List ℕ))
+        → MatchOption o (well_formed s ≡ false) (λ a. (a ≡ s) × (well_formed s ≡ true)) → Read s (ok_or o AgreementForm)
+    read_as None e = on ∙ have_none _ check_decoded (decode s) (decode_no s e)
+    read_as (Some a) h = (h.0, record { sized = le; formed = h.1 })
 
-    module _ (wt : not w ≡ false) {r : Typed} (re : r ≡ typed_as (typed (agreement_of s))) where
-      decodes : checked s ≡ check_decoded (agreement_of s)
-      decodes = on ∙ have_some _ check_decoded (decode s) (agreement_of s) (decode_yes s (sym we ∙ not-false w wt))
+  module _ (f : Formed s) {a : List ℕ} (same : a ≡ s) where
+    decodes : checked s ≡ check_decoded (agreement_of a)
+    decodes = on f.sized ∙ have_some _ check_decoded (decode s) (agreement_of s) (decode_yes s f.formed)
+        ∙ ap (λ b. check_decoded (agreement_of b)) (sym same)
 
-      pub typing_refused : r ≡ Untyped → checked s ≡ refused 3
-      unfolding check_decoded
-      typing_refused e = decodes ∙ have_none _ (check_typed (agreement_of s)) (typed (agreement_of s))
-          (untyped (typed (agreement_of s)) (sym e ∙ re))
+    pub typing_refused : None ≡ typed_as (typed (agreement_of a)) → checked s ≡ refused 3
+    unfolding check_decoded
+    typing_refused e = decodes ∙ have_none _ (check_typed (agreement_of a)) (typed (agreement_of a))
+        (untyped (typed (agreement_of a)) e)
 
-      module _ {p : ℕ} (pe : r ≡ Parties p) where
-        mains : List ℕ
-        mains = (typed_mask (typed (agreement_of s)) p (sym pe ∙ re)).0
+    module _ {p : ℕ} (pe : Some p ≡ typed_as (typed (agreement_of a))) where
+      mains : List ℕ
+      mains = (typed_mask (typed (agreement_of a)) p pe).0
 
-        types : checked s ≡ check_typed (agreement_of s) mains
-        unfolding check_decoded mains
-        types = decodes ∙ have_some _ (check_typed (agreement_of s)) (typed (agreement_of s)) mains
-            (typed_mask (typed (agreement_of s)) p (sym pe ∙ re)).1
+      types : checked s ≡ check_typed (agreement_of a) mains
+      unfolding check_decoded mains
+      types = decodes ∙ have_some _ (check_typed (agreement_of a)) (typed (agreement_of a)) mains
+          (typed_mask (typed (agreement_of a)) p pe).1
 
-        module _ {g : Bool} (ge : g ≡ guarded_from 0 (agreement_of s).templates) where
-          pub guards_refused : not g ≡ true → checked s ≡ refused 4
-          unfolding check_typed
-          guards_refused e = types ∙ elim_false (guarded_from 0 (agreement_of s).templates) _ _ (sym ge ∙ not-true g e)
+      pub guards_refused : guarded_from 0 (agreement_of a).templates ≡ false → checked s ≡ refused 4
+      unfolding check_typed
+      guards_refused e = types ∙ elim_false (guarded_from 0 (agreement_of a).templates) _ _ e
 
-          module _ (gt : not g ≡ false) {n : Bool} (ne : n ≡ narrow_all (agreement_of s)) where
-            guards : checked s ≡ elim (narrow_all (agreement_of s))
-                [ false ↦ refused 5 | true ↦ accepted (agreement_of s) mains ]
-            unfolding check_typed
-            guards = types ∙ elim_true (guarded_from 0 (agreement_of s).templates) _ _ (sym ge ∙ not-false g gt)
+      module _ (ge : guarded_from 0 (agreement_of a).templates ≡ true) where
+        guards : checked s ≡ elim (narrow_all (agreement_of a))
+            [ false ↦ refused 5 | true ↦ accepted (agreement_of a) mains ]
+        unfolding check_typed
+        guards = types ∙ elim_true (guarded_from 0 (agreement_of a).templates) _ _ ge
 
-            pub width_refused : not n ≡ true → checked s ≡ refused 5
-            width_refused e = guards ∙ elim_false (narrow_all (agreement_of s)) _ _ (sym ne ∙ not-true n e)
+        pub width_refused : narrow_all (agreement_of a) ≡ false → checked s ≡ refused 5
+        width_refused e = guards ∙ elim_false (narrow_all (agreement_of a)) _ _ e
 
-            pub goes : (places : List ℕ) → (w ≡ true → Indexed places s) → not n ≡ false → Goes s places p
-            unfolding mains
-            goes places x e =
-                let ok = guards ∙ elim_true (narrow_all (agreement_of s)) _ _ (sym ne ∙ not-false n e) in
-                record {
-                  mains = mains;
-                  is_accepted = ok;
-                  is_parties = (typed_mask (typed (agreement_of s)) p (sym pe ∙ re)).2 ∙ main_bits s mains ok;
-                  indexed = x (not-false w wt);
-                }
+        pub accepts : narrow_all (agreement_of a) ≡ true → csl.Accepted s × (p ≡ bits_of (mains_of s))
+        unfolding mains mains_of mains_in
+        accepts e =
+            let ok = guards ∙ elim_true (narrow_all (agreement_of a)) _ _ e in
+            let here : checked s ≡ accepted (agreement_of s) mains = ok
+            ∙ ap (λ b. accepted (agreement_of b) mains) same in
+            let own : mains_of s ≡ mains = ap mains_in here in (
+              record { is = here ∙ ap (accepted (agreement_of s)) (sym own) },
+              (typed_mask (typed (agreement_of a)) p pe).2 ∙ main_bits s mains here ∙ ap bits_of (sym own),
+            )
 
 -- ---- the entry `check`
-pub checked_as : (s places : List ℕ) (r : Checked) → Verified s places r → check_answer r ≡ check_of s
+pub check_no : (s : List ℕ) (r : Refusal) → Verified s (Err r) → check_answer (Err r) ≡ check_of s
 unfolding check_of csl.answer_for
-checked_as s places (Accepted p) v = rw (v.is_accepted, v.is_parties) refl
-checked_as s places (Refused n) v = rw v refl
+check_no s r v = rw v refl
+
+pub check_yes : (s : List ℕ) {p : ℕ} → csl.Accepted s → p ≡ bits_of (mains_of s) → check_answer (Ok p) ≡ check_of s
+unfolding check_of csl.answer_for
+check_yes s v e = rw (v.is, e) refl

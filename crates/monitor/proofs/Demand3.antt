@@ -5,6 +5,7 @@ use mathlib.Core.Bool.{Bool, true, false}
 use mathlib.Core.List.{List, ◌∷◌, ◌++◌}
 use mathlib.Core.Logic.{◌↔◌}
 use mathlib.Core.Option.{some}
+use Rattle.std.specs.Prelude.{Ok, Err}
 use Prim.Native.Nat.{ℕ}
 use native.Mathlib.Omega.{arith}
 use borrow.Author.Tests.{eqb-true, eqb-false}
@@ -30,9 +31,7 @@ use Rattle.monitor.specs.declared.Refusal.TheVariants.{AgreementLength, Agreemen
 use Rattle.monitor.specs.declared.Refusal.TheVariants.{AgreementGuards, AgreementWidth, TableLength}
 use Rattle.monitor.specs.declared.Refusal.TheVariants.{TableContent, ReadingForm, ReadingTyping, ReadingTime}
 use Rattle.monitor.specs.declared.Refusal.TheVariants.{Units}
-use Rattle.monitor.specs.declared.Started.{Started}
-use Rattle.monitor.specs.declared.Started.TheVariants.{Begun, Refused}
-use Rattle.monitor.specs.Answers.{number_of, start_answer}
+use Rattle.monitor.specs.Answers.{Started, number_of, start_answer}
 use Rattle.monitor.specs.Calls.{Call, Calls, readings_in}
 use Rattle.monitor.specs.Demand3.{Begins, Demand3, IsStarted, Upheld, run_by}
 use Rattle.monitor.proofs.Calls.{Found, Sound, all_costs, all_marks, all_numbers, found, inv_at, last_table_lem}
@@ -53,20 +52,20 @@ numbered ReadingTime e = omega arith
 numbered Units e = omega arith
 
 -- a start that carries 0 has begun
-begun_is : (r : Started) (us : List ℤ) → (start_answer r us).number ≡ 0 → r ≡ Begun
-begun_is Begun us e = refl
-begun_is (Refused w) us e = absurd (numbered w e)
+begun_is : (r : Started) (us : List ℤ) → (start_answer r us).number ≡ 0 → r ≡ Ok tt
+begun_is (Ok begun) us e = refl
+begun_is (Err w) us e = absurd (numbered w e)
 
 table_left_lem : (r : Started) (us : List ℤ) → (start_answer r us).table ≡ us
-table_left_lem Begun us = refl
-table_left_lem (Refused w) us = refl
+table_left_lem (Ok begun) us = refl
+table_left_lem (Err w) us = refl
 
 -- the same number
 carries : {P : Type 0} {m n k : ℕ} → m ≡ n → (n ≡ k) ↔ P → (m ≡ k) ↔ P
 carries e h = (λ x. h.0 (sym e ∙ x), λ p. e ∙ h.1 p)
 
-module _ (s : List ℕ) (lent : List ℤ) (a : Agreement) (mains : List ℕ) (st : IsStarted s lent a mains) (r : Started)
-    (us : List ℤ) (start : start_answer r us ≡ start_of s lent) (hs : Bytes s) where
+module _ (s : List ℕ) (lent : List ℤ) (a : Agreement) (mains : List ℕ) (st : IsStarted s lent a mains)
+    (r : Started) (us : List ℤ) (start : start_answer r us ≡ start_of s lent) (hs : Bytes s) where
   run : Run
   run = (started a).run
 

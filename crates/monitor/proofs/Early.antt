@@ -3,6 +3,7 @@
 use mathlib.Core.Path.{◌≡◌, refl, sym, ap, ◌∙◌}
 use mathlib.Core.Bool.{Bool, true, false}
 use mathlib.Core.List.{List}
+use Rattle.std.specs.Prelude.{Ok, Err}
 use mathlib.Core.Logic.{inl, inr, ◌⊎◌, ◌↔◌}
 use mathlib.Core.Option.{Option, none, some}
 use Prim.Native.Nat.{ℕ}
@@ -29,9 +30,7 @@ use Rattle.soundness.proofs.ReadBack.{run_of_good, table_back}
 use Rattle.soundness.proofs.Moved.{altered_not, unaltered_is}
 use Rattle.soundness.proofs.Early.{IsEarly, came_early_lem}
 use Rattle.bridge.proofs.Refusals.{from_check, reading_refused, reading_seven, reading_six, unread}
-use Rattle.monitor.specs.declared.Taken.{Taken}
-use Rattle.monitor.specs.declared.Taken.TheVariants.{Accepted, Refused}
-use Rattle.monitor.specs.Answers.{taken_answer}
+use Rattle.monitor.specs.Answers.{Taken, taken_answer}
 use Rattle.monitor.specs.Calls.{Call, early_in, number_in}
 use Rattle.monitor.specs.Early.{CameEarly, EarlyClaim, TooEarly}
 use Rattle.monitor.proofs.Calls.{called}
@@ -107,9 +106,8 @@ module _ (a : Agreement) (q : Run) (us : List ℤ) (one : Call) (table : us ≡ 
 -- a mark is 1 or 0
 either : (r : Taken) (us : List ℤ) → ((taken_answer r us).early ≡ 1) ⊎ ((taken_answer r us).early ≡ 0)
 unfolding mark_of
-either (Accepted true cost) us = inl refl
-either (Accepted false cost) us = inr refl
-either (Refused w cost) us = inr refl
+either (Ok a) us = elim a.early as (λ b. (mark_of b ≡ 1) ⊎ (mark_of b ≡ 0)) [ true ↦ inl refl | false ↦ inr refl ]
+either (Err w) us = inr refl
 
 module _ (s : List ℕ) (us : List ℤ) (one : Call)
     (meets : taken_answer one.answer one.left ≡ reading_of s us one.bytes) where

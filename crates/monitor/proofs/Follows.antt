@@ -2,17 +2,19 @@
 use mathlib.Core.Path.{◌≡◌, refl, sym, ap, ap₂, subst, ◌∙◌}
 use mathlib.Core.Bool.{Bool, true, false, cond, not, ◌&&◌}
 use mathlib.Core.List.{List, [], ◌∷◌, ◌++◌}
-use mathlib.Core.Option.{none, some}
+use mathlib.Core.Option.{some}
 use Prim.Native.Nat.{ℕ, ◌*◌, ◌≤◌, ◌<◌, min}
 use native.Mathlib.Omega.{arith}
 use borrow.Author.Tests.{ltb-true, ltb-false}
+use denote.Bor.{Bor}
 use mir.Syntax.{w64}
 use mir.Val.{to_z, SFits}
 use mir.ValLaws.{to_z_pos}
 use lib.Dec.{ltb}
 use lib.IntN.{ℤ, pos}
 use lib.Signed.{lt_z}
-use lib.ListN.{length, get_or, take, drop, set, length-take}
+use lib.ListN.{length, get_or, take, drop, set}
+use Rattle.std.specs.Prelude.{Result, Some, Ok, Err}
 use Rattle.arith.proofs.Ints.{small}
 use Rattle.csl.specs.Lists.{◌>>=◌}
 use Rattle.csl.specs.Syntax.{Agreement}
@@ -20,7 +22,6 @@ use Rattle.csl.specs.Decode.{agreement_of}
 use Rattle.csl.specs.Check.{checked, accepted}
 use Rattle.csl.specs.Outcomes.{Residue, units, done}
 use Rattle.csl.specs.Table as csl
-use Rattle.csl.specs.Run.{raw_reading}
 use Rattle.csl.specs.Table.{table_of, table_length, padded, head_cells, nat_cells, cells_of}
 use Rattle.csl.specs.Early.{mark_of}
 use Rattle.csl.specs.Cost.{total}
@@ -44,47 +45,41 @@ use Rattle.bridge.proofs.Refusals.{answer}
 use Rattle.cells.specs.Tables.{alters, head_of, reduced_table, stepped_table}
 use Rattle.bridge.proofs.Entries.{kept_cells, reading_eight, reading_nine, reading_ten, reading_done, reading_breach}
 use Rattle.bridge.proofs.Entries.{early_cells, marks_later, reading_running}
-use Rattle.readings.specs.Taking.{TakenIs, UntypedRead, FittingRead}
-use Rattle.readings.specs.declared.Taken.{Taken as Fitting}
-use Rattle.readings.specs.declared.Taken.TheVariants.{Malformed, Untyped, Fits}
-use Rattle.waits.specs.Fates.{mode_at}
-use Rattle.residues.specs.Tallies.{most_counted}
-use Rattle.walk.specs.Tree.{Tree, tree_reckoned}
+use Rattle.readings.specs.Taking.{TakenIs, FittingRead}
+use Rattle.readings.specs.declared.reading.Reading.{Reading}
+use Rattle.readings.specs.declared.Misfit.{Misfit}
+use Rattle.readings.specs.declared.Misfit.TheVariants.{Malformed, Untyped}
+use Rattle.waits.specs.Fates.{mode_of}
 use Rattle.waits.specs.declared.Event.{Event}
-use Rattle.waits.specs.declared.Step.TheVariants.{Follow}
+use Rattle.waits.specs.declared.Event.TheVariants.{Follow}
+use Rattle.residues.specs.Tallies.{most_counted}
+use Rattle.walk.specs.Tree.{Tree}
 use Rattle.walk.proofs.Trees.{tree_only}
 use Rattle.units.specs.Units.{sight_numbers}
-use Rattle.state.specs.Shown.{RunShows, run_in}
-use Rattle.monitor.specs.declared.Refusal.TheVariants.{ReadingForm, ReadingTyping, ReadingTime}
+use Rattle.state.specs.Shown.{RunShows, RunningAs, BreachedAs, Shows, run_in}
+use Rattle.state.specs.declared.State.{State}
+use Rattle.state.specs.declared.State.TheVariants.{Running, Fulfilled, Breached}
+use Rattle.monitor.specs.declared.Refusal.TheVariants.{ReadingTime}
 use Rattle.monitor.specs.declared.Refusal.TheVariants.{Units as tooManyUnits}
-use Rattle.monitor.specs.declared.Taken.TheVariants.{Accepted as acceptedReading, Refused as refusedReading}
-use Rattle.monitor.specs.declared.Run.{Run}
-use Rattle.monitor.specs.declared.Run.TheVariants.{Running, Fulfilled, Breached}
 use Rattle.monitor.specs.Answers.{taken_answer}
-use Rattle.reduction.specs.Steps.{main_reckoned, UnitsDue, DueBy, Due, reckoned_by, reckoned, reduced}
-use Rattle.monitor.specs.Steps.{ShowsRun, Opened}
+use Rattle.reduction.specs.Steps.{UnitsDue, Due, reckoned, reduced}
 use Rattle.reduction.specs.Steps.{advanced, cost_in, Advances}
-use Rattle.reduction.specs.declared.Advanced.{Advanced}
-use Rattle.reduction.specs.declared.Advanced.TheVariants.{TooMany, Wrote}
-use Rattle.monitor.specs.Steps.{Fitted, SomeReading, ReadAs, Judged}
+use Rattle.reduction.specs.declared.TooMany.{TooMany}
+use Rattle.reduction.specs.declared.Wrote.{Wrote}
 use Rattle.monitor.proofs.Begins.{short}
-use Rattle.monitor.proofs.Opens.{accepts}
 use Rattle.reduction.proofs.Tabled.{founds, sighted, has_tree}
+use Rattle.monitor.specs.Steps.{Opened, why_misfit, Fitted, SomeReading, ReadAs, some_later, Judged}
 
-fits_as : {s bytes : List ℕ} {us : List ℤ} {e : Event} {rs : List ℤ} (f : Fitted s bytes us e rs)
-    → fitting (agreement_of s) bytes ≡ some f.reading
+fits_as : {s bytes : List ℕ} {r : Reading} (f : FittingRead s bytes r) → fitting (agreement_of s) bytes ≡ some f.reading
 unfolding fitting ◌>>=◌
 fits_as f = rw f.is f.typed
 
-mode_as : {s bytes : List ℕ} {us : List ℤ} {e : Event} {rs : List ℤ} (f : Fitted s bytes us e rs)
-    → mode_at e rs ≡ cells.following f.reading.time f.reading.type (cells_of f.reading.values)
-mode_as f = rw (f.follows, f.time, f.type, f.cells) refl
+mode_as : {s bytes : List ℕ} {r : Reading} (f : FittingRead s bytes r)
+    → mode_of r ≡ cells.following f.reading.time f.reading.type (cells_of f.reading.values)
+mode_as f = rw (f.time, f.type, f.cells) refl
 
 pub time_fits : {t : ℕ} → t < 4_294_967_296 → SFits w64 (pos t)
 time_fits h = small (omega arith)
-
-pub prefix_length : {n : ℕ} (values : List ℤ) → n ≤ 4 → length values ≡ 4 → n ≡ length (take n values)
-prefix_length {n = n} values h e = omega (arith, length-take n values)
 
 -- of a fulfilled run's table the last reading time alone is another
 retimed : (us : List ℤ) (now m t : ℕ) → us ≡ table_of (run_at now m done)
@@ -124,204 +119,199 @@ judged_as : {b c : Bool} (altered : Bool) → (altered ≡ false → b ≡ c) �
 judged_as true h = refl
 judged_as false h = h refl
 
-module _ {s places : List ℕ} {us : List ℤ} {sights : List ℕ} {run : Run} (o : Opened s places us sights run) where
+module _ {s : List ℕ} {us : List ℤ} {sights : List ℕ} {state : State} (o : Opened s us sights state) where
   abbrev ag : Agreement
   ag = agreement_of s
 
   abbrev ck : checked s ≡ accepted (agreement_of s) (mains_of s)
-  ck = accepts o.goes
+  ck = o.accepted.is
 
-  in_order : {bytes : List ℕ} {e : Event} {rs : List ℤ} (f : Fitted s bytes us e rs) {q : _}
-      (r : RunShows (run_in s us) us q) → r.now ≤ f.reading.time
-  in_order f r = omega (arith, f.in_order r.now r.cell, f.time)
+  in_order : {bytes : List ℕ} {r : Reading} (f : Fitted s bytes us r) {q : _} (shown : RunShows (run_in s us) us q)
+      → shown.now ≤ f.fits.reading.time
+  in_order f shown = omega (arith, f.in_order shown.now shown.cell, f.fits.time)
 
 -- ---- a running run
-module _ {s places : List ℕ} {us : List ℤ} {sights : List ℕ} {n : ℕ} (o : Opened s places us sights (Running n)) where
+module _ {s : List ℕ} {us : List ℤ} {sights : List ℕ} {n : ℕ} (o : Opened s us sights (Running n)) where
+  pub runs : RunningAs (run_in s us) us sights n
+  unfolding Shows
+  runs = o.shows
+
   abbrev res : Residue
-  res = o.shows.residue
+  res = runs.residue
 
   abbrev now : ℕ
-  now = o.shows.shows.now
+  now = runs.shows.now
 
   abbrev moved : ℕ
-  moved = o.shows.shows.moved
+  moved = runs.shows.moved
 
   pub residue_sights : take (2 * units res) sights ≡ sight_numbers res
-  residue_sights = rw o.shows.count at o.shows.sighted
+  residue_sights = ap (λ k. take (2 * k) sights) (sym runs.count) ∙ runs.sighted
 
   pub units_ready : Tree (length s) sights (drop 8 us) n
-  units_ready = rw o.shows.count
-      (has_tree s (mains_of s) (ck o) now moved res us o.is_table o.shows.shows.is sights residue_sights)
+  units_ready = rw runs.count
+      (has_tree s (mains_of s) (ck o) now moved res us o.is_table runs.shows.is sights residue_sights)
 
-  -- some unit opens later than the event says
-  abbrev later : Event → List ℤ → Bool
-  later e rs = some_open_later e.time e.tag rs s n sights (drop 8 us)
+  abbrev later : Reading → Bool
+  later r = some_later s n sights us r
 
-  module _ {bytes : List ℕ} {e : Event} {rs : List ℤ} (f : Fitted s bytes us e rs) where
+  module _ {bytes : List ℕ} {r : Reading} (f : Fitted s bytes us r) where
     -- what the rules on cells give for a reading
     record Given : Type 0 where
       given : cells.Reckoned
-      is : table.across (mode_at e rs) s n sights (drop 8 us) ≡ given ∷ []
-      reads : reading_of s us bytes ≡ answered (mark_of (early_cells n us given.outcome (later e rs)))
-          (total given.tally) (kept_cells e.time n us given.outcome)
+      is : table.across (mode_of r) s n sights (drop 8 us) ≡ given ∷ []
+      reads : reading_of s us bytes ≡ answered (mark_of (early_cells n us given.outcome (later r)))
+          (total given.tally) (kept_cells r.time n us given.outcome)
       small : total given.tally ≤ most_counted
-      marks : e.tag ≡ 0 → later e rs ≡ false
+      marks : r.tag ≡ 0 → later r ≡ false
 
     following : Given
     following =
-        let d = f.reading in
+        let fits = f.fits in
+        let d = fits.reading in
         let more = drop (2 * units res) sights in
-        let le = in_order o f o.shows.shows in
-        let rok = (reading_ok (ag o) f.raw d f.typed).0 in
+        let le = in_order o f runs.shows in
+        let rok = (reading_ok (ag o) fits.raw d fits.typed).0 in
         let w = follow_across s (mains_of s) (is_fair s (ag o) (mains_of s) (ck o)) (founds s (mains_of s) (ck o)) now
-        moved res us o.is_table o.shows.shows.is more d rok in
-        let seen = sighted s (mains_of s) (ck o) now moved res us o.is_table o.shows.shows.is sights
+        moved res us o.is_table runs.shows.is more d rok in
+        let seen = sighted s (mains_of s) (ck o) now moved res us o.is_table runs.shows.is sights
         residue_sights in
         let same : some_open_later d.time d.type (cells_of d.values) s (units res) (sights_of (ag o) res ++ more)
-        (drop 8 us) ≡ later e rs =
-        ap₂ (λ k q. some_open_later d.time d.type (cells_of d.values) s k q (drop 8 us)) (sym o.shows.count)
+        (drop 8 us) ≡ later r =
+        ap₂ (λ k q. some_open_later d.time d.type (cells_of d.values) s k q (drop 8 us)) (sym runs.count)
         (sym seen)
-        ∙ ap₂ (λ t k. some_open_later t k (cells_of d.values) s n sights (drop 8 us)) (sym f.time) (sym f.type)
-        ∙ ap (λ vs. some_open_later e.time e.tag vs s n sights (drop 8 us)) (sym f.cells) in
+        ∙ ap₂ (λ t k. some_open_later t k (cells_of d.values) s n sights (drop 8 us)) (sym fits.time) (sym fits.type)
+        ∙ ap (λ vs. some_open_later r.time r.tag vs s n sights (drop 8 us)) (sym fits.cells) in
         record {
           given = w.given;
-          is = ap (λ m. table.across m s n sights (drop 8 us)) (mode_as f)
+          is = ap (λ m. table.across m s n sights (drop 8 us)) (mode_as fits)
               ∙ ap₂ (λ k q. table.across (cells.following d.time d.type (cells_of d.values)) s k q
-              (drop 8 us)) o.shows.count seen ∙ w.only;
-          reads = reading_running s (mains_of s) (ck o) us o.is_table now moved bytes d (fits_as f) le
-              (founds s (mains_of s) (ck o)) res more w.given o.shows.shows.is w.only
+              (drop 8 us)) runs.count seen ∙ w.only;
+          reads = reading_running s (mains_of s) (ck o) us o.is_table now moved bytes d (fits_as fits) le
+              (founds s (mains_of s) (ck o)) res more w.given runs.shows.is w.only
               ∙ ap (λ b. answered (mark_of (early_cells (units res) us w.given.outcome b)) (total w.given.tally)
               (kept_cells d.time (units res) us w.given.outcome)) same
-              ∙ ap₂ (λ t k. answered (mark_of (early_cells k us w.given.outcome (later e rs)))
-              (total w.given.tally) (kept_cells t k us w.given.outcome)) (sym f.time) (sym o.shows.count);
+              ∙ ap₂ (λ t k. answered (mark_of (early_cells k us w.given.outcome (later r)))
+              (total w.given.tally) (kept_cells t k us w.given.outcome)) (sym fits.time) (sym runs.count);
           small = omega (
             arith,
             follow_costs s (mains_of s) (is_fair s (ag o) (mains_of s) (ck o)) (founds s (mains_of s) (ck o)) now moved
                 res
-                us o.is_table o.shows.shows.is more d rok,
+                us o.is_table runs.shows.is more d rok,
             cost_of_units s (ag o) (mains_of s) (passed s (ag o) (mains_of s) (ck o)) d res,
-            o.shows.count,
-            o.shows.few,
+            runs.count,
+            runs.few,
           );
-          marks = λ z. sym same ∙ marks_later s (mains_of s) (ck o) us o.is_table now moved bytes d (fits_as f) le
-              (founds s (mains_of s) (ck o)) res more o.shows.shows.is (sym f.type ∙ z);
+          marks = λ z. sym same ∙ marks_later s (mains_of s) (ck o) us o.is_table now moved bytes d (fits_as fits) le
+              (founds s (mains_of s) (ck o)) res more runs.shows.is (sym fits.type ∙ z);
         }
 
-    follows_as : reckoned s sights us n e rs ≡ following.given
-    unfolding reckoned
-    follows_as = ap (λ k. reckoned_by k (main_reckoned s) (tree_reckoned (mode_at e rs) s n sights (drop 8 us)))
-        f.follows ∙ tree_only following.is
+  module _ (rr : Bor Reading) where
+    abbrev e : Event
+    e = Follow rr
 
-    -- no cost is so great that it is not counted whole
-    costs_as : {r : Advanced} {left : List ℤ} → Advances s sights us n e rs left r
-        → cost_in r ≡ total following.given.tally
-    costs_as a = a.costs ∙ ap (λ x. min (total x.tally) most_counted) follows_as
-        ∙ (let z : min (total following.given.tally) most_counted ≡ total following.given.tally = omega
-        (arith, following.small) in z)
-
-    -- the mark is the one judged on cells
-    reads_as : {r : Advanced} {left : List ℤ} → Advances s sights us n e rs left r
-        → answered (mark_of (early_cells n us (reduced s sights us n e rs) (later e rs))) (cost_in r) (advanced r left)
-        ≡ reading_of s us bytes
-    reads_as {r = r} a = ap₂ (λ x y. answered (mark_of (early_cells n us x.outcome (later e rs))) (cost_in r) y)
-        follows_as (a.is ∙ ap (λ x. kept_cells e.time n us x.outcome) follows_as)
-        ∙ ap (λ c. answered (mark_of (early_cells n us following.given.outcome (later e rs))) c
-        (kept_cells e.time n us following.given.outcome)) (costs_as a) ∙ sym following.reads
-
-  module _ {e : Event} {rs : List ℤ} where
-    pub follow_due : SomeReading s us e rs → Due s places sights us n e rs
+    pub follow_due : SomeReading s us rr.now → Due s sights us n rr.now.time e
     follow_due r =
         let f = r.1 in
-        let all : UnitsDue s sights us n e rs = record {
+        let all : UnitsDue s sights us n e = record {
           tree = units_ready;
           given = (following f).given;
           one = (following f).is;
         } in
         record {
-          indexed = o.goes.indexed;
-          short = short o.goes;
+          short = short o.accepted;
           is_table = o.is_table;
-          few = f.few;
-          held = o.shows.few;
-          soon = f.fits;
-          units = subst (λ k. DueBy k (UnitsDue s sights us n e rs)) (sym f.follows) all;
+          held = runs.few;
+          soon = f.fits.small;
+          units = all;
         }
 
-    module _ {r : Advanced} {left : List ℤ} (a : Advances s sights us n e rs left r) where
-      pub follow_no : {cost : ℕ} → r ≡ TooMany cost → ReadAs s us e rs (refusedReading tooManyUnits cost) left
-      unfolding answered
-      follow_no q = record {
-        is = λ bytes f. ap₂ (λ m r. answered m (cost_in r) (advanced r left))
-            (sym (early_over e.time n us (reduced s sights us n e rs) (later e rs)
-            (ap (λ r. advanced r left) (sym q) ∙ a.is))) (sym q) ∙ reads_as f a;
+    module _ {bytes : List ℕ} (f : Fitted s bytes us rr.now) where
+      follows_as : reckoned s sights us n e ≡ (following f).given
+      unfolding reckoned
+      follows_as = tree_only (following f).is
+
+      module _ {r : Result Wrote TooMany} {left : List ℤ} (a : Advances s sights us n rr.now.time e left r) where
+        -- no cost is so great that it is not counted whole
+        costs_as : cost_in r ≡ total (following f).given.tally
+        costs_as =
+            let tally = (following f).given.tally in
+            a.costs ∙ ap (λ x. min (total x.tally) most_counted) follows_as
+            ∙ (let z : min (total tally) most_counted ≡ total tally = omega (arith, (following f).small) in z)
+
+        -- the mark is the one judged on cells
+        reads_as : answered (mark_of (early_cells n us (reduced s sights us n e) (later rr.now))) (cost_in r)
+            (advanced r left) ≡ reading_of s us bytes
+        reads_as =
+            let given = (following f).given in
+            ap₂ (λ x y. answered (mark_of (early_cells n us x.outcome (later rr.now))) (cost_in r) y)
+            follows_as (a.is ∙ ap (λ x. kept_cells rr.now.time n us x.outcome) follows_as)
+            ∙ ap (λ c. answered (mark_of (early_cells n us given.outcome (later rr.now))) c
+            (kept_cells rr.now.time n us given.outcome)) costs_as ∙ sym (following f).reads
+
+    pub follow_no : {many : TooMany} {left : List ℤ} → Advances s sights us n rr.now.time e left (Err many)
+        → ReadAs s us rr.now (Err (record { why = tooManyUnits; cost = many.cost })) left
+    unfolding answered
+    follow_no {many} {left} a = record {
+      is = λ bytes f. ap (λ m. answered m many.cost (advanced (Err many) left))
+          (sym (early_over rr.now.time n us (reduced s sights us n e) (later rr.now) a.is)) ∙ reads_as f a;
+    }
+
+    module _ {w : Wrote} {left : List ℤ} (a : Advances s sights us n rr.now.time e left (Ok w)) where
+      -- where nothing altered the units are as they were
+      same_units : w.altered ≡ false → drop 8 left ≡ drop 8 us
+      unfolding stepped_table
+      same_units h = ap (drop 8) (kept_table rr.now.time n us (reduced s sights us n e) a.is)
+          ∙ idle_units (ag o) (mains_of s) (is_fair s (ag o) (mains_of s) (ck o)) now moved res us o.is_table
+          runs.shows.is rr.now.time _ (reduced s sights us n e)
+          (ap (λ k. alters k us (reduced s sights us n e)) (sym runs.count) ∙ sym a.told ∙ h)
+
+      pub judge_due : SomeReading s us rr.now → length left ≡ table_length
+          → Judged s sights left n rr.now w.altered
+      judge_due reading l = record {
+        is_table = l;
+        tree = λ h. subst (λ cs. Tree (length s) sights cs n) (sym (same_units h)) units_ready;
+        marks = λ h z. ap (λ cs. some_open_later rr.now.time rr.now.tag rr.now.values.items s n sights cs)
+            (same_units h) ∙ (following reading.1).marks z;
       }
 
-      module _ {altered : Bool} {cost : ℕ} (q : r ≡ Wrote altered cost) where
-        wrote : answer 0 left ≡ kept_cells e.time n us (reduced s sights us n e rs)
-        wrote = ap (λ r. advanced r left) (sym q) ∙ a.is
-
-        told : altered ≡ alters n us (reduced s sights us n e rs)
-        told = rw q at a.told
-
-        -- where nothing altered the units are as they were
-        same_units : altered ≡ false → drop 8 left ≡ drop 8 us
-        unfolding stepped_table
-        same_units h = ap (drop 8) (kept_table e.time n us (reduced s sights us n e rs) wrote)
-            ∙ idle_units (ag o) (mains_of s) (is_fair s (ag o) (mains_of s) (ck o)) now moved res us o.is_table
-            o.shows.shows.is e.time _ (reduced s sights us n e rs)
-            (ap (λ k. alters k us (reduced s sights us n e rs)) (sym o.shows.count) ∙ sym told ∙ h)
-
-        pub judge_due : SomeReading s us e rs → length left ≡ table_length → Judged s sights left n e rs altered
-        judge_due reading l =
-            let f = reading.1 in
-            record {
-              is_table = l;
-              short = short o.goes;
-              few = f.few;
-              soon = f.fits;
-              tree = λ h. subst (λ cs. Tree (length s) sights cs n) (sym (same_units h)) units_ready;
-              marks = λ h z. ap (λ cs. some_open_later e.time e.tag rs s n sights cs) (same_units h)
-                  ∙ (following f).marks z;
-            }
-
-        pub follow_yes : {early : Bool}
-            → early ≡ (not altered && some_open_later e.time e.tag rs s n sights (drop 8 left))
-            → ReadAs s us e rs (acceptedReading early cost) left
-        unfolding answered
-        follow_yes {early} h = record {
-          is = λ bytes f. ap₂ (λ b r. answered (mark_of b) (cost_in r) (advanced r left))
-              (h ∙ judged_as altered (λ g. ap (λ cs. some_open_later e.time e.tag rs s n sights cs) (same_units g))
-              ∙ ap (λ b. not b && later e rs) told
-              ∙ early_within e.time n us (reduced s sights us n e rs) (later e rs) wrote) (sym q) ∙ reads_as f a;
-        }
+      pub follow_yes : {early : Bool} → early ≡ (not w.altered && some_later s n sights left rr.now)
+          → ReadAs s us rr.now (Ok (record { early = early; cost = w.cost })) left
+      unfolding answered
+      follow_yes {early} h = record {
+        is = λ bytes f. ap (λ b. answered (mark_of b) w.cost (advanced (Ok w) left))
+            (h ∙ judged_as w.altered
+            (λ g. ap (λ cs. some_open_later rr.now.time rr.now.tag rr.now.values.items s n sights cs) (same_units g))
+            ∙ ap (λ b. not b && later rr.now) a.told
+            ∙ early_within rr.now.time n us (reduced s sights us n e) (later rr.now) a.is) ∙ reads_as f a;
+      }
 
 -- ---- a breached run, and a fulfilled one
-module _ {s places : List ℕ} {us : List ℤ} {sights : List ℕ} {e : Event} {rs : List ℤ} where
-  pub read_breached : {t : ℤ} {b : ℕ} → Opened s places us sights (Breached t b)
-      → ReadAs s us e rs (acceptedReading false 0) us
-  unfolding answered mark_of
-  read_breached o =
-      let b = o.shows in
+module _ {s : List ℕ} {us : List ℤ} {sights : List ℕ} {r : Reading} where
+  pub read_breached : {t b : ℕ} → Opened s us sights (Breached t b)
+      → ReadAs s us r (Ok (record { early = false; cost = 0 })) us
+  unfolding answered mark_of Shows
+  read_breached {t} {b} o =
+      let shown : BreachedAs (run_in s us) us t b = o.shows in
       record {
-        is = λ bytes f. sym (reading_breach s (mains_of s) (ck o) us o.is_table b.shows.now b.shows.moved bytes
-            f.reading
-            (fits_as f) (in_order o f b.shows) b.time _ b.shows.is);
+        is = λ bytes f. sym (reading_breach s (mains_of s) (ck o) us o.is_table shown.shows.now shown.shows.moved bytes
+            f.fits.reading (fits_as f.fits) (in_order o f shown.shows) t _ shown.shows.is);
       }
 
-  pub read_done : Opened s places us sights Fulfilled
-      → ReadAs s us e rs (acceptedReading false 0) (set us 1 (to_z w64 e.time))
-  unfolding answered mark_of
+  pub read_done : Opened s us sights Fulfilled
+      → ReadAs s us r (Ok (record { early = false; cost = 0 })) (set us 1 (to_z w64 r.time))
+  unfolding answered mark_of Shows
   read_done o =
-      let r = o.shows in
-      let back = sym (table_back (ag o) (mains_of s) us (run_at r.now r.moved done) r.is o.is_table) in
+      let shown : RunShows (run_in s us) us done = o.shows in
+      let back = sym (table_back (ag o) (mains_of s) us (run_at shown.now shown.moved done) shown.is o.is_table) in
       record {
         is = λ bytes f.
             ap (λ cells. answered 0 0 (answer 0 cells))
-            (ap (set us 1) (to_z_pos w64 e.time (omega (arith, f.fits)) ∙ ap pos f.time)
-            ∙ retimed us r.now r.moved f.reading.time back)
-            ∙ sym (reading_done s (mains_of s) (ck o) us o.is_table r.now r.moved bytes f.reading
-            (fits_as f)
-            (in_order o f r) r.is);
+            (ap (set us 1) (to_z_pos w64 r.time (omega (arith, f.fits.small)) ∙ ap pos f.fits.time)
+            ∙ retimed us shown.now shown.moved f.fits.reading.time back)
+            ∙ sym (reading_done s (mains_of s) (ck o) us o.is_table shown.now shown.moved bytes f.fits.reading
+            (fits_as f.fits)
+            (in_order o f shown) shown.is);
       }
 
 -- ---- before the reading is known to fit
@@ -330,76 +320,42 @@ record SomeRun (s : List ℕ) (us : List ℤ) : Type 0 where
   is : run_in s us ≡ some run
   cell : get_or us 1 (pos 0) ≡ pos run.last_time
 
-some_run : (s : List ℕ) (us : List ℤ) (sights : List ℕ) (r : Run) → ShowsRun s us sights r → SomeRun s us
+some_run : (s : List ℕ) (us : List ℤ) (sights : List ℕ) (state : State) → Shows (run_in s us) us sights (Some state)
+    → SomeRun s us
+unfolding Shows
 some_run s us sights (Running n) v = record { run = _; is = v.shows.is; cell = v.shows.cell }
 some_run s us sights Fulfilled v = record { run = _; is = v.is; cell = v.cell }
 some_run s us sights (Breached t b) v = record { run = _; is = v.shows.is; cell = v.shows.cell }
 
-module _ {s places : List ℕ} {us : List ℤ} {sights : List ℕ} {r : Run} (o : Opened s places us sights r)
-    (bytes : List ℕ) (values : List ℤ) (t : Fitting) (h : TakenIs s bytes t values) where
-  abbrev shown : SomeRun s us
-  shown = some_run s us sights r o.shows
+module _ {s : List ℕ} {us : List ℤ} {sights : List ℕ} {state : State} (o : Opened s us sights state) (bytes : List ℕ)
+  where
+    abbrev shown : SomeRun s us
+    shown = some_run s us sights state o.shows
 
-  pub read_eight : t ≡ Malformed → taken_answer (refusedReading ReadingForm 0) us ≡ reading_of s us bytes
-  unfolding answered
-  read_eight g =
-      let f : raw_reading bytes ≡ none = rw g at h in
-      sym (reading_eight s (mains_of s) (ck o) us o.is_table shown.run shown.is bytes f)
+    pub read_misfit : (m : Misfit) → TakenIs s bytes (Err m)
+        → taken_answer (Err (record { why = why_misfit m; cost = 0 })) us ≡ reading_of s us bytes
+    unfolding answered
+    read_misfit Malformed f = sym (reading_eight s (mains_of s) (ck o) us o.is_table shown.run shown.is bytes f)
+    read_misfit Untyped f = sym (reading_nine s (mains_of s) (ck o) us o.is_table shown.run shown.is bytes f.raw f.is
+        f.untyped)
 
-  pub read_nine : t ≡ Untyped → taken_answer (refusedReading ReadingTyping 0) us ≡ reading_of s us bytes
-  unfolding answered
-  read_nine g =
-      let f : UntypedRead s bytes = rw g at h in
-      sym (reading_nine s (mains_of s) (ck o) us o.is_table shown.run shown.is bytes f.raw f.is
-      f.untyped)
+    module _ {r : Reading} (f : FittingRead s bytes r) {z : ℤ} (ez : z ≡ get_or us 1 (pos 0)) where
+      -- the time of the last reading, as the code compares
+      earlier : lt_z (to_z w64 r.time) z ≡ ltb r.time shown.run.last_time
+      earlier = ap₂ lt_z (to_z_pos w64 r.time (omega (arith, f.small))) (ez ∙ shown.cell)
 
-  module _ {time tag n : ℕ} (g : t ≡ Fits time tag n) where
-    abbrev fitting_read : FittingRead s bytes values time tag n
-    fitting_read = rw g at h
+      pub read_ten : lt_z (to_z w64 r.time) z ≡ true
+          → taken_answer (Err (record { why = ReadingTime; cost = 0 })) us ≡ reading_of s us bytes
+      unfolding answered
+      read_ten t = sym (reading_ten s (mains_of s) (ck o) us o.is_table shown.run shown.is bytes f.reading (fits_as f)
+          (omega (arith, ltb-true r.time shown.run.last_time (sym earlier ∙ t), f.time)))
 
-    pub read_few : n ≤ 4
-    read_few = fitting_read.few
-
-    pub read_soon : time < 4_294_967_296
-    read_soon = fitting_read.small
-
-    -- the time of the last reading, as the code compares
-    earlier : {z : ℤ} {b : Bool} → z ≡ get_or us 1 (pos 0) → b ≡ lt_z (to_z w64 time) z
-        → b ≡ ltb time shown.run.last_time
-    unfolding lt_z
-    earlier ez eb = eb ∙ ap₂ lt_z (to_z_pos w64 time (omega (arith, read_soon))) (ez ∙ shown.cell)
-
-    pub read_ten : {z : ℤ} {b : Bool} → z ≡ get_or us 1 (pos 0) → b ≡ lt_z (to_z w64 time) z → b ≡ true
-        → taken_answer (refusedReading ReadingTime 0) us ≡ reading_of s us bytes
-    unfolding fitting ◌>>=◌ answered
-    read_ten ez eb t =
-        let f = fitting_read in
-        let fits : fitting (ag o) bytes ≡ some f.reading = rw f.is f.typed in
-        sym (reading_ten s (mains_of s) (ck o) us o.is_table shown.run shown.is bytes f.reading fits
-        (omega (arith, ltb-true time shown.run.last_time (sym (earlier ez eb) ∙ t), f.time)))
-
-    pub read_fitted : {z : ℤ} {b : Bool} → z ≡ get_or us 1 (pos 0) → b ≡ lt_z (to_z w64 time) z → b ≡ false
-        → Fitted s bytes us (record {
-          step = Follow;
-          time = time;
-          tag = tag;
-        }) (take n values)
-    read_fitted ez eb t =
-        let f = fitting_read in
-        record {
-          raw = f.raw;
-          reading = f.reading;
-          is = f.is;
-          typed = f.typed;
-          follows = refl;
-          time = f.time;
-          type = f.type;
-          cells = f.cells;
-          few = omega (arith, f.few, length-take n values);
-          fits = f.small;
-          in_order = λ now e. omega (
-            arith,
-            ltb-false time shown.run.last_time (sym (earlier ez eb) ∙ t),
-            pos_inj (sym e ∙ shown.cell),
-          );
-        }
+      pub read_fitted : lt_z (to_z w64 r.time) z ≡ false → Fitted s bytes us r
+      read_fitted t = record {
+        fits = f;
+        in_order = λ now e. omega (
+          arith,
+          ltb-false r.time shown.run.last_time (sym earlier ∙ t),
+          pos_inj (sym e ∙ shown.cell),
+        );
+      }

@@ -1,19 +1,18 @@
 -- Laws for a forecast.
 use mathlib.Core.Path.{◌≡◌, refl, sym, ap, ap₂, subst, ◌∙◌}
 use mathlib.Core.List.{List, [], ◌∷◌}
+use Rattle.std.specs.Prelude.{Option, Result, Ok, Some, None}
 use Prim.Native.Nat.{ℕ, ◌-◌, ◌*◌, ◌^◌, ◌<◌}
 use native.Mathlib.Omega.{arith}
-use lib.Dec.{le→leb}
-use lib.IntN.{ℤ, pos}
-use lib.Signed.{mag, ◌≤ℤ◌}
+use lib.IntN.{ℤ, pos, nat_abs}
+use lib.Signed.{mag}
 use lib.ListN.{drop, length, take}
 use Rattle.arith.proofs.Ints.{seen, read! }
 use Rattle.csl.specs.Parties.{members}
 use Rattle.csl.specs.Decode.{agreement_of}
-use Rattle.csl.specs.Outcomes.{units}
+use Rattle.csl.specs.Outcomes.{done, units}
 use Rattle.csl.specs.Entries as entries
 use Rattle.csl.specs.Entries.{forecast_of}
-use Rattle.laws.proofs.Integers.{pos_inj}
 use Rattle.soundness.proofs.Bits.{bits_members}
 use Rattle.soundness.proofs.Runs.{is_fair}
 use Rattle.cells.specs.Reduce as cells
@@ -29,26 +28,26 @@ use Rattle.residues.specs.declared.Reduced.TheVariants.{Done, Breach, Running}
 use Rattle.residues.proofs.Reduces.{is_done, is_breach, is_running}
 use Rattle.walk.proofs.Trees.{tree_only}
 use Rattle.walk.specs.Tree.{Tree, tree_reckoned}
-use Rattle.monitor.specs.declared.Foretold.TheVariants.{Nothing, Breach as breachForetold}
-use Rattle.monitor.specs.declared.Run.TheVariants as run
+use Rattle.monitor.specs.declared.Breach.{Breach as foundBreach}
+use Rattle.monitor.specs.declared.Refusal.{Refusal}
+use Rattle.state.specs.Shown.{RunShows, BreachedAs, Shows, run_in}
+use Rattle.state.specs.declared.State.TheVariants as state
 use Rattle.monitor.specs.Answers.{forecast_answer}
 use Rattle.monitor.specs.Steps.{Opened}
 use Rattle.reduction.proofs.Advances.{behind_head}
-use Rattle.monitor.proofs.Opens.{accepts}
 use Rattle.reduction.proofs.Tabled.{founds, sighted}
-use Rattle.monitor.proofs.Follows.{residue_sights, units_ready}
+use Rattle.monitor.proofs.Follows.{runs, residue_sights, units_ready}
 
--- ---- a time u in a cell t, read as m
-module _ {t : ℤ} {u : ℕ} (fits : mag t < 2 ^ 63) (is : t ≡ pos u) where
-  not_below : pos 0 ≤ℤ seen t
-  not_below = subst (λ z. pos 0 ≤ℤ z) (sym (read! fits ∙ is)) (record { le = le→leb 0 u (omega arith) })
+-- a time u in a cell t, read as m
+time_read : {t : ℤ} {u m : ℕ} → mag t < 2 ^ 63 → t ≡ pos u → m ≡ nat_abs (seen t) → m ≡ u
+time_read fits is h = h ∙ ap nat_abs (read! fits ∙ is)
 
-  time_read : {m : ℕ} → pos m ≡ seen t → m ≡ u
-  time_read e = pos_inj (e ∙ read! fits ∙ is)
+-- the answer for a breach at a time, by parties
+abbrev told : ℕ → ℕ → Result (Option foundBreach) Refusal
+told time parties = Ok (Some (record { time = time; parties = parties }))
 
 -- ---- a running run, without readings
-module _ {s places : List ℕ} {us : List ℤ} {sights : List ℕ} {n : ℕ}
-    (o : Opened s places us sights (run.Running n)) where
+module _ {s : List ℕ} {us : List ℤ} {sights : List ℕ} {n : ℕ} (o : Opened s us sights (state.Running n)) where
   record Given : Type 0 where
     given : cells.Reckoned
     is : table.across cells.forecasting s n sights (drop 8 us) ≡ given ∷ []
@@ -57,9 +56,9 @@ module _ {s places : List ℕ} {us : List ℤ} {sights : List ℕ} {n : ℕ}
 
   ahead : Given
   ahead =
-      let ck = accepts o.goes in
-      let shown = o.shows.shows in
-      let res = o.shows.residue in
+      let ck = o.accepted.is in
+      let shown = (runs o).shows in
+      let res = (runs o).residue in
       let more = drop (2 * units res) sights in
       let w = forecast_across s (mains_of s) (is_fair s (agreement_of s) (mains_of s) ck) (founds s (mains_of s) ck)
       shown.now shown.moved res us o.is_table shown.is more in
@@ -69,7 +68,7 @@ module _ {s places : List ℕ} {us : List ℤ} {sights : List ℕ} {n : ℕ}
       (residue_sights o) in
       record {
         given = w.given;
-        is = ap₂ (λ k q. table.across cells.forecasting s k q (drop 8 us)) o.shows.count same ∙ w.only;
+        is = ap₂ (λ k q. table.across cells.forecasting s k q (drop 8 us)) (runs o).count same ∙ w.only;
         answers = f.0;
         ends = f.1;
       }
@@ -87,12 +86,12 @@ module _ {s places : List ℕ} {us : List ℤ} {sights : List ℕ} {n : ℕ}
         (tree_only (ap (table.across cells.forecasting s n sights) (behind_head us) ∙ ahead.is)) h.outcome)
 
     -- what is no breach is fulfilled, for nothing waits on
-    pub ahead_none : ((t : ℤ) (b : ℕ) → r ≡ Breach t b → ⊥) → forecast_answer Nothing ≡ forecast_of s us
+    pub ahead_none : ((t : ℤ) (b : ℕ) → r ≡ Breach t b → ⊥) → forecast_answer (Ok None) ≡ forecast_of s us
     unfolding foretold
     ahead_none f = go r f (is_for refl)
       where
         go : (q : Reduced) → ((t : ℤ) (b : ℕ) → q ≡ Breach t b → ⊥) → Is ahead.given.outcome q out
-            → forecast_answer Nothing ≡ forecast_of s us
+            → forecast_answer (Ok None) ≡ forecast_of s us
         go Done f i = sym (ahead.answers ∙ ap foretold (is_done out ahead.given.outcome i))
         go (Breach t b) f i = absurd (f t b refl)
         go (Running n) f i = let g = is_running out ahead.given.outcome i in absurd (ahead.ends g.0 g.1)
@@ -101,27 +100,24 @@ module _ {s places : List ℕ} {us : List ℤ} {sights : List ℕ} {n : ℕ}
       dated : (u : ℕ) × (ahead.given.outcome ≡ cells.breach u b) × (t ≡ pos u)
       dated = is_breach out ahead.given.outcome (is_for e)
 
-      pub ahead_time : pos 0 ≤ℤ seen t
-      ahead_time = not_below fits dated.2
-
-      pub ahead_breach : {m : ℕ} → pos m ≡ seen t → forecast_answer (breachForetold m b) ≡ forecast_of s us
+      pub ahead_breach : {m : ℕ} → m ≡ nat_abs (seen t) → forecast_answer (told m b) ≡ forecast_of s us
       unfolding foretold
       ahead_breach h = ap (λ u. entries.breach_at u b) (time_read fits dated.2 h)
           ∙ sym (ahead.answers ∙ ap foretold dated.1)
 
 -- ---- a fulfilled run, and a breached one
-module _ {s places : List ℕ} {us : List ℤ} {sights : List ℕ} where
-  pub foretell_done : Opened s places us sights run.Fulfilled → forecast_answer Nothing ≡ forecast_of s us
-  foretell_done o = let r = o.shows in
-      sym (forecast_done s (mains_of s) (accepts o.goes) us o.is_table r.now r.moved r.is)
+module _ {s : List ℕ} {us : List ℤ} {sights : List ℕ} where
+  pub foretell_done : Opened s us sights state.Fulfilled → forecast_answer (Ok None) ≡ forecast_of s us
+  unfolding Shows
+  foretell_done o =
+      let r : RunShows (run_in s us) us done = o.shows in
+      sym (forecast_done s (mains_of s) o.accepted.is us o.is_table r.now r.moved r.is)
 
-  module _ {t : ℤ} {b : ℕ} (fits : mag t < 2 ^ 63) (o : Opened s places us sights (run.Breached t b)) where
-    pub foretell_time : pos 0 ≤ℤ seen t
-    foretell_time = not_below fits o.shows.is_time
-
-    pub foretell_breach : {m : ℕ} → pos m ≡ seen t → forecast_answer (breachForetold m b) ≡ forecast_of s us
-    foretell_breach h =
-        let r = o.shows in
-        ap₂ entries.breach_at (time_read fits r.is_time h) (sym (bits_members b (omega (arith, r.small))))
-        ∙ sym (forecast_breach s (mains_of s) (accepts o.goes) us o.is_table r.shows.now r.shows.moved
-        r.time (members b) r.shows.is)
+  pub foretell_breach : {t b : ℕ} → Opened s us sights (state.Breached t b)
+      → forecast_answer (told t b) ≡ forecast_of s us
+  unfolding Shows
+  foretell_breach {t} {b} o =
+      let r : BreachedAs (run_in s us) us t b = o.shows in
+      ap (entries.breach_at t) (sym (bits_members b (omega (arith, r.small))))
+      ∙ sym (forecast_breach s (mains_of s) o.accepted.is us o.is_table r.shows.now r.shows.moved
+      t (members b) r.shows.is)

@@ -1,5 +1,5 @@
 -- What the entries' answers say: paper 01's number, and the values, for each case.
-use Rattle.std.specs.Prelude.{List, ℕ, ℤ}
+use Rattle.std.specs.Prelude.{List, ℕ, ℤ, Option, Some, None, Result, Ok, Err}
 use Rattle.csl.specs.Check.{CheckAnswer}
 use Rattle.csl.specs.Entries as entries
 use Rattle.csl.specs.Entries.{Answer, ReadingAnswer}
@@ -9,14 +9,23 @@ use Rattle.monitor.specs.declared.Refusal.TheVariants.{AgreementLength, Agreemen
 use Rattle.monitor.specs.declared.Refusal.TheVariants.{AgreementGuards, AgreementWidth, TableLength}
 use Rattle.monitor.specs.declared.Refusal.TheVariants.{TableContent, ReadingForm, ReadingTyping, ReadingTime}
 use Rattle.monitor.specs.declared.Refusal.TheVariants.{Units}
-use Rattle.monitor.specs.declared.Checked.{Checked}
-use Rattle.monitor.specs.declared.Checked.TheVariants.{Accepted, Refused}
-use Rattle.monitor.specs.declared.Started.{Started}
-use Rattle.monitor.specs.declared.Started.TheVariants.{Begun, Refused as refusedStart}
-use Rattle.monitor.specs.declared.Taken.{Taken}
-use Rattle.monitor.specs.declared.Taken.TheVariants.{Accepted as acceptedReading, Refused as refusedReading}
-use Rattle.monitor.specs.declared.Foretold.{Foretold}
-use Rattle.monitor.specs.declared.Foretold.TheVariants.{Nothing, Breach, Refused as refused_forecast}
+use Rattle.monitor.specs.declared.Accepted.{Accepted}
+use Rattle.monitor.specs.declared.Refused.{Refused}
+use Rattle.monitor.specs.declared.Breach.{Breach}
+
+-- what each entry answers: the main clause's parties by bit; that a run has begun; of a reading whether it came too
+-- early and what it cost; the breach ahead, if there is one. Or a refusal, of a reading with its cost
+abbrev pub Checked : Type 0
+Checked = Result ℕ Refusal
+
+abbrev pub Started : Type 0
+Started = Result (Unit {0}) Refusal
+
+abbrev pub Taken : Type 0
+Taken = Result Accepted Refused
+
+abbrev pub Foretold : Type 0
+Foretold = Result (Option Breach) Refusal
 
 -- "Refusal table"
 abbrev pub number_of : Refusal → ℕ
@@ -34,21 +43,20 @@ number_of Units = 11
 
 -- check: "Success returns 0; check also returns the main clause's parties"; a refusal's other results are zero
 abbrev pub check_answer : Checked → CheckAnswer
-check_answer (Accepted parties) = record { number = 0; parties = parties }
-check_answer (Refused r) = record { number = number_of r; parties = 0 }
+check_answer (Ok parties) = record { number = 0; parties = parties }
+check_answer (Err r) = record { number = number_of r; parties = 0 }
 
 -- start: a number, and the table afterwards
 abbrev pub start_answer : Started → List ℤ → Answer
-start_answer Begun table = record { number = 0; table = table }
-start_answer (refusedStart r) table = record { number = number_of r; table = table }
+start_answer (Ok begun) table = record { number = 0; table = table }
+start_answer (Err r) table = record { number = number_of r; table = table }
 
 -- a reading; paper 02, Nos. 8 and 9: with the mark "early", and what it costs
 abbrev pub taken_answer : Taken → List ℤ → ReadingAnswer
-taken_answer (acceptedReading early cost) table =
-    record { number = 0; early = mark_of early; cost = cost; table = table }
-taken_answer (refusedReading r cost) table = record { number = number_of r; early = 0; cost = cost; table = table }
+taken_answer (Ok a) table = record { number = 0; early = mark_of a.early; cost = a.cost; table = table }
+taken_answer (Err r) table = record { number = number_of r.why; early = 0; cost = r.cost; table = table }
 
 abbrev pub forecast_answer : Foretold → entries.Forecast
-forecast_answer Nothing = entries.no_breach
-forecast_answer (Breach t b) = entries.breach_at t b
-forecast_answer (refused_forecast r) = entries.refused_forecast (number_of r)
+forecast_answer (Ok None) = entries.no_breach
+forecast_answer (Ok (Some b)) = entries.breach_at b.time b.parties
+forecast_answer (Err r) = entries.refused_forecast (number_of r)

@@ -4,6 +4,7 @@
 -- run's; 11 if and only if the residue needs more than 128 units; a breach names only parties that can be blamed,
 -- at a time from the start to the reading that showed it; after it no reading alters a cell."
 use Rattle.std.specs.Prelude.{◌≡◌, ◌≢◌, ◌↔◌, List, [], ◌∷◌, ◌++◌, ℕ, ◌*◌, ◌≤◌, ◌<◌, T, ℤ, pos, length}
+use Rattle.std.specs.Prelude.{Ok}
 use Rattle.std.proofs.Math.Option.{some}
 use Rattle.csl.specs.Lists.{at}
 use Rattle.csl.specs.Parties.{subset}
@@ -17,9 +18,7 @@ use Rattle.csl.specs.Entries.{start_of}
 use Rattle.csl.specs.Demand3.{Bytes, AllBytes, fitting, reached, needed, NotStuck, IsBreach, Unaltered, run_after}
 use Rattle.csl.specs.Demand3.{numbers_by, marks_by, costs_by}
 use Rattle.csl.specs.Marks.{time_in}
-use Rattle.monitor.specs.declared.Started.{Started}
-use Rattle.monitor.specs.declared.Started.TheVariants.{Begun}
-use Rattle.monitor.specs.Answers.{start_answer}
+use Rattle.monitor.specs.Answers.{Started, start_answer}
 use Rattle.monitor.specs.Calls.{Call, Calls, last_table, readings_in, number_in, numbers_in, early_in}
 use Rattle.monitor.specs.Calls.{marks_in, cost_in, costs_in}
 use Rattle.monitor.specs.Early.{TooEarly}
@@ -39,7 +38,7 @@ pub record Upheld (a : Agreement) (mains : List ℕ) (r : Started) (us : List �
   -- "the run by the rules is never stuck"
   pub never_stuck : (before later : List Call) → calls ≡ before ++ later → NotStuck (run_by a before).outcome
   -- "each answer carries the run's number": the start's, which is 0, and every reading's
-  pub begun : r ≡ Begun
+  pub begun : r ≡ Ok tt
   pub numbers : numbers_in calls ≡ numbers_by a (started a).run (readings_in calls)
   -- "the table afterwards is well typed": it has its cells, and 7 does not apply
   pub cells : length (last_table us calls) ≡ table_length
@@ -103,8 +102,8 @@ Demand3 =
     → Bytes s → AllBytes (readings_in calls) → IsStarted s lent a mains
     → start_answer r us ≡ start_of s lent → Calls s us calls → Upheld a mains r us calls
 
--- and a start that answers `Begun` was given such an agreement
+-- and a start that answers `Ok` was given such an agreement
 unfoldable pub Begins : Type 0
 Begins =
-    (s : List ℕ) (lent : List ℤ) (us : List ℤ) → start_answer Begun us ≡ start_of s lent
+    (s : List ℕ) (lent : List ℤ) (us : List ℤ) → start_answer (Ok tt) us ≡ start_of s lent
     → (a : Agreement) × (mains : List ℕ) × IsStarted s lent a mains

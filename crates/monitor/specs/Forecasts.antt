@@ -9,8 +9,7 @@ use Rattle.csl.specs.Table.{Run, table_length, run_of}
 use Rattle.csl.specs.Entries.{Forecast, no_breach, breach_at, forecast_of}
 use Rattle.csl.specs.Demand3.{AllBytes}
 use Rattle.csl.specs.Marks.{IsMark, time_in, AllTimes, Breached, breach_table, ForecastFits}
-use Rattle.monitor.specs.declared.Foretold.{Foretold}
-use Rattle.monitor.specs.Answers.{forecast_answer}
+use Rattle.monitor.specs.Answers.{Foretold, forecast_answer}
 use Rattle.monitor.specs.Calls.{Call, Calls, last_table, readings_in, number_in}
 
 unfoldable pub AcceptedMarks : Agreement → List Call → Type 0

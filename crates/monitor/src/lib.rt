@@ -1,39 +1,29 @@
 // The public entries of paper 01. No entry relies on an earlier check.
 #![tactic(auto)]
 
-ghost use Rattle.std.specs.Prelude.{◌≡◌, not, ◌&&◌, ℕ, ◌≤◌, pos, length, drop, ◌≤ℤ◌};
-ghost use Rattle.cells.specs.Across.{some_open_later};
-ghost use Rattle.csl.specs.Check.{check_of};
+ghost use Rattle.std.specs.Prelude.{◌≡◌, not, ◌&&◌, length, Ok};
+ghost use Rattle.csl.specs.Check.{Accepted as IsAccepted, check_of};
 ghost use Rattle.csl.specs.Entries.{start_of, reading_of, forecast_of};
 ghost use Rattle.csl.specs.Table.{table_length};
 ghost use Rattle.monitor.specs.Answers.{number_of, check_answer, start_answer, taken_answer, forecast_answer};
-ghost use Rattle.monitor.specs.Steps.{index_length, sights_length, Goes, Verified, Admitted, Opened, Opens};
-ghost use Rattle.monitor.specs.Steps.{SomeReading, ReadAs, Judged};
+ghost use Rattle.monitor.specs.Steps.{sights_length, Read, Verified, Admitted, Opened, Opens, why_misfit};
+ghost use Rattle.monitor.specs.Steps.{SomeReading, ReadAs, Judged, some_later};
 
-use arith::less;
 use cells::{HEAD_CELLS, LAST_TIME, MOST_UNITS, TABLE_CELLS};
-use octets::unsigned32;
-use readings::Taken as Fitting;
-use records::START_AT;
-use reduction::{Advanced, advance};
+use readings::{Misfit, Reading};
+use records::Agreement;
+use reduction::{TooMany, Wrote, advance};
 use residues::Reduced;
 use state::{State, state_of};
-use typing::Typed;
-use waits::{Event, Step};
-use walk::across;
+use waits::Event;
 use walk::later::some_open_later;
-
-// The places of its index.
-const PLACES: usize = 49;
-
-// The most values of a reading.
-const VALUES: usize = 4;
+use walk::{Units, across};
 
 // Two numbers for each unit say what is in sight there.
 const SIGHTS: usize = 2 * MOST_UNITS;
 
 // Why an entry refuses. The paper's numbers are given by `number_of`.
-#[derive(Clone, Copy)]
+#[derive(Clone, Copy, Debug, PartialEq, Eq)]
 pub enum Refusal {
     AgreementLength,
     AgreementForm,
@@ -48,356 +38,293 @@ pub enum Refusal {
     Units,
 }
 
-// The main clause's parties by bit, or why not.
-#[derive(Clone, Copy)]
-pub enum Checked {
-    Accepted(usize),
-    Refused(Refusal),
-}
+// The paper's number of a refusal.
+impl From<Refusal> for u32 {
+    ghost from_gives = { λ refusal number. number ≡ number_of refusal };
 
-#[derive(Clone, Copy)]
-pub enum Started {
-    Begun,
-    Refused(Refusal),
-}
-
-// `early` says that the reading came too early: nothing altered, and some unit waits for it and opens later. `cost` is
-// what the reading cost, which of the refusals only `Units` has.
-#[derive(Clone, Copy)]
-pub enum Taken {
-    Accepted { early: bool, cost: usize },
-    Refused { why: Refusal, cost: usize },
-}
-
-// No breach ahead, or when and by whom, by bit.
-#[derive(Clone, Copy)]
-pub enum Foretold {
-    Nothing,
-    Breach { time: u64, parties: usize },
-    Refused(Refusal),
-}
-
-// Refusals 1 to 5, each judged over the whole agreement before the next; the index is filled on the way.
-fn verify(agreement: &[u8], places: &mut [usize]) -> Checked
-    requires { length places.old ≡ index_length }
-    ensures { Verified agreement.now places.new result }
-{
-    if !records::sized(agreement) {
-        return Checked::Refused(Refusal::AgreementLength);
-    }
-    if !formed::well_formed(agreement, places) {
-        return Checked::Refused(Refusal::AgreementForm);
-    }
-    match typing::agreement_parties(agreement, places) {
-        Typed::Untyped => Checked::Refused(Refusal::AgreementTyping),
-        Typed::Parties(parties) => {
-            if !guards::guarded(agreement, places) {
-                return Checked::Refused(Refusal::AgreementGuards);
-            }
-            if !guards::narrow(agreement, places) {
-                return Checked::Refused(Refusal::AgreementWidth);
-            }
-            Checked::Accepted(parties)
+    fn from(refusal: Refusal) -> u32 {
+        match refusal {
+            Refusal::AgreementLength => 1,
+            Refusal::AgreementForm => 2,
+            Refusal::AgreementTyping => 3,
+            Refusal::AgreementGuards => 4,
+            Refusal::AgreementWidth => 5,
+            Refusal::TableLength => 6,
+            Refusal::TableContent => 7,
+            Refusal::ReadingForm => 8,
+            Refusal::ReadingTyping => 9,
+            Refusal::ReadingTime => 10,
+            Refusal::Units => 11,
         }
     }
 }
 
-// Checks an agreement of any bytes.
-pub fn check(agreement: &[u8]) -> Checked
+// A reading that is taken: `early` says that it came too early (nothing altered, and some unit waits for it and opens
+// later), `cost` what it cost.
+#[derive(Clone, Copy, Debug, PartialEq, Eq)]
+pub struct Accepted {
+    pub early: bool,
+    pub cost: usize,
+}
+
+// A reading that is refused. Of the refusals only `Units` has a cost.
+#[derive(Clone, Copy, Debug, PartialEq, Eq)]
+pub struct Refused {
+    pub why: Refusal,
+    pub cost: usize,
+}
+
+// A refusal before any unit is read.
+impl From<Refusal> for Refused {
+    ghost from_gives = { λ why refused. refused ≡ record { why = why; cost = 0 } };
+
+    fn from(why: Refusal) -> Refused {
+        Refused { why, cost: 0 }
+    }
+}
+
+// A reading that is none, or that does not fit.
+impl From<Misfit> for Refused {
+    ghost from_gives = { λ misfit refused. refused ≡ record { why = why_misfit misfit; cost = 0 } };
+
+    fn from(misfit: Misfit) -> Refused {
+        match misfit {
+            Misfit::Malformed => Refusal::ReadingForm.into(),
+            Misfit::Untyped => Refusal::ReadingTyping.into(),
+        }
+    }
+}
+
+// A reading that leads to more units than a table has.
+impl From<TooMany> for Refused {
+    ghost use Rattle.monitor.specs.declared.Refusal.TheVariants.{Units};
+
+    ghost from_gives = { λ many refused. refused ≡ record { why = Units; cost = many.cost } };
+
+    fn from(many: TooMany) -> Refused {
+        Refused {
+            why: Refusal::Units,
+            cost: many.cost,
+        }
+    }
+}
+
+// A breach ahead: when, and by whom, by bit.
+#[derive(Clone, Copy, Debug, PartialEq, Eq)]
+pub struct Breach {
+    pub time: u64,
+    pub parties: usize,
+}
+
+// Refusals 1 and 2.
+fn read(bytes: &[u8]) -> Result<Agreement<'_>, Refusal>
+    ensures { Read bytes.now result }
+{
+    if !records::sized(bytes) {
+        return Err(Refusal::AgreementLength);
+    }
+    formed::well_formed(bytes).ok_or(Refusal::AgreementForm)
+}
+
+// Refusals 1 to 5, each judged over the whole agreement before the next.
+fn verify(bytes: &[u8]) -> Result<places::Accepted<'_>, Refusal>
+    ensures { Verified bytes.now result }
+{
+    let agreement = read(bytes)?;
+    let parties = typing::agreement_parties(&agreement).ok_or(Refusal::AgreementTyping)?;
+    if !guards::guarded(&agreement) {
+        return Err(Refusal::AgreementGuards);
+    }
+    if !guards::narrow(&agreement) {
+        return Err(Refusal::AgreementWidth);
+    }
+    Ok(places::Accepted::new(agreement, parties))
+}
+
+// Checks an agreement of any bytes: the main clause's parties by bit, or why not.
+pub fn check(agreement: &[u8]) -> Result<usize, Refusal>
     ensures { check_answer result ≡ check_of agreement.now }
 {
-    let mut places = [0usize; PLACES];
-    verify(agreement, &mut places)
+    Ok(verify(agreement)?.mains())
 }
 
 // Refusals 1 to 6.
-fn admit(agreement: &[u8], table: &[i64], places: &mut [usize]) -> Checked
-    requires { length places.old ≡ index_length }
-    ensures { Admitted agreement.now places.new table.now result }
+fn admit<'a>(bytes: &'a [u8], table: &[i64]) -> Result<places::Accepted<'a>, Refusal>
+    ensures { Admitted bytes.now table.now result }
 {
-    let checked = verify(agreement, places);
-    let Checked::Accepted(_) = checked else {
-        return checked;
-    };
+    let agreement = verify(bytes)?;
     if table.len() != TABLE_CELLS {
-        return Checked::Refused(Refusal::TableLength);
+        return Err(Refusal::TableLength);
     }
-    checked
+    Ok(agreement)
 }
 
-// The run that a table shows: with so many units in use; fulfilled; breached at a time, by parties by bit.
-#[derive(Clone, Copy)]
-enum Run {
-    Running(usize),
-    Fulfilled,
-    Breached { time: i64, parties: usize },
-}
-
-// What is lent is refused, or shows a run.
-#[derive(Clone, Copy)]
-enum Opening {
-    Refused(Refusal),
-    Shows(Run),
-}
-
-// Refusals 1 to 7; the index is filled on the way, and the sights of a running run's units.
-fn open_run(agreement: &[u8], table: &[i64], places: &mut [usize], sights: &mut [usize]) -> Opening
-    requires { (length places.old ≡ index_length) × (length sights.old ≡ sights_length) }
-    ensures { Opens agreement.now places.new table.now sights.new result }
-{
-    match admit(agreement, table, places) {
-        Checked::Refused(why) => Opening::Refused(why),
-        Checked::Accepted(mains) => match state_of(agreement, places, mains, table, sights) {
-            State::Damaged => Opening::Refused(Refusal::TableContent),
-            State::Running(used) => Opening::Shows(Run::Running(used)),
-            State::Fulfilled => Opening::Shows(Run::Fulfilled),
-            State::Breached { time, parties } => Opening::Shows(Run::Breached { time, parties }),
-        },
-    }
-}
-
-// Start, for an accepted agreement and a table's cells.
-fn begin(agreement: &[u8], places: &[usize], table: &mut [i64]) -> Started
-    requires { ((parties : ℕ) × Goes agreement.now places.now parties) × (length table.old ≡ table_length) }
+// Start, for an accepted agreement and a table's cells. Nothing is in sight.
+fn begin(agreement: &places::Accepted<'_>, table: &mut [i64]) -> Result<(), Refusal>
+    requires { IsAccepted agreement.now × (length table.old ≡ table_length) }
     ensures { start_answer result table.new ≡ start_of agreement.now table.old }
 {
-    // nothing is in sight, and nothing was read
-    let sights = [0usize; 1];
-    let none = [0i64; 1];
-    let event = Event {
-        step: Step::Activate,
-        time: unsigned32(agreement, START_AT),
-        tag: 0,
-    };
-    match advance(agreement, places, &sights, table, 0, event, &none) {
-        Advanced::TooMany { cost: _ } => Started::Refused(Refusal::Units),
-        Advanced::Wrote {
-            altered: _,
-            cost: _,
-        } => Started::Begun,
+    let agreement = agreement.agreement();
+    match advance(agreement, &[], table, 0, agreement.start(), Event::Activate) {
+        Ok(_) => Ok(()),
+        Err(_) => Err(Refusal::Units),
     }
 }
 
 // Starts a run of an agreement of any bytes; a refusal leaves the table.
-pub fn start(agreement: &[u8], table: &mut [i64]) -> Started
+pub fn start(agreement: &[u8], table: &mut [i64]) -> Result<(), Refusal>
     ensures { start_answer result table.new ≡ start_of agreement.now table.old }
 {
-    let mut places = [0usize; PLACES];
-    match admit(agreement, table, &mut places) {
-        Checked::Refused(why) => Started::Refused(why),
-        Checked::Accepted(_) => begin(agreement, &places, table),
-    }
+    begin(&admit(agreement, table)?, table)
 }
 
-// Whether a reading that was followed came too early, from the table that it left. No unit waits for a time mark.
-fn came_early(
-    agreement: &[u8],
-    sights: &[usize],
-    table: &[i64],
-    used: usize,
-    event: Event,
-    rs: &[i64],
-    altered: bool,
-) -> bool
-    requires { Judged agreement.now sights.now table.now used event rs.now altered }
-    ensures { result ≡ (not altered && some_open_later event.time event.tag rs.now agreement.now used
-        sights.now (drop 8 table.now)) }
-{
-    if altered {
-        return false;
-    }
-    if event.tag == 0 {
-        return false;
-    }
-    let units = &table[HEAD_CELLS..];
-    some_open_later(agreement, event, rs, sights, units, used)
+// An accepted agreement, and the state that a table shows of it.
+#[derive(Drop)]
+struct Lent<'a> {
+    agreement: places::Accepted<'a>,
+    state: State,
 }
 
-// A reading that fits and is not before the last. A breached run is left as it is; of a fulfilled one the last reading
-// time moves.
-fn step(
-    agreement: &[u8],
-    places: &[usize],
-    sights: &[usize],
-    run: Run,
-    table: &mut [i64],
-    event: Event,
-    rs: &[i64],
-) -> Taken
-    requires opened { Opened agreement.now places.now table.old sights.now run }
-    requires some_reading { SomeReading agreement.now table.old event rs.now }
-    ensures { ReadAs agreement.now table.old event rs.now result table.new }
+// Refusals 1 to 7; the sights of a running run's units are filled on the way.
+fn open_run<'a>(bytes: &'a [u8], table: &[i64], sights: &mut [usize]) -> Result<Lent<'a>, Refusal>
+    requires { length sights.old ≡ sights_length }
+    ensures { Opens bytes.now table.now sights.new result }
 {
-    match run {
-        Run::Running(used) => {
-            match advance(agreement, places, sights, table, used, event, rs) {
-                Advanced::TooMany { cost } => Taken::Refused {
-                    why: Refusal::Units,
-                    cost,
-                },
-                Advanced::Wrote { altered, cost } => {
-                    let early = came_early(agreement, sights, table, used, event, rs, altered);
-                    Taken::Accepted { early, cost }
-                }
-            }
+    let agreement = admit(bytes, table)?;
+    let state = state_of(&agreement, table, sights).ok_or(Refusal::TableContent)?;
+    Ok(Lent { agreement, state })
+}
+
+impl<'a> Lent<'a> {
+    // Whether a reading that was followed came too early, from the table that it left. No unit waits for a time mark.
+    fn came_early(
+        &self,
+        sights: &[usize],
+        table: &[i64],
+        used: usize,
+        reading: &Reading,
+        altered: bool,
+    ) -> bool
+        requires { Judged self.now.agreement sights.now table.now used reading.now altered }
+        ensures { result ≡ (not altered && some_later self.now.agreement used sights.now table.now reading.now) }
+    {
+        if altered || reading.tag == 0 {
+            return false;
         }
-        Run::Fulfilled => {
-            table[LAST_TIME] = event.time as i64;
-            Taken::Accepted {
+        let units = Units {
+            sights,
+            cells: &table[HEAD_CELLS..],
+            count: used,
+        };
+        some_open_later(self.agreement.agreement().bytes(), reading, units)
+    }
+
+    // A reading that fits and is not before the last. A breached run is left as it is; of a fulfilled one the last
+    // reading time moves.
+    fn follow(
+        &self,
+        sights: &[usize],
+        table: &mut [i64],
+        reading: &Reading,
+    ) -> Result<Accepted, Refused>
+        requires opened { Opened self.now.agreement table.old sights.now self.now.state }
+        requires some_reading { SomeReading self.now.agreement table.old reading.now }
+        ensures { ReadAs self.now.agreement table.old reading.now result table.new }
+    {
+        match self.state {
+            State::Running(used) => {
+                let wrote = advance(
+                    self.agreement.agreement(),
+                    sights,
+                    table,
+                    used,
+                    reading.time,
+                    Event::Follow(reading),
+                )?;
+                let early = self.came_early(sights, table, used, reading, wrote.altered);
+                Ok(Accepted {
+                    early,
+                    cost: wrote.cost,
+                })
+            }
+            State::Fulfilled => {
+                table[LAST_TIME] = reading.time as i64;
+                Ok(Accepted {
+                    early: false,
+                    cost: 0,
+                })
+            }
+            State::Breached { .. } => Ok(Accepted {
                 early: false,
                 cost: 0,
-            }
+            }),
         }
-        Run::Breached {
-            time: _,
-            parties: _,
-        } => Taken::Accepted {
-            early: false,
-            cost: 0,
-        },
     }
-}
 
-// A reading of the run that a table shows.
-fn read_on(
-    agreement: &[u8],
-    places: &[usize],
-    sights: &[usize],
-    run: Run,
-    table: &mut [i64],
-    reading: &[u8],
-) -> Taken
-    requires { Opened agreement.now places.now table.old sights.now run }
-    ensures { taken_answer result table.new ≡ reading_of agreement.now table.old reading.now }
-{
-    let mut values = [0i64; VALUES];
-    match readings::take(agreement, places, reading, &mut values) {
-        Fitting::Malformed => Taken::Refused {
-            why: Refusal::ReadingForm,
-            cost: 0,
-        },
-        Fitting::Untyped => Taken::Refused {
-            why: Refusal::ReadingTyping,
-            cost: 0,
-        },
-        Fitting::Fits { time, tag, count } => {
-            let last = table[LAST_TIME];
-            if less(time as i64, last) {
-                return Taken::Refused {
-                    why: Refusal::ReadingTime,
-                    cost: 0,
-                };
-            }
-            let event = Event {
-                step: Step::Follow,
-                time,
-                tag,
-            };
-            let rs = &values[..count];
-            step(agreement, places, sights, run, table, event, rs)
+    // A reading of any bytes.
+    fn read_on(
+        &self,
+        sights: &[usize],
+        table: &mut [i64],
+        bytes: &[u8],
+    ) -> Result<Accepted, Refused>
+        requires { Opened self.now.agreement table.old sights.now self.now.state }
+        ensures { taken_answer result table.new ≡ reading_of self.now.agreement table.old bytes.now }
+    {
+        let reading = readings::take(self.agreement.agreement(), bytes)?;
+        if (reading.time as i64) < table[LAST_TIME] {
+            return Err(Refusal::ReadingTime.into());
+        }
+        self.follow(sights, table, &reading)
+    }
+
+    // The breach that a running run comes to without further readings. Nothing waits on, so nothing needs room.
+    fn breach_ahead(&self, sights: &[usize], table: &[i64], used: usize) -> Option<Breach>
+        requires { Opened self.now.agreement table.now sights.now (State.Running used) }
+        ensures { forecast_answer (Ok result) ≡ forecast_of self.now.agreement table.now }
+    {
+        let units = Units {
+            sights,
+            cells: &table[HEAD_CELLS..],
+            count: used,
+        };
+        let ahead = across(self.agreement.agreement(), Event::Forecast, units, &mut []);
+        let Reduced::Breach { at, by: parties } = ahead.outcome else {
+            return None;
+        };
+        let time = at.unsigned_abs();
+        Some(Breach { time, parties })
+    }
+
+    fn foretell(&self, sights: &[usize], table: &[i64]) -> Option<Breach>
+        requires { Opened self.now.agreement table.now sights.now self.now.state }
+        ensures { forecast_answer (Ok result) ≡ forecast_of self.now.agreement table.now }
+    {
+        match self.state {
+            State::Running(used) => self.breach_ahead(sights, table, used),
+            State::Fulfilled => None,
+            State::Breached { time, parties } => Some(Breach {
+                time: time as u64,
+                parties,
+            }),
         }
     }
 }
 
 // Gives a run a reading, both of any bytes; a refusal leaves the table.
-pub fn reading(agreement: &[u8], table: &mut [i64], reading: &[u8]) -> Taken
+pub fn reading(agreement: &[u8], table: &mut [i64], reading: &[u8]) -> Result<Accepted, Refused>
     ensures { taken_answer result table.new ≡ reading_of agreement.now table.old reading.now }
 {
-    let mut places = [0usize; PLACES];
     let mut sights = [0usize; SIGHTS];
-    match open_run(agreement, table, &mut places, &mut sights) {
-        Opening::Refused(why) => Taken::Refused { why, cost: 0 },
-        Opening::Shows(run) => read_on(agreement, &places, &sights, run, table, reading),
-    }
+    let run = open_run(agreement, table, &mut sights)?;
+    run.read_on(&sights, table, reading)
 }
 
-// A time of a run, never below 0, as the callers take it.
-fn minutes(time: i64) -> u64
-    requires { pos 0 ≤ℤ time }
-    ensures { pos result ≡ time }
-{
-    time as u64
-}
-
-// The breach that a running run comes to without further readings.
-fn breach_ahead(
-    agreement: &[u8],
-    places: &[usize],
-    sights: &[usize],
-    table: &[i64],
-    used: usize,
-) -> Foretold
-    requires { Opened agreement.now places.now table.now sights.now (Run.Running used) }
+// What a run comes to without further readings: the breach ahead, or none. The table is only read.
+pub fn forecast(agreement: &[u8], table: &[i64]) -> Result<Option<Breach>, Refusal>
     ensures { forecast_answer result ≡ forecast_of agreement.now table.now }
 {
-    // nothing waits on, so nothing needs room
-    let mut out = [0i64; 1];
-    let none = [0i64; 1];
-    let none = &none[..0];
-    let event = Event {
-        step: Step::Forecast,
-        time: 0,
-        tag: 0,
-    };
-    let units = &table[HEAD_CELLS..];
-    let ahead = across(
-        agreement, places, event, none, sights, units, used, &mut out,
-    );
-    let outcome = ahead.outcome;
-    let Reduced::Breach { at: due, by: by } = outcome else {
-        return Foretold::Nothing;
-    };
-    let time = minutes(due);
-    Foretold::Breach { time, parties: by }
-}
-
-fn foretell(
-    agreement: &[u8],
-    places: &[usize],
-    sights: &[usize],
-    run: Run,
-    table: &[i64],
-) -> Foretold
-    requires { Opened agreement.now places.now table.now sights.now run }
-    ensures { forecast_answer result ≡ forecast_of agreement.now table.now }
-{
-    match run {
-        Run::Running(used) => breach_ahead(agreement, places, sights, table, used),
-        Run::Fulfilled => Foretold::Nothing,
-        Run::Breached { time: t, parties } => {
-            let time = minutes(t);
-            Foretold::Breach { time, parties }
-        }
-    }
-}
-
-// What a run comes to without further readings; the table is only read.
-pub fn forecast(agreement: &[u8], table: &[i64]) -> Foretold
-    ensures { forecast_answer result ≡ forecast_of agreement.now table.now }
-{
-    let mut places = [0usize; PLACES];
     let mut sights = [0usize; SIGHTS];
-    match open_run(agreement, table, &mut places, &mut sights) {
-        Opening::Refused(why) => Foretold::Refused(why),
-        Opening::Shows(run) => foretell(agreement, &places, &sights, run, table),
-    }
-}
-
-// The paper's number of a refusal.
-pub fn number(refusal: Refusal) -> u32
-    ensures { result ≡ number_of refusal }
-{
-    match refusal {
-        Refusal::AgreementLength => 1,
-        Refusal::AgreementForm => 2,
-        Refusal::AgreementTyping => 3,
-        Refusal::AgreementGuards => 4,
-        Refusal::AgreementWidth => 5,
-        Refusal::TableLength => 6,
-        Refusal::TableContent => 7,
-        Refusal::ReadingForm => 8,
-        Refusal::ReadingTyping => 9,
-        Refusal::ReadingTime => 10,
-        Refusal::Units => 11,
-    }
+    let shown = open_run(agreement, table, &mut sights)?;
+    Ok(shown.foretell(&sights, table))
 }

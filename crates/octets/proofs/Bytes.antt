@@ -1,20 +1,18 @@
 -- Integers in bytes, and in a part of the bytes.
-use mathlib.Core.Path.{◌≡◌, sym, ap, ◌∙◌}
+use mathlib.Core.Path.{◌≡◌, refl, sym, ap, ◌∙◌}
 use mathlib.Core.Bool.{true, cond}
 use mathlib.Core.List.{List}
-use Prim.Native.Nat.{ℕ, ◌+◌, ◌≤◌, ◌<◌}
+use Prim.Native.Nat.{ℕ, suc, ◌+◌, ◌-◌, ◌≤◌, ◌<◌}
 use native.Mathlib.Omega.{arith}
 use lib.IntN.{ℤ, pos, negsuc, ◌-ℤ◌}
 use lib.Dec.{leb, ltb, eqb}
 use lib.ListN.{length, get_or-eq_default}
-use borrow.Author.Tests.{lt-ltb, le-ltb, leb-true, eqb-true, le-leb, lt-leb}
-use mir.Syntax.{w64}
-use mir.Val.{SFits, to_z}
-use mir.ValLaws.{to_z_pos}
+use borrow.Author.Tests.{lt-ltb, leb-true, eqb-true, le-leb, lt-leb}
+use mir.Syntax.{w32}
+use mir.Val.{sel, to_z}
 use Rattle.csl.specs.Bytes.{byte, le16, le32, part, is_record}
-use Rattle.laws.proofs.Bools.{and_left, and_right}
+use Rattle.laws.proofs.Bools.{and_left, and_right, by}
 pub use Rattle.laws.proofs.RecordEnds.{record_end_after, record_end_within}
-use Rattle.arith.proofs.Ints.{abs_add, small, seen, read}
 use Rattle.arith.proofs.Lists.{get_d_part}
 
 -- ---- past the end all is 0
@@ -63,13 +61,7 @@ record_no s h = rw (lt-leb 4 (length s) h)
 abbrev signed_of : ℕ → ℤ
 signed_of w = cond (ltb w 2_147_483_648) (pos w) (pos w -ℤ pos 4_294_967_296)
 
-pub low : {v w : ℕ} → v ≡ w → v < 2_147_483_648 → to_z w64 v ≡ signed_of w
-low {v} {w} e h = to_z_pos w64 v (omega arith) ∙ ap pos e ∙ sym (simp (lt-ltb w 2_147_483_648 (omega arith)))
-
-module _ {v w : ℕ} (e : v ≡ w) (h : 2_147_483_648 ≤ v) (k : v < 4_294_967_296) where
-  pub high_asked : SFits w64 (to_z w64 v -ℤ pos 4_294_967_296)
-  high_asked = rw (to_z_pos w64 v (omega arith)) (small (omega (arith, abs_add (pos v) (negsuc 4_294_967_295))))
-
-  pub high_given : seen (to_z w64 v -ℤ pos 4_294_967_296) ≡ signed_of w
-  high_given = read high_asked ∙ rw (to_z_pos w64 v (omega arith), e)
-      (sym (simp (le-ltb w 2_147_483_648 (omega arith))))
+pub signed_is : {v w : ℕ} → v ≡ w → v < 4_294_967_296 → to_z w32 v ≡ signed_of w
+signed_is {v} {w} e h =
+    by (λ t. sel t (pos v) (negsuc (4_294_967_296 - suc v)) ≡ cond t (pos v) (pos v -ℤ pos 4_294_967_296))
+    (ltb v 2_147_483_648) (λ q. refl) (λ q. sym (simp (lt-ltb v 4_294_967_296 h))) ∙ ap signed_of e

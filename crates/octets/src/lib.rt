@@ -5,20 +5,14 @@ ghost use Rattle.std.specs.Prelude.{◌≡◌, ◌+◌, ◌≤◌, ◌<◌, min,
 ghost use Rattle.csl.specs.Bytes as bytes;
 ghost use Rattle.csl.specs.Bytes.{le16, le32, is_record, kind_number, record_end};
 
-// What is read out of bytes is a usize, as places and lengths are.
-fn wide(x: u8) -> usize
-    ensures { (result ≡ x) × (result < 256) }
-{
-    x as usize
-}
-
-// The byte at i, or 0 where there is none.
+// The byte at i, or 0 where there is none. What is read out of bytes is a usize, as places and lengths are.
 pub fn byte(s: &[u8], i: usize) -> usize
     ensures { (result ≡ bytes.byte s.now i) × (result < 256) }
 {
-    if i < s.len() { wide(s[i]) } else { 0 }
+    usize::from(s.get(i).copied().unwrap_or(0))
 }
 
+// A byte that is not there reads as 0, where `from_le_bytes` wants them all.
 pub fn unsigned16(s: &[u8], i: usize) -> usize
     ensures { (result ≡ le16 s.now i) × (result < 65_536) }
 {
@@ -43,12 +37,8 @@ pub fn unsigned32(s: &[u8], i: usize) -> usize
 pub fn signed32(s: &[u8], i: usize) -> i64
     ensures { result ≡ bytes.signed32 s.now i }
 {
-    let v = unsigned32(s, i);
-    if v < 2_147_483_648 {
-        v as i64
-    } else {
-        v as i64 - 4_294_967_296
-    }
+    let v = unsigned32(s, i) as u32;
+    i64::from(v.cast_signed())
 }
 
 // Where the record at a ends: as its length says, and not beyond s.
@@ -58,8 +48,7 @@ pub fn record_end(s: &[u8], a: usize) -> usize
     if a >= s.len() {
         return s.len();
     }
-    let e = a + unsigned16(s, a);
-    if e < s.len() { e } else { s.len() }
+    (a + unsigned16(s, a)).min(s.len())
 }
 
 // The bytes are one whole record.

@@ -8,12 +8,14 @@ use native.Mathlib.Omega.{arith}
 use lib.Bits.{bit_or, or_block}
 use lib.Count.{ones, ones_cat}
 use lib.Dec.{eqb, leb, ltb}
-use lib.Pow.{pow_pos, pow-lt, pow-add, shl_exact}
-use borrow.Author.Tests.{eq-eqb, ne_eqb, lt-ltb, le-ltb, le-leb, lt-leb, leb-true, eqb-true, ltb-true, ltb-false}
+use lib.Pow.{pow_pos, pow-lt, pow-add}
+use borrow.Author.Tests.{eq-eqb, ne_eqb, lt-ltb, le-ltb, le-leb, leb-true, eqb-true, ltb-true, ltb-false}
 use Rattle.csl.specs.Lists.{all}
 use Rattle.csl.specs.Parties.{member, subset, member_count, bits_from, bits_of, members_from, members}
 use Rattle.csl.specs.Typing.{Names, blame_ok, is_constant}
-use Rattle.laws.proofs.Bools.{by_test}
+use Rattle.std.proofs.lemmas.Bool.Decides.{nat_tests}
+use Rattle.std.specs.Ordering.{partial_le, partial_lt, as_partial_cmp, nat_cmp}
+use Rattle.laws.proofs.Bools.{by_test, and_left, and_right}
 use Rattle.laws.proofs.PartyBits.{member_self, member_append, bits_lt, bits_same, bits_append, bits_skip}
 use Rattle.laws.proofs.PartyBits.{members_within, members_bits}
 use Rattle.parties.specs.Masks.{mask_of, mask_end, HasBit, ValidMembers, may_blame, BlameMask}
@@ -213,10 +215,6 @@ one_param b l u = rw (
   pow-add 2 16 (b - 128),
 ) (omega arith)
 
--- a bit, as the code shifts it
-pub shifted : (k : ℕ) → k < 20 → (1 * 2 ^ k) % 2 ^ 64 ≡ 2 ^ k
-shifted k l = shl_exact 1 k 64 (omega arith) (omega arith) ∙ (omega arith)
-
 -- r is what `bit` gave
 blame_yes : (parties params b k : ℕ) {r : ℕ} → may_blame parties params b ≡ true → mask_of (b ∷ []) ≡ 2 ^ k → k < 20
     → r ≡ 2 ^ k → BlameMask parties params b r
@@ -231,22 +229,24 @@ pub blame_party : (parties params b : ℕ) {r : ℕ} → parties ≤ 16 → b < 
 blame_party parties params b p l = blame_yes parties params b b (rw (lt-ltb b parties l)) (one_party b (omega arith))
     (omega arith)
 
-pub blame_param : (parties params b : ℕ) {r : ℕ} → params ≤ 4 → parties ≤ b → 128 ≤ b → b < 128 + params
+blame_param : (parties params b : ℕ) {r : ℕ} → params ≤ 4 → parties ≤ b → 128 ≤ b → b < 128 + params
     → r ≡ 2 ^ (16 + (b - 128)) → BlameMask parties params b r
 blame_param parties params b p n l u = blame_yes parties params b (16 + (b - 128))
     (rw (le-ltb b parties n, le-leb 128 b l, lt-ltb b (128 + params) u)) (one_param b l (omega arith)) (omega arith)
 
-blame_none : (parties params b : ℕ) → may_blame parties params b ≡ false → BlameMask parties params b 0
-blame_none parties params b e = record { is = rw e; refused = rw e; small = omega arith }
+-- what a range of bytes holds, as the code asks it
+within : (from to b : ℕ)
+    → (partial_le (as_partial_cmp nat_cmp) from b && partial_lt (as_partial_cmp nat_cmp) b to)
+    ≡ (leb from b && ltb b to)
+within from to b = grind (arith, nat_tests)
 
-pub blame_between : (parties params b : ℕ) → parties ≤ b → b < 128 → BlameMask parties params b 0
-blame_between parties params b n l = blame_none parties params b (rw (le-ltb b parties n, lt-leb 128 b l))
-
-pub blame_beyond : (parties params b : ℕ) → parties ≤ b → 128 ≤ b → 128 + params ≤ b → BlameMask parties params b 0
-blame_beyond parties params b n l u = blame_none parties params b
-    (rw (le-ltb b parties n, le-leb 128 b l, le-ltb b (128 + params) u))
-
-pub ruleset blames = (blame_party, blame_param, blame_between, blame_beyond)
+module _ (parties params b : ℕ) (n : parties ≤ b) {t : Bool}
+    (e : t ≡ (partial_le (as_partial_cmp nat_cmp) 128 b && partial_lt (as_partial_cmp nat_cmp) b (128 + params))) where
+  pub blame_within : {r : ℕ} → params ≤ 4 → t ≡ true → r ≡ 2 ^ (16 + (b - 128)) → BlameMask parties params b r
+  blame_within p h =
+      let k : (leb 128 b && ltb b (128 + params)) ≡ true = sym (e ∙ within 128 (128 + params) b) ∙ h in
+      blame_param parties params b p n (leb-true 128 b (and_left (leb 128 b) (ltb b (128 + params)) k))
+      (ltb-true b (128 + params) (and_right (leb 128 b) (ltb b (128 + params)) k))
 
 -- ---- the bit of a party, among the parties alone
 pub bits_small : (ps : List ℕ) → bits_of ps < 65_536

@@ -21,23 +21,21 @@ fn bit(n: usize) -> usize
     1 << n
 }
 
-// The bit of party p, or 0 where there is no such party.
+// The bit of party p, or the empty set where there is no such party.
 pub fn party_bit(p: usize) -> usize
     ensures { (result ≡ bits_of (p ∷ [])) × (result < 65_536) }
 {
     if p < PARTIES { bit(p) } else { 0 }
 }
 
-// The bit of a blame byte, or 0 where the byte is not allowed.
+// The bit of a blame byte, or the empty set, 0, where the byte is not allowed: joined to others it needs no test.
 pub fn blame_mask(b: usize, parties: usize, params: usize) -> usize
     requires { (parties ≤ 16) × (params ≤ 4) }
     ensures { BlameMask parties params b result }
 {
     if b < parties {
         bit(b)
-    } else if b < PARAMS_FROM {
-        0
-    } else if b < PARAMS_FROM + params {
+    } else if (PARAMS_FROM..PARAMS_FROM + params).contains(&b) {
         bit(PARTIES + (b - PARAMS_FROM))
     } else {
         0

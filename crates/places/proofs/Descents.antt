@@ -1,78 +1,109 @@
 -- The search for a place, step by step, and through the templates.
 use mathlib.Core.Path.{◌≡◌, refl, sym, ap, subst, ◌∙◌}
-use mathlib.Core.List.{List, [], ◌∷◌, ◌++◌, map}
+use mathlib.Core.List.{List, [], ◌∷◌, map}
 use mathlib.Core.Logic.{inl, inr}
 use mathlib.Core.Option.{Option, none, some}
 use Prim.Native.Nat.{ℕ, zero, suc, ◌+◌, ◌-◌, ◌≤◌, ◌<◌}
 use native.Mathlib.Omega.{arith}
-use lib.Dec.{T, eqb}
-use lib.ListN.{length, take}
-use Rattle.arith.proofs.Lists.{length_part, part_part}
+use lib.Dec.{T, eqb, leb, leb→le}
+use lib.ListN.{length}
+use Rattle.arith.proofs.Lists.{length_part}
 use Rattle.octets.proofs.Bytes.{record_end_within, record_end_after}
 use Rattle.csl.specs.Lists.{or_else, or_nil, at}
 use Rattle.csl.specs.Bytes.{byte, part, record_end}
 use Rattle.csl.specs.Syntax.{Ty, Template, Agreement, Clause, fulfilled, obligation, choice, if, join, instance}
 use Rattle.csl.specs.Syntax.{bad_clause}
 use Rattle.csl.specs.Decode.{pieces, records_end, clause, tys_of, heads_of, whole, main_of, main_place, templates_place}
-use Rattle.csl.specs.Decode.{template_pieces, template_head, template_of, agreement_of}
+use Rattle.csl.specs.Decode.{template_pieces, template_of, agreement_of}
 use Rattle.csl.specs.Typing.{type_clause, names_of, then_sight}
 use Rattle.csl.specs.Places.{Found, find, find_in, clause_at}
-use Rattle.records.specs.Index.{Indexed, Spans, template_place, piece_at, head_at, template_piece, value_count}
+use Rattle.records.specs.Index.{Lists, Spans, template_place, head_at, template_piece}
 use Rattle.records.specs.Index.{body_from}
-use Rattle.records.specs.Index.{body_to}
-use Rattle.records.proofs.Index.{template_facts, templates_at, template_within, pieces_more, pieces_from, pieces_none}
-use Rattle.records.proofs.Index.{body_within, body_is, body_there}
+use Rattle.records.specs.Index.{body_to, body_bytes, main_bytes}
+use Rattle.records.proofs.Index.{templates_at, template_within, pieces_more, pieces_from, pieces_none}
+use Rattle.records.proofs.Index.{body_within, body_is, body_there, main_within}
 use Rattle.laws.proofs.Options.{some_inj, from_or_else, none_some}
-use Rattle.laws.proofs.Bools.{from_test}
+use Rattle.laws.proofs.Bools.{from_test, both_true}
 use Rattle.soundness.proofs.Places.{Out, find_none, or_else_none, none_or_else}
 use Rattle.soundness.proofs.Decoding.{clause_ranged, decode_is}
 use Rattle.soundness.proofs.Checked.{passed, fair}
 use Rattle.soundness.proofs.Walks.{Fair}
+use Rattle.std.specs.Prelude.{Option as Maybe, Some, None, Result, Ok, Err, MatchResult, IsOk}
+use Rattle.arrayvec.specs.ArrayVec.{ArrayVec}
+use Rattle.std.specs.Prelude.{MatchOption}
+use Rattle.std.specs.List.{AllWithin, HoldsAt, range_with_len}
+use Rattle.std.proofs.lemmas.List.FromFn.{length-range_with_len, get_or-range_with_len}
+use native.Mathlib.Numerals.{add-one}
+use Rattle.csl.specs.Decode.{sized, between}
+use Rattle.kinds.specs.declared.WaitKind.{WaitKind}
 use Rattle.places.specs.declared.Located.{Located}
-use Rattle.places.specs.declared.Located.TheVariants.{Nothing, At}
 use Rattle.places.specs.declared.Step.{Step}
-use Rattle.places.specs.declared.Step.TheVariants.{Absent, Here, Into}
+use Rattle.places.specs.declared.Step.TheVariants.{Here, Into}
 use Rattle.places.proofs.Found.{found_is}
 use Rattle.places.proofs.Steps.{TypedSide, obligation_typed, choice_typed, if_typed, join_typed}
-use Rattle.places.specs.Locate.{sight_of, Locates, TypedAt, Typed, GoesInto, StepAt, StepIs, DescentIs, in_template}
+use Rattle.places.specs.Locate.{Finds, Locates, TypedAt, Typed, GoesInto, StepAt, StepIs, DescentIs}
+use Rattle.places.specs.Locate.{in_template, Stands}
 use Rattle.csl.specs.Check.{mains_of, Accepted}
 
-module _ {A : List ℕ} {p : ℕ} {s : List ℕ} {place c : ℕ} {types out : List ℕ} {r : Step}
-    (h : StepIs A p s place c types out r) where
-  pub descent_absent : (params : ℕ) → r ≡ Absent → DescentIs A p s place params c types out Nothing
-  unfolding StepAt Locates
-  descent_absent params e = record { each = λ d t. (rw e at (h.each d t)) params }
+module _ {A : List ℕ} {p : ℕ} {s : List ℕ} {place : ℕ} {types out : List ℕ} {r : Maybe Step}
+    (h : StepIs A p s place types out r) where
+  pub descent_absent : r ≡ None → DescentIs A p s place types out None
+  unfolding StepAt Finds
+  descent_absent e = record { each = λ d t n. (rw e at (h.each d t)) n }
 
-  pub descent_here : {k : ℕ} (params : ℕ) → c ≤ 16 → r ≡ Here k
-      → DescentIs A p s place params c types out (At k params c)
-  unfolding StepAt Locates
-  descent_here params few e = record {
-    each = λ d t.
+  pub descent_here : {w : WaitKind} → r ≡ Some (Here w) → DescentIs A p s place types out (Some w)
+  unfolding StepAt Finds
+  descent_here e = record {
+    each = λ d t n.
         let g = rw e at (h.each d t) in
-        record { found = _; is = g.0.is params; params = refl; sight = rw g.1; few = few; kind = g.0.kind };
+        record { found = _; is = g.0.is n; params = refl; sight = rw g.1; sorted = g.0.sorted };
   }
 
-  module _ {x e n : ℕ} (w : r ≡ Into x e n) where
-    goes : (d : ℕ) → TypedAt A d p s (sight_of types c) → GoesInto A d p s place (sight_of types c) out x e n
+  module _ {x e : ℕ} (w : r ≡ Some (Into x e)) where
+    goes : (d : ℕ) → TypedAt A d p s (tys_of types) → GoesInto A d p s place (tys_of types) out x e
     unfolding StepAt
     goes d t = rw w at (h.each d t)
 
-    pub into_typed : Typed A p s (sight_of types c) → Typed A (p + x) (part s x e) (sight_of out n)
+    pub into_typed : Typed A p s (tys_of types) → Typed A (p + x) (part s x e) (tys_of out)
     into_typed t = record { depth = t.depth - 1; at = (goes t.depth t.at).typed }
 
-    pub into_room : Typed A p s (sight_of types c) → (4 ≤ x) × (x ≤ e) × (e ≤ length s) × (n ≤ 16)
-    into_room t = let g = goes t.depth t.at in (g.from, g.ordered, g.inside, g.few)
+    pub into_room : Typed A p s (tys_of types) → (4 ≤ x) × (x ≤ e) × (e ≤ length s)
+    into_room t = let g = goes t.depth t.at in (g.from, g.ordered, g.inside)
 
-    pub descent_into : {out₂ : List ℕ} {q : Located} (params : ℕ)
-        → DescentIs A (p + x) (part s x e) place params n out out₂ q → DescentIs A p s place params c types out₂ q
-    descent_into {out₂} {q} params g = record {
-      each = λ d t. let o = goes d t in subst (λ (y : Option Found). Locates y out₂ q) (sym (o.same params))
-          (g.each (d - 1) o.typed);
+    pub descent_into : {out₂ : List ℕ} {q : Maybe WaitKind} → DescentIs A (p + x) (part s x e) place out out₂ q
+        → DescentIs A p s place types out₂ q
+    descent_into {out₂} {q} g = record {
+      each = λ d t n. let o = goes d t in subst (λ (y : Option Found). Finds y out₂ n q) (sym (o.same n))
+          (g.each (d - 1) o.typed n);
     }
+
+-- what is found there, as what the search at the place answers
+pub finds_none : (o : Option Found) (out : List ℕ) (n : ℕ) {r : Maybe WaitKind} → Finds o out n r → r ≡ None
+    → Locates o None
+unfolding Finds Locates
+finds_none o out n h e = rw e at h
+
+pub finds_some : (o : Option Found) (l : Located) {n : ℕ} {r : Maybe WaitKind} → Finds o l.sight.items n r
+    → l.params ≡ n → r ≡ Some l.wait → Locates o (Some l)
+unfolding Finds Locates
+finds_some o l h i e = rw i (rw e at h)
+
+-- ---- a list of few elements fits
+pub made : {E : Type 0} (xs : List ℕ) (r : Result (ArrayVec ℕ) E)
+    → MatchResult r (λ v. (v.items ≡ xs) × (length xs ≤ 16)) (λ _. 16 < length xs) → length xs ≤ 16 → IsOk r
+made xs (Ok v) h l = refl
+made xs (Err e) h l = absurd (omega arith)
 
 -- ---- what check established
 pub fairly : {A : List ℕ} → Accepted A → Fair (agreement_of A) (mains_of A)
 fairly {A} h = fair A (agreement_of A) (mains_of A) (passed A (agreement_of A) (mains_of A) h.is)
+
+pub accepted_short : {A : List ℕ} → Accepted A → length A ≤ 16_384
+unfolding sized between
+accepted_short {A} h =
+    let p = passed A (agreement_of A) (mains_of A) h.is in
+    both_true (between 4 16_384 (length A)) _ p.sized λ a b.
+    both_true (leb 4 (length A)) (leb (length A) 16_384) a λ c d. leb→le (length A) 16_384 d
 
 -- what is found is the clause recorded at the place, and whole
 pub found_clause : (A : List ℕ) (place : ℕ) (f : Found) → Accepted A → clause_at (agreement_of A) place ≡ some f
@@ -134,42 +165,7 @@ module _ (ag : Agreement) (p : ℕ) (f : Found) where
       (find_in_typed ag.templates (λ k t q. let x = fr.templates k t q in
       record { parties = x.blames; typed = x.typed }))
 
--- ---- the values of a template: a and n are what calls gave
-module _ {places A : List ℕ} {k a n : ℕ} (x : Indexed places A) (l : k < byte A 10) (p : a ≡ template_place A k)
-    (m : n ≡ value_count A k) where
-  pub values_room : (a + 5 + n ≤ length A) × (n ≤ 8)
-  values_room =
-      let t = template_place A k in
-      let f = template_facts x k l in (
-        omega (
-          arith,
-          f.long,
-          length_part A t (record_end A t) (record_end_within A t),
-          record_end_within A t,
-          record_end_after A t (template_within x k),
-        ),
-        omega (arith, f.few),
-      )
-
-  pub values_are : (types out : List ℕ) → take (0 + length (part A (a + 5) (a + 5 + n))) out ≡ take 0 types
-      ++ part A (a + 5) (a + 5 + n) → sight_of out n ≡ (head_at A k).values
-  unfolding template_head
-  values_are types out h =
-      let t = template_place A k in
-      let s = piece_at A t in
-      let long : 0 + length (part A (a + 5) (a + 5 + n)) ≡ n = omega
-      (arith, length_part A (a + 5) (a + 5 + n) values_room.0) in
-      let same : part s 5 (5 + byte s 4) ≡ part A (t + 5) (t + (5 + byte s 4)) = part_part A t (record_end A t) 5
-      (5 + byte s 4) (omega (
-        arith,
-        (template_facts x k l).long,
-        length_part A t (record_end A t) (record_end_within A t),
-      )) in
-      let place : t + (5 + byte s 4) ≡ a + 5 + n = omega arith in
-      let types-begin : t + 5 ≡ a + 5 = omega arith in
-      ap tys_of ((rw long at h) ∙ sym (same ∙ rw (place, types-begin)))
-
--- ---- its body: from and to are what a call gave
+-- ---- the body of a template: from and to are what a call gave
 module _ {A : List ℕ} {k from to : ℕ} (l : k < byte A 10) (b : Spans A k from to) where
   pub body_typed : {env : List Ty} → Accepted A → env ≡ (head_at A k).values → TypedAt A 22 from (part A from to) env
   unfolding template_of
@@ -181,13 +177,47 @@ module _ {A : List ℕ} {k from to : ℕ} (l : k < byte A 10) (b : Spans A k fro
         typed = rw (v, sym (body_is b (heads_of A))) f.typed;
       }
 
-  pub template_located : {out₂ : List ℕ} {r : Located} {n params place : ℕ} (out : List ℕ) → Accepted A
-      → params ≡ (head_at A k).params → sight_of out n ≡ (head_at A k).values
-      → DescentIs A from (part A from to) place params n out out₂ r → Locates (in_template A k place) out₂ r
+  pub template_located : {types out : List ℕ} {r : Maybe WaitKind} {place : ℕ} → Accepted A
+      → tys_of types ≡ (head_at A k).values → DescentIs A from (part A from to) place types out r
+      → Finds (in_template A k place) out (head_at A k).params r
   unfolding in_template
-  template_located out h j v d = rw (body_is b (heads_of A), sym j, sym v) (d.each 22 (body_typed h v))
+  template_located h v d = rw (body_is b (heads_of A), sym v) (d.each 22 (body_typed h v) (head_at A k).params)
+
+-- as calls gave it
+its_bytes : {A s : List ℕ} {k from to : ℕ} → Spans A k from to → s ≡ body_bytes A k → s ≡ part A from to
+its_bytes b e = e ∙ rw (b.begins, b.ends)
+
+module _ {A s types : List ℕ} {k from to : ℕ} (h : Accepted A) (l : k < byte A 10) (b : Spans A k from to)
+    (e : s ≡ body_bytes A k) (v : tys_of types ≡ (head_at A k).values)
+  where
+    pub body_stands : Stands A from s types
+    body_stands =
+        let same = its_bytes b e in
+        rw same (record {
+          typed = record { depth = 22; at = body_typed l b h v };
+          fits = omega (arith, b.ordered, b.inside, length_part A from to b.inside);
+          short = accepted_short h;
+        })
+
+    pub body_found : {out : List ℕ} {r : Maybe WaitKind} {place : ℕ} → DescentIs A from s place types out r
+        → Finds (in_template A k place) out (head_at A k).params r
+    body_found d = let same = its_bytes b e in template_located l b h v (rw same at d)
 
 -- ---- which template holds the place
+-- template k ends behind it, or not
+abbrev pub Behind : List ℕ → ℕ → ℕ → Type 0
+Behind A place k = place < record_end A (template_place A k)
+
+abbrev pub Before : List ℕ → ℕ → ℕ → Type 0
+Before A place k = record_end A (template_place A k) ≤ place
+
+-- r is the first of n templates that ends behind it
+abbrev pub FirstBehind : List ℕ → ℕ → ℕ → Maybe ℕ → Type 0
+FirstBehind A place n r = MatchOption r
+    (AllWithin (Before A place) (range_with_len 0 n) 0 (length (range_with_len 0 n)))
+    (λ k. Behind A place k × (i : ℕ) × (i < length (range_with_len 0 n)) × HoldsAt (λ y. y ≡ k) (range_with_len 0 n) i
+    × AllWithin (Before A place) (range_with_len 0 n) 0 i)
+
 module _ (A : List ℕ) (place : ℕ) where
   -- j templates from template k on
   abbrev InTemplates : ℕ → ℕ → Option Found
@@ -199,7 +229,7 @@ module _ (A : List ℕ) (place : ℕ) where
     pub few : k ≤ byte A 10
     pub same : clause_at (agreement_of A) place ≡ InTemplates (byte A 10 - k) k
 
-module _ {places A : List ℕ} (x : Indexed places A) (place : ℕ) where
+module _ {A : List ℕ} (x : Lists A) (place : ℕ) where
   ended : (k : ℕ) → template_place A (k + 1) ≡ record_end A (template_place A k)
   ended k = pieces_more k A (templates_place A)
 
@@ -272,32 +302,77 @@ module _ {places A : List ℕ} (x : Indexed places A) (place : ℕ) where
         ∙ or_else_none _ _ (body_out k l (inr (omega (arith, ap (record_end A) p)))));
   }
 
-  pub left_here : {k e a : ℕ} (out : List ℕ) (r : Located) → k < byte A 10 → a ≡ template_place A k → e ≡ record_end A a
-      → place < e → Left A place k → Locates (in_template A k place) out r
-      → Locates (clause_at (agreement_of A) place) out r
-  left_here {k} out r l p q u h g =
+  pub left_here : {k e a : ℕ} (r : Maybe Located) → k < byte A 10 → a ≡ template_place A k → e ≡ record_end A a
+      → place < e → Left A place k → Locates (in_template A k place) r → Locates (clause_at (agreement_of A) place) r
+  left_here {k} r l p q u h g =
       let rest = before (byte A 10 - (k + 1)) (k + 1) (omega arith)
       (rw (ended k) (omega (arith, ap (record_end A) p))) in
       let same : clause_at (agreement_of A) place ≡ in_template A k place = h.same
       ∙ rw (more_left k l) (first_of (byte A 10 - (k + 1)) k ∙ none_or_else _ _ rest) in
-      subst (λ (o : Option Found). Locates o out r) (sym same) g
+      subst (λ (o : Option Found). Locates o r) (sym same) g
 
-  pub left_none : {k : ℕ} (out : List ℕ) → byte A 10 ≤ k → Left A place k
-      → Locates (clause_at (agreement_of A) place) out Nothing
+  pub left_none : {k : ℕ} → byte A 10 ≤ k → Left A place k → Locates (clause_at (agreement_of A) place) None
   unfolding Locates find_in pieces
-  left_none {k} out u h = let z : byte A 10 - k ≡ 0 = omega arith in h.same ∙ rw z
+  left_none {k} u h = let z : byte A 10 - k ≡ 0 = omega arith in h.same ∙ rw z
+
+  module _ {m n : ℕ} (e : m ≡ main_place A) (l : place < m) (g : n ≡ byte A 10) where
+    left_until : (i : ℕ) → i ≤ n → AllWithin (Before A place) (range_with_len 0 n) 0 i → Left A place i
+    left_until zero u h = left_first e l
+    left_until (suc i) u h =
+        let z : 0 + i ≡ i = omega arith in
+        let here : Before A place i = subst (Before A place) (get_or-range_with_len 0 n i 0 (omega arith) ∙ z)
+        (h i 0 (omega arith) (omega arith)) in
+        subst (Left A place) (add-one i)
+        (left_more (omega arith) refl refl here (left_until i (omega arith) (λ k d a b. h k d a (omega arith))))
+
+    pub none_behind : (r : Maybe ℕ) → FirstBehind A place n r → r ≡ None
+        → Locates (clause_at (agreement_of A) place) None
+    none_behind r h q =
+        let f = rw q at h in
+        let all : length (range_with_len 0 n) ≡ n = length-range_with_len 0 n in
+        left_none (omega arith) (left_until n (omega arith) (rw all at f))
+
+    pub one_behind : (r : Maybe ℕ) → FirstBehind A place n r → {k : ℕ} → r ≡ Some k
+        → (k < byte A 10) × ((a : Maybe Located) → Locates (in_template A k place) a
+        → Locates (clause_at (agreement_of A) place) a)
+    one_behind r h {k} q =
+        let f = rw q at h in
+        let i = f.1 in
+        let few : i < n = omega (arith, f.2, length-range_with_len 0 n) in
+        let z : i ≡ 0 + i = omega arith in
+        let same : i ≡ k = z ∙ sym (get_or-range_with_len 0 n i 0 few) ∙ f.3 0 in
+        let left : Left A place k = subst (Left A place) same (left_until i (omega arith) f.4) in
+        (omega arith, λ a d. left_here a (omega arith) refl refl f.0 left d)
 
   -- ---- the main clause
-  pub main_typed : {m : ℕ} (types : List ℕ) → Accepted A → m ≡ main_place A
-      → TypedAt A 23 m (part A m (length A)) (sight_of types 0)
+  pub main_typed : {m : ℕ} {types : List ℕ} → Accepted A → m ≡ main_place A → types ≡ []
+      → TypedAt A 23 m (part A m (length A)) (tys_of types)
   unfolding tys_of agreement_of main_of
-  main_typed types h e = rw e (record { params = 0; parties = mains_of A; typed = (fairly h).main })
+  main_typed h e z = rw (e, z) (record { params = 0; parties = mains_of A; typed = (fairly h).main })
 
-  pub main_located : {m : ℕ} {types out : List ℕ} {r : Located} → Accepted A → m ≡ main_place A → m ≤ place
-      → DescentIs A m (part A m (length A)) place 0 0 types out r → Locates (clause_at (agreement_of A) place) out r
+  pub main_located : {m : ℕ} {types out : List ℕ} {r : Maybe WaitKind} → Accepted A → m ≡ main_place A → m ≤ place
+      → types ≡ [] → DescentIs A m (part A m (length A)) place types out r
+      → Finds (clause_at (agreement_of A) place) out 0 r
   unfolding clause_at agreement_of main_of template_pieces main_place tys_of
-  main_located {m} {types} {out} {r} h e l d =
+  main_located {m} {types} {out} {r} h e l z d =
       let none_there = rw (pieces_none A (templates_place A)) at
       (beyond (byte A 10) 0 (omega arith) (rw (pieces_none A (templates_place A)) (omega arith))) in
-      let found = d.each 23 (main_typed types h e) in
-      subst (λ (o : Option Found). Locates o out r) (sym (none_or_else _ _ none_there)) (rw e at found)
+      let found = d.each 23 (main_typed h e z) 0 in
+      subst (λ (o : Option Found). Finds o out 0 r) (sym (none_or_else _ _ none_there)) (rw (e, z) at found)
+
+  -- as calls gave it
+  module _ {m : ℕ} {s types : List ℕ} (h : Accepted A) (e : m ≡ main_place A) (b : s ≡ main_bytes A)
+      (z : types ≡ [])
+    where
+      pub main_stands : Stands A m s types
+      main_stands =
+          let within = main_within x in
+          rw (b, e) (record {
+            typed = record { depth = 23; at = main_typed h refl z };
+            fits = omega (arith, length_part A (main_place A) (length A) (omega arith));
+            short = accepted_short h;
+          })
+
+      pub main_found : {out : List ℕ} {r : Maybe WaitKind} → m ≤ place → DescentIs A m s place types out r
+          → Finds (clause_at (agreement_of A) place) out 0 r
+      main_found l d = main_located h e l z (let same : s ≡ part A m (length A) = b ∙ rw e in rw same at d)

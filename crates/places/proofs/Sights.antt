@@ -1,91 +1,71 @@
 -- The types that bytes are, put behind one another.
 use mathlib.Core.Path.{◌≡◌, sym, ap, ◌∙◌}
 use mathlib.Core.List.{List, [], ◌∷◌, ◌++◌}
+use mathlib.Core.Option.{some}
 use Prim.Native.Nat.{ℕ, zero, suc, ◌+◌, ◌-◌, ◌≤◌, ◌<◌}
 use native.Mathlib.Decide.{dec_le}
-use native.Mathlib.Numerals.{add-one}
 use native.Mathlib.Omega.{arith}
-use lib.ListN.{length, take, set, length-append, length-take, length-map}
-use lib.Seq.{take-suc-set}
-use Rattle.arith.proofs.Lists.{length_part}
-use Rattle.octets.proofs.Bytes.{record_end_within}
-use Rattle.csl.specs.Lists.{or_nil}
-use Rattle.csl.specs.Bytes.{byte, part, record_end}
+use lib.ListN.{length, length-append, length-map}
+use Rattle.csl.specs.Lists.{or_nil, at}
+use Rattle.csl.specs.Bytes.{byte}
 use Rattle.csl.specs.Syntax.{Ty, number}
-use Rattle.csl.specs.Decode.{ty_of, tys_of, reading_type, agreement_of}
+use Rattle.csl.specs.Decode.{ty_of, tys_of, agreement_of}
 use Rattle.csl.specs.Typing.{reading_of_type, then_sight}
 use Rattle.laws.proofs.Clash.{impossible}
 use Rattle.laws.proofs.Options.{some_inj}
 use Rattle.laws.proofs.Types.{types_append}
-use Rattle.records.specs.Index.{Indexed, reading_place, piece_at}
-use Rattle.records.proofs.Index.{readings_at, readings_past, reading_end, reading_types}
-use Rattle.places.specs.Locate.{sight_of, Sees, SeesIn}
+use Rattle.records.specs.Index.{ReadingTypes}
+use Rattle.records.proofs.Index.{readings_past}
+use Rattle.places.specs.Locate.{SeesIn}
 
 -- ---- the types that bytes are
-pub sight_length : (types : List ℕ) (c : ℕ) → c ≤ length types → length (sight_of types c) ≡ c
-unfolding tys_of
-sight_length types c l = length-map (take c types) ty_of ∙ omega (arith, length-take c types)
-
 then_length : (env vs : List Ty) → length (then_sight env vs) ≡ length env + length vs + 1
 unfolding then_sight
 then_length env vs = omega (arith, length-append (env ++ vs) (number ∷ []), length-append env vs)
 
--- bs and cs, with a type byte 1 stored behind them, are what `then` sees
-then_is : (types out : List ℕ) (c n : ℕ) (cs : List ℕ) → n < length out → take n out ≡ take c types ++ cs
-    → sight_of (set out n 1) (n + 1) ≡ then_sight (sight_of types c) (tys_of cs)
+-- bytes behind others, with a type byte 1 behind them, are what `then` sees
+then_is : (types bs : List ℕ) → tys_of ((types ++ bs) ++ (1 ∷ [])) ≡ then_sight (tys_of types) (tys_of bs)
 unfolding then_sight tys_of ty_of
-then_is types out c n cs l h =
-    rw (add-one n, take-suc-set out n 1 l, h)
-    (types_append (take c types ++ cs) (1 ∷ [])
-    ∙ ap (λ (x : List Ty). x ++ (number ∷ [])) (types_append (take c types) cs))
+then_is types bs =
+    types_append (types ++ bs) (1 ∷ []) ∙ ap (λ (x : List Ty). x ++ (number ∷ [])) (types_append types bs)
 
 -- ---- what `then` sees of a reading
-sees_at : (A : List ℕ) (env : List Ty) (w : ℕ) (s : Sees A env w) → (1 ≤ w) × (w - 1 < byte A 9)
-    × (s.values ≡ reading_type (piece_at A (reading_place A (w - 1))))
-unfolding reading_of_type
-sees_at A env zero s = impossible (cc s.is)
-sees_at A env (suc k) s = go (dec_le (byte A 9) k)
-  where
-    go : Dec (byte A 9 ≤ k) → (1 ≤ suc k) × (suc k - 1 < byte A 9)
-        × (s.values ≡ reading_type (piece_at A (reading_place A (suc k - 1))))
-    go (yes h) = let e = sym (readings_past A k h) ∙ s.is in impossible cc
-    go (no h) = let j : suc k - 1 ≡ k = omega arith in
-        (omega arith, omega arith, rw j (some_inj (sym s.is ∙ readings_at A k (omega arith))))
-
-module _ {places A : List ℕ} {w : ℕ} (types : List ℕ) (count : ℕ)
-    (pre : Indexed places A × SeesIn A types count w) where
+module _ {A : List ℕ} {w : ℕ} (types : List ℕ) (h : SeesIn A types w) where
   pub named : (1 ≤ w) × (w - 1 < byte A 9)
-  named = let h = sees_at A (sight_of types count) w pre.1.sees in (h.0, h.1)
+  unfolding reading_of_type
+  named = go w h.sees.is
+    where
+      go : (w : ℕ) → reading_of_type (agreement_of A).readings w ≡ some h.sees.values → (1 ≤ w) × (w - 1 < byte A 9)
+      go zero e = impossible cc
+      go (suc k) e = within (dec_le (byte A 9) k)
+        where
+          within : Dec (byte A 9 ≤ k) → (1 ≤ suc k) × (suc k - 1 < byte A 9)
+          within (yes l) = let g = sym (readings_past A k l) ∙ e in impossible cc
+          within (no l) = (omega arith, omega arith)
 
-  module _ {a e : ℕ} (p : a ≡ reading_place A (w - 1)) (q : e ≡ record_end A a) where
-    pub values_room : (a + 5 ≤ e) × (e ≤ length A)
-    values_room = (omega (arith, reading_end pre.0 named.1 p q), omega (arith, record_end_within A a))
+  module _ {bs : List ℕ} (t : ReadingTypes A (w - 1) bs) where
+    values_are : h.sees.values ≡ tys_of bs
+    unfolding reading_of_type
+    values_are = go w named.0 h.sees.is t.typed
+      where
+        go : (w : ℕ) → 1 ≤ w → reading_of_type (agreement_of A).readings w ≡ some h.sees.values
+            → at (agreement_of A).readings (w - 1) ≡ some (tys_of bs) → h.sees.values ≡ tys_of bs
+        go zero l e g = absurd (omega arith)
+        go (suc k) l e g = let j : suc k - 1 ≡ k = omega arith in some_inj (sym e ∙ (rw j at g))
 
-    values_are : pre.1.sees.values ≡ tys_of (part A (a + 5) e)
-    values_are = (sees_at A (sight_of types count) w pre.1.sees).2 ∙ reading_types pre.0 named.1 p q
-
-    pub sight_room : count + (e - a - 5) + 1 ≤ 16
+    pub sight_room : length types + length bs + 1 ≤ 16
     unfolding tys_of
     sight_room =
-        let v = values_room in
         omega (
           arith,
-          pre.1.sees.few,
-          then_length (sight_of types count) pre.1.sees.values,
-          sight_length types count (omega (arith, pre.1.room, pre.1.few)),
+          h.sees.few,
+          then_length (tys_of types) h.sees.values,
+          length-map types ty_of,
           ap length values_are,
-          length-map (part A (a + 5) e) ty_of,
-          length_part A (a + 5) e v.1,
+          length-map bs ty_of,
         )
 
-    pub part_room : length (part A (a + 5) e) ≡ e - a - 5
-    part_room = omega (arith, length_part A (a + 5) e values_room.1)
-
-    pub sight_is : (out : List ℕ) → length out ≡ 16 → take (count + length (part A (a + 5) e)) out ≡ take count types
-        ++ part A (a + 5) e → sight_of (set out (count + (e - a - 5)) 1) (count + (e - a - 5) + 1) ≡ then_sight
-        (sight_of types count) (or_nil (reading_of_type (agreement_of A).readings w))
+    pub sight_is : {out out₂ : List ℕ} → out ≡ types ++ bs → out₂ ≡ out ++ (1 ∷ [])
+        → tys_of out₂ ≡ then_sight (tys_of types) (or_nil (reading_of_type (agreement_of A).readings w))
     unfolding or_nil
-    sight_is out l h =
-        let n = count + (e - a - 5) in
-        rw (pre.1.sees.is, values_are) (then_is types out count n (part A (a + 5) e) (omega (arith, sight_room))
-        (rw part_room at h))
+    sight_is f g = rw (g, f, h.sees.is, values_are) (then_is types bs)

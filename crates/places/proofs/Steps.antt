@@ -8,7 +8,7 @@ use Prim.Native.Nat.{ℕ, ◌+◌, ◌-◌, ◌≤◌, ◌<◌}
 use native.Mathlib.Decide.{dec_le}
 use native.Mathlib.Omega.{arith}
 use borrow.Author.Tests.{ne_eqb, eq-eqb}
-use lib.Dec.{eqb, leb, leb→le}
+use lib.Dec.{T, eqb, leb, leb→le}
 use lib.ListN.{length}
 use Rattle.arith.proofs.Lists.{length_part}
 use Rattle.octets.proofs.Bytes.{record_end_within, record_end_after, whole_from}
@@ -31,7 +31,12 @@ use Rattle.records.proofs.Trees.{kind_fulfilled, kind_instance, kind_no_clause_l
 use Rattle.records.proofs.Index.{first_within, first_from}
 use Rattle.soundness.proofs.Places.{Out, find_none, or_else_none, none_or_else}
 use Rattle.soundness.proofs.Decoding.{clause_ranged}
-use Rattle.places.specs.Locate.{sight_of, wait_number, find_at, TypedAt, Typed, Sees, GoesInto, IsHere}
+use Rattle.csl.specs.Decode.{tys_of}
+use Rattle.csl.specs.Table.{is_sort}
+use Rattle.kinds.specs.Kinds.{sort_in}
+use Rattle.kinds.specs.declared.WaitKind as kinds
+use Rattle.kinds.specs.declared.WaitKind.TheVariants.{Obligation, Choice}
+use Rattle.places.specs.Locate.{find_at, TypedAt, Typed, Sees, GoesInto, IsHere}
 
 -- ---- what a typed clause has
 module _ (n : Names) (env : List Ty) where
@@ -176,10 +181,10 @@ pub typed_room : {A : List ℕ} {p : ℕ} {s : List ℕ} {env : List Ty} → Typ
 typed_room {s = s} t = (whole_from s (is_record_lem t.at)).room
 
 -- ---- by the kind m: x is where the first clause part begins, z where it ends
-module _ {A : List ℕ} {d p : ℕ} {s : List ℕ} (place c : ℕ) (types : List ℕ) (t : TypedAt A d p s (sight_of types c))
+module _ {A : List ℕ} {d p : ℕ} {s : List ℕ} (place : ℕ) (types : List ℕ) (t : TypedAt A d p s (tys_of types))
     {m : ℕ} (k : m ≡ kind_number s) where
   abbrev Env : List Ty
-  Env = sight_of types c
+  Env = tys_of types
 
   abbrev Readings : List (List Ty)
   Readings = (agreement_of A).readings
@@ -211,10 +216,10 @@ module _ {A : List ℕ} {d p : ℕ} {s : List ℕ} (place c : ℕ) (types : List
 
   -- `then` under what was seen is typed
   then_typed : (i : ℕ) {u : Clause} (w : Wait) → w.wanted ≡ byte s i → TypedThen Name Env w u
-      → (out : List ℕ) (r : ℕ) → sight_of out r ≡ seen Readings Env s i → TypedSide Name (sight_of out r) u
+      → (out : List ℕ) → tys_of out ≡ seen Readings Env s i → TypedSide Name (tys_of out) u
   unfolding names_of or_nil
-  then_typed i w g h out r e =
-      let same : sight_of out r ≡ then_sight Env h.values = e
+  then_typed i w g h out e =
+      let same : tys_of out ≡ then_sight Env h.values = e
       ∙ ap (λ (o : Option (List Ty)). then_sight Env (or_nil o)) (ap (reading_of_type Readings) (sym g) ∙ h.is) in
       record { parties = h.parties; typed = rw same h.typed }
 
@@ -237,25 +242,26 @@ module _ {A : List ℕ} {d p : ℕ} {s : List ℕ} (place c : ℕ) (types : List
   not_beyond n x z env u o l = find_none Readings n place (p + x) (p + x + length (part s x z)) (Inner x z) env
       (clause_ranged (heads_of A) (d - 1) (p + x) (part s x z)) (inr (omega (arith, length_part s x z u)))
 
-  here : {c : Clause} {j : ℕ} → c ≡ clause (heads_of A) d p s → ((n : ℕ) → find_at A n place c Env ≡ some (record {
-    clause = c;
-    sight = Env;
-    params = n;
-  })) → wait_number c ≡ j → IsHere A d p s place Env j
-  here e f g = record {
+  here : {c : Clause} {w : kinds.WaitKind} → c ≡ clause (heads_of A) d p s
+      → ((n : ℕ) → find_at A n place c Env ≡ some (record {
+        clause = c;
+        sight = Env;
+        params = n;
+      })) → T (is_sort (sort_in w) c) → IsHere A d p s place Env w
+  here {w = w} e f g = record {
     is = subst (λ (c : Clause). (n : ℕ) → find_at A n place c Env ≡ some (record {
       clause = c;
       sight = Env;
       params = n;
     })) e f;
-    kind = ap wait_number (sym e) ∙ g;
+    sorted = subst (λ (c : Clause). T (is_sort (sort_in w) c)) e g;
   }
 
   -- ---- an obligation
-  pub obligation_here : m ≡ 17 → place ≡ p → IsHere A d p s place Env 17
-  unfolding wait_number
+  pub obligation_here : m ≡ 17 → place ≡ p → IsHere A d p s place Env Obligation
+  unfolding is_sort
   obligation_here e h = here (one {x = first_clause m s} e refl)
-      (λ n. find_own Readings n Env place p (expr (d - 1)) s (byte s 4) _ h) refl
+      (λ n. find_own Readings n Env place p (expr (d - 1)) s (byte s 4) _ h) tt
 
   wanted_first : m ≡ 17 → TypedThen Name Env (wait_at (expr (d - 1)) p s 5) (Inner (first_clause m s) (length s))
   wanted_first e = obligation_typed Name Env (byte s 4) (wait_at (expr (d - 1)) p s 5)
@@ -265,30 +271,29 @@ module _ {A : List ℕ} {d p : ℕ} {s : List ℕ} (place c : ℕ) (types : List
   unfolding wait_at
   obligation_sees e = sees 5 (wait_at (expr (d - 1)) p s 5) refl (wanted_first e)
 
-  pub obligation_into : {x w r : ℕ} (out : List ℕ) → m ≡ 17 → (place ≡ p → ⊥) → x ≡ first_clause m s → w ≡ byte s 5
-      → (r ≤ 16) × (sight_of out r ≡ then_sight Env (or_nil (reading_of_type Readings w)))
-      → GoesInto A d p s place Env out x (length s) r
+  pub obligation_into : {x w : ℕ} (out : List ℕ) → m ≡ 17 → (place ≡ p → ⊥) → x ≡ first_clause m s → w ≡ byte s 5
+      → tys_of out ≡ then_sight Env (or_nil (reading_of_type Readings w))
+      → GoesInto A d p s place Env out x (length s)
   unfolding wait_at
-  obligation_into {x} {w} {r} out e h i g q =
-      let v : sight_of out r ≡ seen Readings Env s 5 = q.1
+  obligation_into {x} {w} out e h i g q =
+      let v : tys_of out ≡ seen Readings Env s 5 = q
       ∙ ap (λ (y : ℕ). then_sight Env (or_nil (reading_of_type Readings y))) g in
       record {
         from = rw i (first_from m s room);
         ordered = rw i (first_within m s room);
         inside = omega arith;
-        few = q.0;
         typed = at_depth x (length s) (then_typed 5 (wait_at (expr (d - 1)) p s 5) refl
-            (rw (sym i) at (wanted_first e)) out r v);
+            (rw (sym i) at (wanted_first e)) out v);
         same = λ n. ap (λ (c : Clause). find_at A n place c Env) (sym (one e i))
             ∙ find_then Readings n Env place p (expr (d - 1)) s (byte s 4) (Inner x (length s)) h
             ∙ ap (find Readings n place (Inner x (length s))) (sym v);
       }
 
   -- ---- a choice
-  pub choice_here : m ≡ 18 → place ≡ p → IsHere A d p s place Env 18
-  unfolding wait_number
+  pub choice_here : m ≡ 18 → place ≡ p → IsHere A d p s place Env Choice
+  unfolding is_sort
   choice_here e h = here (two_choice {x = first_clause m s} {z = record_end s (first_clause m s)} e refl refl)
-      (λ n. choice_own Readings n Env place p (expr (d - 1)) s _ _ h) refl
+      (λ n. choice_own Readings n Env place p (expr (d - 1)) s _ _ h) tt
 
   module _ {x z : ℕ} (i : x ≡ first_clause m s) (j : z ≡ record_end s x) where
     begins : 4 ≤ x
@@ -318,29 +323,26 @@ module _ {A : List ℕ} {d p : ℕ} {s : List ℕ} (place c : ℕ) (types : List
     other n e h = ap (λ (c : Clause). find_at A n place c Env) (sym (two_choice e i j))
         ∙ choice_other Readings n Env place p (expr (d - 1)) s (Inner x z) (Inner z (length s)) h
 
-    pub choice_then : {w r : ℕ} (out : List ℕ) → m ≡ 18 → (place ≡ p → ⊥) → place < p + z → w ≡ byte s 4 → (r ≤ 16)
-        × (sight_of out r ≡ then_sight Env (or_nil (reading_of_type Readings w))) → GoesInto A d p s place Env out x z r
+    pub choice_then : {w : ℕ} (out : List ℕ) → m ≡ 18 → (place ≡ p → ⊥) → place < p + z → w ≡ byte s 4
+        → tys_of out ≡ then_sight Env (or_nil (reading_of_type Readings w)) → GoesInto A d p s place Env out x z
     unfolding wait_at
-    choice_then {w} {r} out e h l g q =
-        let v : sight_of out r ≡ seen Readings Env s 4 = q.1
+    choice_then {w} out e h l g q =
+        let v : tys_of out ≡ seen Readings Env s 4 = q
         ∙ ap (λ (y : ℕ). then_sight Env (or_nil (reading_of_type Readings y))) g in
         record {
           from = begins;
           ordered = follows;
           inside = ends;
-          few = q.0;
-          typed = at_depth x z (then_typed 4 (wait_at (expr (d - 1)) p s 4) refl (wanted_either e).0 out r v);
+          typed = at_depth x z (then_typed 4 (wait_at (expr (d - 1)) p s 4) refl (wanted_either e).0 out v);
           same = λ n. other n e h ∙ none_or_else _ _ (not_below n z (length s) Env l)
               ∙ ap (find Readings n place (Inner x z)) (sym v);
         }
 
-    pub choice_else : c ≤ 16 → m ≡ 18 → (place ≡ p → ⊥) → p + z ≤ place
-        → GoesInto A d p s place Env types z (length s) c
-    choice_else few e h l = record {
+    pub choice_else : m ≡ 18 → (place ≡ p → ⊥) → p + z ≤ place → GoesInto A d p s place Env types z (length s)
+    choice_else e h l = record {
       from = omega (arith, begins, follows);
       ordered = ends;
       inside = omega arith;
-      few = few;
       typed = at_depth z (length s) (wanted_either e).1;
       same = λ n. other n e h ∙ or_else_none _ _ (not_beyond n x z (seen Readings Env s 4) ends follows l);
     }
@@ -355,22 +357,20 @@ module _ {A : List ℕ} {d p : ℕ} {s : List ℕ} (place c : ℕ) (types : List
     in_sides n l u = ap (λ (c : Clause). find_at A n place c Env) (sym (two (omega arith) u i j))
         ∙ find_sides Readings n place Env (expr (d - 1)) p s m (Inner x z) (Inner z (length s)) l
 
-    pub sides_left : c ≤ 16 → 19 ≤ m → m < 22 → place < p + z → GoesInto A d p s place Env types x z c
-    sides_left few l u h = record {
+    pub sides_left : 19 ≤ m → m < 22 → place < p + z → GoesInto A d p s place Env types x z
+    sides_left l u h = record {
       from = begins;
       ordered = follows;
       inside = ends;
-      few = few;
       typed = at_depth x z (either_side l u).0;
       same = λ n. in_sides n l u ∙ none_or_else _ _ (not_below n z (length s) Env h);
     }
 
-    pub sides_right : c ≤ 16 → 19 ≤ m → m < 22 → p + z ≤ place → GoesInto A d p s place Env types z (length s) c
-    sides_right few l u h = record {
+    pub sides_right : 19 ≤ m → m < 22 → p + z ≤ place → GoesInto A d p s place Env types z (length s)
+    sides_right l u h = record {
       from = omega (arith, begins, follows);
       ordered = ends;
       inside = omega arith;
-      few = few;
       typed = at_depth z (length s) (either_side l u).1;
       same = λ n. in_sides n l u ∙ or_else_none _ _ (not_beyond n x z Env ends follows h);
     }

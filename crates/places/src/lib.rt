@@ -1,240 +1,188 @@
-// The waiting clause at a byte place of the agreement, and what is in sight there.
+// The waiting clause at a byte place of an accepted agreement, and what is in sight there.
 #![tactic(auto)]
 
-ghost use Rattle.std.specs.Prelude.{◌≡◌, List, ℕ, ◌+◌, ◌^◌, ◌≤◌, ◌<◌, length};
+mod accepted;
+
+ghost use Rattle.std.specs.Prelude.{◌≡◌, Some, List, ℕ, ◌+◌, ◌^◌, ◌≤◌, ◌<◌, length};
 ghost use Rattle.csl.specs.Bytes as bytes;
 ghost use Rattle.csl.specs.Bytes.{kind_number};
-ghost use Rattle.csl.specs.Decode.{agreement_of};
+ghost use Rattle.csl.specs.Check as check;
+ghost use Rattle.csl.specs.Decode.{tys_of, agreement_of};
 ghost use Rattle.csl.specs.Places.{clause_at};
-ghost use Rattle.records.specs.Index.{Indexed};
-ghost use Rattle.places.specs.Locate.{sight_of, seen_in, SeesIn, Stands, StepIs, DescentIs, Locates, in_template};
-ghost use Rattle.csl.specs.Check.{Accepted};
+ghost use Rattle.places.specs.Locate.{seen_in, SeesIn, Stands, StepIs, DescentIs, Locates, in_template};
 
+pub use accepted::Accepted;
+use arrayvec::ArrayVec;
+use kinds::{Type, WaitKind};
 use octets::{byte, kind, record_end};
-use records::{
-    TEMPLATES_AT, append, body_span, first_clause, main_place, param_count, reading_place,
-    template_place, value_count,
-};
+use records::{Agreement, IN_SIGHT, first_clause};
 
-// A place's clause: its kind, 17 or 18, how many party parameters it has, and how many values are in sight.
-#[derive(Clone, Copy)]
-pub enum Located {
-    Nothing,
-    At {
-        kind: usize,
-        params: usize,
-        count: usize,
-    },
+// The waiting clause at a place: how it waits, how many party parameters it has, and the types in sight.
+#[derive(Drop)]
+pub struct Located {
+    pub wait: WaitKind,
+    pub params: usize,
+    pub sight: ArrayVec<u8, IN_SIGHT>,
 }
 
-// Where the search goes on: nowhere, at a clause of a kind, or in the clause from a place up to a place, with so many
-// values in sight.
-#[derive(Clone, Copy)]
+// Where the search goes on: at this clause, which waits, or in the clause from a place up to a place.
+#[derive(Clone, Copy, Debug, PartialEq, Eq)]
 enum Step {
-    Absent,
-    Here(usize),
-    Into {
-        from: usize,
-        to: usize,
-        count: usize,
-    },
+    Here(WaitKind),
+    Into { from: usize, to: usize },
 }
 
 // What `then` sees: the reading's values, and behind them the remaining time.
-fn then_sight(
-    agreement: &[u8],
-    places: &[usize],
-    wanted: usize,
-    count: usize,
-    types: &mut [u8],
-) -> usize
-    requires { Indexed places.now agreement.now × SeesIn agreement.now types.old count wanted }
-    ensures { (result ≤ 16) × (sight_of types.new result ≡ seen_in agreement.now types.old count wanted) }
+fn then_sight(agreement: &Agreement<'_>, wanted: usize, sight: &mut ArrayVec<u8, IN_SIGHT>)
+    requires { SeesIn agreement.now sight.old.items wanted }
+    ensures { tys_of sight.new.items ≡ seen_in agreement.now sight.old.items wanted }
 {
-    let a = reading_place(agreement, places, wanted - 1);
-    let e = record_end(agreement, a);
-    let n = count + (e - a - 5);
-    append(types, count, &agreement[a + 5..e]);
-    types[n] = 1;
-    n + 1
+    let types = agreement.reading_types(wanted - 1);
+    sight.try_extend_from_slice(types).unwrap();
+    sight.push(usize::from(Type::Number) as u8);
 }
 
-// One step towards the place, from an obligation s that stands at `base`.
+// One step towards the place, from an obligation s that stands at `base`. (Three functions and not one: an obligation
+// has no else, and a clause with two sides neither waits nor lets its first side see more.)
 fn from_obligation(
-    agreement: &[u8],
-    places: &[usize],
+    agreement: &Agreement<'_>,
     s: &[u8],
     base: usize,
     place: usize,
-    count: usize,
-    types: &mut [u8],
+    sight: &mut ArrayVec<u8, IN_SIGHT>,
 ) -> Step
-    requires indexed { Indexed places.now agreement.now × Stands agreement.now base s.now types.old count }
+    requires stands { Stands agreement.now base s.now sight.old.items }
     requires is_obligation { kind_number s.now ≡ 17 }
-    ensures { StepIs agreement.now base s.now place count types.old types.new result }
+    ensures { StepIs agreement.now base s.now place sight.old.items sight.new.items (Some result) }
 {
     if place == base {
-        return Step::Here(17);
+        return Step::Here(WaitKind::Obligation);
     }
     let c = first_clause(s, 17);
-    let n = then_sight(agreement, places, byte(s, 5), count, types);
+    then_sight(agreement, byte(s, 5), sight);
     Step::Into {
         from: c,
         to: s.len(),
-        count: n,
     }
 }
 
 // The same from a choice.
 fn from_choice(
-    agreement: &[u8],
-    places: &[usize],
+    agreement: &Agreement<'_>,
     s: &[u8],
     base: usize,
     place: usize,
-    count: usize,
-    types: &mut [u8],
+    sight: &mut ArrayVec<u8, IN_SIGHT>,
 ) -> Step
-    requires indexed { Indexed places.now agreement.now × Stands agreement.now base s.now types.old count }
+    requires stands { Stands agreement.now base s.now sight.old.items }
     requires is_choice { kind_number s.now ≡ 18 }
-    ensures { StepIs agreement.now base s.now place count types.old types.new result }
+    ensures { StepIs agreement.now base s.now place sight.old.items sight.new.items (Some result) }
 {
     if place == base {
-        return Step::Here(18);
+        return Step::Here(WaitKind::Choice);
     }
     let c = first_clause(s, 18);
     let f = record_end(s, c);
     if place < base + f {
-        let n = then_sight(agreement, places, byte(s, 4), count, types);
-        return Step::Into {
-            from: c,
-            to: f,
-            count: n,
-        };
+        then_sight(agreement, byte(s, 4), sight);
+        return Step::Into { from: c, to: f };
     }
     Step::Into {
         from: f,
         to: s.len(),
-        count: count,
     }
 }
 
 // The same from a clause of kind 19 to 21, whose sides see what it sees.
-fn from_sides(s: &[u8], kind: usize, base: usize, place: usize, count: usize) -> Step
-    requires { (4 ≤ length s.now) × (kind ≡ kind_number s.now) × (19 ≤ kind) × (kind < 22) × (count ≤ 16) × (base + length s.now < 2 ^ 64) }
-    ensures { (a types : List ℕ) → StepIs a base s.now place count types types result }
+fn from_sides(s: &[u8], kind: usize, base: usize, place: usize) -> Step
+    requires { (4 ≤ length s.now) × (kind ≡ kind_number s.now) × (19 ≤ kind) × (kind < 22) × (base + length s.now < 2 ^ 64) }
+    ensures { (a types : List ℕ) → StepIs a base s.now place types types (Some result) }
 {
     let c = first_clause(s, kind);
     let f = record_end(s, c);
     if place < base + f {
-        return Step::Into {
-            from: c,
-            to: f,
-            count: count,
-        };
+        return Step::Into { from: c, to: f };
     }
     Step::Into {
         from: f,
         to: s.len(),
-        count: count,
     }
 }
 
-// The same from any clause.
+// The same from any clause; one that has no clause parts and does not wait has no step.
 fn step_down(
-    agreement: &[u8],
-    places: &[usize],
+    agreement: &Agreement<'_>,
     s: &[u8],
     base: usize,
     place: usize,
-    count: usize,
-    types: &mut [u8],
-) -> Step
-    requires { Indexed places.now agreement.now × Stands agreement.now base s.now types.old count }
-    ensures { StepIs agreement.now base s.now place count types.old types.new result }
+    sight: &mut ArrayVec<u8, IN_SIGHT>,
+) -> Option<Step>
+    requires { Stands agreement.now base s.now sight.old.items }
+    ensures { StepIs agreement.now base s.now place sight.old.items sight.new.items result }
 {
     let k = kind(s);
     match k {
-        17 => from_obligation(agreement, places, s, base, place, count, types),
-        18 => from_choice(agreement, places, s, base, place, count, types),
-        19..=21 => from_sides(s, k, base, place, count),
-        _ => Step::Absent,
+        17 => Some(from_obligation(agreement, s, base, place, sight)),
+        18 => Some(from_choice(agreement, s, base, place, sight)),
+        19..=21 => Some(from_sides(s, k, base, place)),
+        _ => None,
     }
 }
 
-// The waiting clause at the place, in the clause s that stands at `base`.
+// The waiting clause at the place, in the clause s that stands at `base`: how it waits. The sight becomes its own.
 fn descend(
-    agreement: &[u8],
-    places: &[usize],
+    agreement: &Agreement<'_>,
     s: &[u8],
     base: usize,
     place: usize,
-    params: usize,
-    count: usize,
-    types: &mut [u8],
-) -> Located
-    requires { Indexed places.now agreement.now × Stands agreement.now base s.now types.old count }
-    ensures { DescentIs agreement.now base s.now place params count types.old types.new result }
+    sight: &mut ArrayVec<u8, IN_SIGHT>,
+) -> Option<WaitKind>
+    requires { Stands agreement.now base s.now sight.old.items }
+    ensures { DescentIs agreement.now base s.now place sight.old.items sight.new.items result }
 {
-    match step_down(agreement, places, s, base, place, count, types) {
-        Step::Absent => Located::Nothing,
-        Step::Here(kind) => Located::At {
-            kind: kind,
-            params: params,
-            count: count,
-        },
-        Step::Into { from, to, count: n } => {
+    match step_down(agreement, s, base, place, sight)? {
+        Step::Here(wait) => Some(wait),
+        Step::Into { from, to } => {
             let part = &s[from..to];
-            descend(
-                agreement,
-                places,
-                part,
-                base + from,
-                place,
-                params,
-                n,
-                types,
-            )
+            descend(agreement, part, base + from, place, sight)
         }
     }
 }
 
 // The same in the body of template k.
-fn in_template(
-    agreement: &[u8],
-    places: &[usize],
-    k: usize,
-    place: usize,
-    types: &mut [u8],
-) -> Located
-    requires { Indexed places.now agreement.now × (k < bytes.byte agreement.now 10) × Accepted agreement.now × (length types.old ≡ 16) }
-    ensures { Locates (in_template agreement.now k place) types.new result }
+fn in_template(agreement: &Agreement<'_>, k: usize, place: usize) -> Option<Located>
+    requires { (k < bytes.byte agreement.now 10) × check.Accepted agreement.now }
+    ensures { Locates (in_template agreement.now k place) result }
 {
-    let a = template_place(agreement, places, k);
-    let n = value_count(agreement, places, k);
-    let params = param_count(agreement, places, k);
-    let body = body_span(agreement, places, k);
-    let from = body.from;
-    let to = body.to;
-    append(types, 0, &agreement[a + 5..a + 5 + n]);
-    let s = &agreement[from..to];
-    descend(agreement, places, s, from, place, params, n, types)
+    let types = agreement.value_types(k);
+    let mut sight = ArrayVec::try_from(types).unwrap();
+    let body = agreement.body_span(k);
+    let s = agreement.body(k);
+    let wait = descend(agreement, s, body.from, place, &mut sight)?;
+    Some(Located {
+        wait,
+        params: agreement.param_count(k),
+        sight,
+    })
 }
 
 // The waiting clause at a byte place: the main clause's, or in the template whose record holds the place.
-pub fn locate(agreement: &[u8], places: &[usize], place: usize, types: &mut [u8]) -> Located
-    requires { Indexed places.now agreement.now × Accepted agreement.now × (length types.old ≡ 16) }
-    ensures { Locates (clause_at (agreement_of agreement.now) place) types.new result }
+pub fn locate(agreement: &Agreement<'_>, place: usize) -> Option<Located>
+    requires { check.Accepted agreement.now }
+    ensures { Locates (clause_at (agreement_of agreement.now) place) result }
 {
-    let m = main_place(agreement, places);
+    let m = agreement.main_place();
     if m <= place {
-        return descend(agreement, places, &agreement[m..], m, place, 0, 0, types);
+        let mut sight = ArrayVec::new();
+        let wait = descend(agreement, agreement.main(), m, place, &mut sight)?;
+        return Some(Located {
+            wait,
+            params: 0,
+            sight,
+        });
     }
-    for k in 0..byte(agreement, TEMPLATES_AT) {
-        let a = template_place(agreement, places, k);
-        if place < record_end(agreement, a) {
-            return in_template(agreement, places, k, place, types);
-        }
-    }
-    Located::Nothing
+    let bytes = agreement.bytes();
+    let n = agreement.template_count();
+    let k = (0..n).find(|&k| place < record_end(bytes, agreement.template_place(k)))?;
+    in_template(agreement, k, place)
 }

@@ -3,18 +3,18 @@ use mathlib.Core.Path.{◌≡◌, refl, sym, ap, ◌∙◌}
 use mathlib.Core.Bool.{Bool, true, false, ◌&&◌}
 use mathlib.Core.List.{List, []}
 use mathlib.Core.Option.{none, some}
-use Prim.Native.Nat.{ℕ, zero, suc, ◌+◌, ◌-◌, ◌≤◌, ◌<◌}
+use Prim.Native.Nat.{ℕ, zero, suc, ◌-◌, ◌<◌}
 use native.Mathlib.Omega.{arith}
 use borrow.Author.Tests.{eq-eqb, ne_eqb}
 use lib.Dec.{eqb, eqb→eq}
 use lib.IntN.{ℤ}
-use lib.ListN.{length, take}
-use lib.Seq.{length-take-le}
+use lib.ListN.{length}
+use Rattle.std.specs.Prelude.{Option, Some, None, Ok}
+use Rattle.std.specs.Option.{ok_or}
+use Rattle.readings.specs.declared.Misfit.{Misfit}
 use Rattle.arith.proofs.Ints.{some_bits}
-use Rattle.arith.proofs.Lists.{length_part}
-use Rattle.octets.proofs.Bytes.{record_end_within}
 use Rattle.csl.specs.Lists.{◌>>=◌, at}
-use Rattle.csl.specs.Bytes.{byte, part, record_end}
+use Rattle.csl.specs.Bytes.{byte}
 use Rattle.csl.specs.Syntax.{Ty, Agreement}
 use Rattle.csl.specs.Decode.{agreement_of, tys_of}
 use Rattle.csl.specs.Values.{values_of}
@@ -24,9 +24,10 @@ use Rattle.csl.specs.Run.{raw_reading, typed_reading, values_wanted}
 use Rattle.csl.specs.Table.{cells_of}
 use Rattle.laws.proofs.Options.{some_inj, from_bind, from_need}
 use Rattle.laws.proofs.Types.{types_length}
-use Rattle.records.specs.Index.{Indexed, reading_place, piece_at}
-use Rattle.records.proofs.Index.{readings_at, readings_past, reading_end, reading_types, part_piece}
-use Rattle.readings.specs.Taking.{given, RawRead, TypedIs, UntypedRead, FittingRead}
+use Rattle.records.specs.Index.{ReadingTypes}
+use Rattle.records.proofs.Index.{readings_past}
+use Rattle.readings.specs.declared.reading.Reading.{Reading as Read}
+use Rattle.readings.specs.Taking.{given, RawRead, RawIs, TypedIs, UntypedRead, FittingRead}
 use Rattle.readings.proofs.Options.{given_some, given_none, given_then}
 use Rattle.records.specs.TypedValues.{values_ok}
 use Rattle.readings.proofs.Values.{all_given, values_cells}
@@ -78,80 +79,55 @@ no_more : (n : ℕ) → eqb n 0 ≡ eqb 0 n && true
 no_more zero = refl
 no_more (suc n) = rw (ne_eqb (suc n) 0 (λ e. omega arith), ne_eqb 0 (suc n) (λ e. omega arith))
 
-pub typed_mark : (s : List ℕ) (vs : List ℤ) {k n : ℕ} → k ≡ 0 → n ≤ length vs → TypedIs s k (take n vs) (eqb n 0)
+pub typed_mark : (s : List ℕ) (vs : List ℤ) {k : ℕ} → k ≡ 0 → TypedIs s k vs (eqb (length vs) 0)
 unfolding values_of given
-typed_mark s vs {k} {n} e l = record {
-  is = λ w p q.
-      let m : length w.numbers ≡ n = sym (ap length q) ∙ length-take-le n vs l in
-      no_more n ∙ rw (← m) (sym (typed_some (agreement_of s) w [] (rw (← p, e) (wanted_mark (agreement_of s)))));
+typed_mark s vs {k} e = record {
+  is = λ w p q. no_more (length vs)
+      ∙ rw (ap length q) (sym (typed_some (agreement_of s) w [] (rw (← p, e) (wanted_mark (agreement_of s)))));
 }
 
 -- ---- "type over the reading count"
-pub typed_past : (s : List ℕ) (zs : List ℤ) {k b : ℕ} → b ≡ byte s 9 → b < k → TypedIs s k zs false
-typed_past s zs {k} p l = record {
+pub typed_past : (s : List ℕ) (vs : List ℤ) {k b : ℕ} → b ≡ byte s 9 → b < k → TypedIs s k vs false
+typed_past s vs {k} p l = record {
   is = λ w h q. typed_none (agreement_of s) w
       (rw (← h) (wanted_at (agreement_of s) k (omega arith) ∙ readings_past s (k - 1) (omega arith)));
 }
 
--- ---- the record of reading type k is s from a to e
-module _ {places s : List ℕ} (x : Indexed places s) {k b a e : ℕ} (f : k ≡ 0 → ⊥) (p : b ≡ byte s 9) (l : k ≤ b)
-    (q : a ≡ reading_place s (k - 1)) (g : e ≡ record_end s a) where
-  listed : k - 1 < byte s 9
-  listed = omega (arith, some_bits f)
+-- ---- the reading type's types are ts, the values vs
+module _ {s : List ℕ} {k : ℕ} {ts : List ℕ} (f : k ≡ 0 → ⊥) (x : ReadingTypes s (k - 1) ts) (vs : List ℤ) where
+  wanted : (w : run.Raw) → k ≡ w.type → values_wanted (agreement_of s) w.type ≡ some (tys_of ts)
+  wanted w h = rw (← h) (wanted_at (agreement_of s) k (some_bits f) ∙ x.typed)
 
-  cut : part s a e ≡ piece_at s (reading_place s (k - 1))
-  cut = part_piece s q g
+  -- "wrong value count"
+  pub typed_count : (length ts ≡ length vs → ⊥) → TypedIs s k vs false
+  typed_count i = record {
+    is = λ w y z.
+        let c : length (tys_of ts) ≡ length w.numbers → ⊥ = λ j. i (sym (types_length ts) ∙ j ∙ sym (ap length z)) in
+        sym (typed_some (agreement_of s) w (tys_of ts) (wanted w y)
+        ∙ rw (ne_eqb (length (tys_of ts)) (length w.numbers) c) refl);
+  }
 
-  bounded : e ≤ length s
-  bounded = omega (arith, record_end_within s a)
+  -- "value not of its type or out of its range"
+  pub typed_values : {ps : ℕ} {r : Bool} → length ts ≡ length vs → ps ≡ byte s 8 → r ≡ values_ok ps (tys_of ts) vs
+      → TypedIs s k vs r
+  unfolding agreement_of
+  typed_values i u v = record {
+    is = λ w y z.
+        let c : length (tys_of ts) ≡ length w.numbers = types_length ts ∙ i ∙ ap length z in
+        v ∙ ap (λ j. values_ok j (tys_of ts) vs) u ∙ ap (values_ok (byte s 8) (tys_of ts)) z
+        ∙ all_given (byte s 8) (tys_of ts) w.numbers
+        ∙ sym (typed_some (agreement_of s) w (tys_of ts) (wanted w y)
+        ∙ rw (eq-eqb (length (tys_of ts)) (length w.numbers) c) refl);
+  }
 
-  pub types_from : a + 5 ≤ e
-  types_from = omega (arith, reading_end x listed q g)
-
-  types_many : length (part s (a + 5) e) ≡ byte (part s a e) 4
-  types_many = rw cut (omega (arith, reading_end x listed q g, length_part s (a + 5) e bounded))
-
-  wanted : (w : run.Raw) → k ≡ w.type → values_wanted (agreement_of s) w.type ≡ some (tys_of (part s (a + 5) e))
-  wanted w h = rw (← h) (wanted_at (agreement_of s) k (some_bits f) ∙ readings_at s (k - 1) listed
-      ∙ ap some (reading_types x listed q g))
-
-  count : length (tys_of (part s (a + 5) e)) ≡ byte (part s a e) 4
-  count = types_length (part s (a + 5) e) ∙ types_many
-
-  -- n values were read
-  module _ (vs : List ℤ) {n d : ℕ} (m : n ≤ length vs) (h : d ≡ byte (part s a e) 4) where
-    -- "wrong value count"
-    pub typed_count : (d ≡ n → ⊥) → TypedIs s k (take n vs) false
-    typed_count i = record {
-      is = λ w y z.
-          let c : length (tys_of (part s (a + 5) e)) ≡ length w.numbers
-          → ⊥ = λ j. i (h ∙ sym count ∙ j ∙ sym (ap length z) ∙ length-take-le n vs m) in
-          sym (typed_some (agreement_of s) w (tys_of (part s (a + 5) e)) (wanted w y)
-          ∙ rw (ne_eqb (length (tys_of (part s (a + 5) e))) (length w.numbers) c) refl);
-    }
-
-    module _ (i : d ≡ n) where
-      pub types_room : length (part s (a + 5) e) ≤ length (take n vs)
-      types_room = omega (arith, types_many, length-take-le n vs m)
-
-      -- "value not of its type or out of its range"
-      pub typed_values : {ps : ℕ} {r : Bool} → ps ≡ byte s 8 → r ≡ values_ok ps (tys_of (part s (a + 5) e)) (take n vs)
-          → TypedIs s k (take n vs) r
-      unfolding agreement_of
-      typed_values u v = record {
-        is = λ w y z.
-            let c : length (tys_of (part s (a + 5) e)) ≡ length w.numbers = count ∙ sym h ∙ i
-            ∙ sym (length-take-le n vs m) ∙ ap length z in
-            let ts = tys_of (part s (a + 5) e) in
-            v ∙ ap (λ j. values_ok j ts (take n vs)) u ∙ ap (values_ok (byte s 8) ts) z
-            ∙ all_given (byte s 8) ts w.numbers
-            ∙ sym (typed_some (agreement_of s) w (tys_of (part s (a + 5) e)) (wanted w y)
-            ∙ rw (eq-eqb (length (tys_of (part s (a + 5) e))) (length w.numbers) c) refl);
-      }
+-- ---- the reading that was read, where there is one
+pub was_read : (bytes : List ℕ) (o : Option Read) (m : Misfit) {r : Read} → Ok r ≡ ok_or o m → RawIs bytes o
+    → RawRead bytes r
+was_read bytes None m e h = absurd cc
+was_read bytes (Some q) m {r} e h = let same : q ≡ r = cc in rw same at h
 
 -- ---- the answer
-module _ {s bytes : List ℕ} {vs : List ℤ} {t k n : ℕ} {u : Bool} (x : RawRead bytes vs t k n)
-    (y : TypedIs s k (take n vs) u) where
+module _ {s bytes : List ℕ} {r : Read} {u : Bool} (x : RawRead bytes r) (y : TypedIs s r.tag r.values.items u) where
   told : u ≡ given (typed_reading (agreement_of s) x.raw)
   told = y.is x.raw x.type x.numbers
 
@@ -162,7 +138,7 @@ module _ {s bytes : List ℕ} {vs : List ℤ} {t k n : ℕ} {u : Bool} (x : RawR
     untyped = given_none (typed_reading (agreement_of s) x.raw) (sym told ∙ e);
   }
 
-  pub gives_fitting : u ≡ true → FittingRead s bytes vs t k n
+  pub gives_fitting : u ≡ true → FittingRead s bytes r
   gives_fitting e = given_some (typed_reading (agreement_of s) x.raw) (sym told ∙ e) λ d h.
       let q = typed_kept (agreement_of s) x.raw d h in
       record {
@@ -172,7 +148,7 @@ module _ {s bytes : List ℕ} {vs : List ℤ} {t k n : ℕ} {u : Bool} (x : RawR
         typed = h;
         time = x.time ∙ q.time;
         type = x.type ∙ q.type;
-        count = x.count ∙ q.count;
+        count = ap length x.numbers ∙ q.count;
         cells = x.numbers ∙ q.cells;
         few = x.few;
         small = x.small;

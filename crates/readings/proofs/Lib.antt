@@ -1,4 +1,4 @@
 mod Options
-mod Reading
+mod Raw
 pub mod Values
 mod Fitting

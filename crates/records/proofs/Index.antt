@@ -1,5 +1,5 @@
 -- Laws for the parts of an agreement: where its records end, which records its lists have, and what the heads of an
--- indexed agreement hold to.
+-- agreement hold to.
 use mathlib.Core.Path.{◌≡◌, refl, sym, ap, ◌∙◌}
 use mathlib.Core.Bool.{Bool, true, false, cond, ◌&&◌}
 use mathlib.Core.List.{List, [], ◌∷◌, map}
@@ -10,6 +10,7 @@ use native.Mathlib.Numerals.{add-one}
 use native.Mathlib.Omega.{arith}
 use lib.Dec.{T, leb, eqb, leb→le, eqb→eq}
 use lib.ListN.{length, length-map}
+use Rattle.std.specs.List.{list_all, range_with_len}
 use Rattle.arith.proofs.Lists.{length_part, part_part}
 use Rattle.octets.proofs.Bytes.{byte_part, le16_part, record_end_within, record_end_after}
 use Rattle.csl.specs.Lists.{all, at}
@@ -19,7 +20,8 @@ use Rattle.csl.specs.Decode.{Piece, records_end, pieces, templates_place, main_p
 use Rattle.csl.specs.Decode.{heads_of, body_place, body_of, clause, template_of, agreement_of, is_type, ty_of, tys_of}
 use Rattle.csl.specs.Decode.{reading_type_ok, reading_type, template_ok, template_head}
 use Rattle.csl.specs.Typing.{heads_in}
-use Rattle.records.specs.Index.{Indexed, reading_place, template_place, piece_at, head_at, template_piece}
+use Rattle.records.specs.Index.{Lists, ReadingTypes, ValueTypes, reading_place, template_place, piece_at, head_at}
+use Rattle.records.specs.Index.{template_piece}
 use Rattle.records.specs.Index.{value_count, body_from, body_to, Spans, first_clause}
 use Rattle.laws.proofs.Bools.{both_true, T→true}
 use Rattle.laws.proofs.RecordEnds.{record_end_from, wait_within, wait_from, pieces_within}
@@ -80,6 +82,14 @@ module _ (p : Piece → Bool) where
   all_pieces (suc n) s i zero t l = both_true (p (piece s i)) _ t λ h u. h
   all_pieces (suc n) s i (suc k) t l = both_true (p (piece s i)) _ t λ h u. all_pieces n s (record_end s i) k u
       (le_of_suc-le-suc l)
+
+  -- a chain over their numbers asks of each what `all` asks
+  pub pieces_ranged : (s : List ℕ) (i n a : ℕ)
+      → list_all (λ k. p (piece s (records_end k s i))) (range_with_len a n) ≡ all p (pieces n s (records_end a s i))
+  unfolding all pieces
+  pieces_ranged s i zero a = refl
+  pieces_ranged s i (suc n) a = ap (λ b. p (piece s (records_end a s i)) && b)
+      (pieces_ranged s i n (a + 1) ∙ ap (λ e. all p (pieces n s e)) (pieces_more a s i))
 
 -- ---- the lists of an agreement, by the count of each
 module _ (s : List ℕ) (k : ℕ) where
@@ -188,8 +198,8 @@ pub params_is : (q : List ℕ) → (template_head q).params ≡ byte q (5 + byte
 unfolding template_head
 params_is q = refl
 
--- ---- of an indexed agreement
-module _ {places s : List ℕ} (x : Indexed places s) where
+-- ---- of an agreement whose lists are as listed
+module _ {s : List ℕ} (x : Lists s) where
   pub templates_within : templates_place s ≤ length s
   unfolding templates_place
   templates_within = pieces_within (byte s 9) s 11 x.long
@@ -234,8 +244,7 @@ module _ {places s : List ℕ} (x : Indexed places s) where
       omega (arith, (template_facts k l).long, length_part s a (record_end s a) (record_end_within s a))
 
 -- ---- the body of template k
-pub body_there : {places s : List ℕ} {k : ℕ} → Indexed places s × (k < byte s 10)
-    → Spans s k (body_from s k) (body_to s k)
+pub body_there : {s : List ℕ} {k : ℕ} → Lists s × (k < byte s 10) → Spans s k (body_from s k) (body_to s k)
 body_there {s = s} {k} x = record {
   begins = refl;
   ends = refl;
@@ -244,7 +253,7 @@ body_there {s = s} {k} x = record {
 }
 
 -- a, n, h and e are what calls gave
-pub spans : {places s : List ℕ} {k a n h e : ℕ} → Indexed places s × (k < byte s 10) → a ≡ template_place s k
+pub spans : {s : List ℕ} {k a n h e : ℕ} → Lists s × (k < byte s 10) → a ≡ template_place s k
     → n ≡ value_count s k → h ≡ 8 + n → e ≡ record_end s a → Spans s k (a + h) e
 unfolding body_place
 spans x p q m o = rw (o, m, q, p) (body_there x)
@@ -269,7 +278,7 @@ pub part_piece : (s : List ℕ) {a e t : ℕ} → a ≡ t → e ≡ record_end s
 part_piece s p q = rw (q, p)
 
 -- the types of reading type k
-module _ {places s : List ℕ} (x : Indexed places s) {k a e : ℕ} (l : k < byte s 9) (p : a ≡ reading_place s k)
+module _ {s : List ℕ} (x : Lists s) {k a e : ℕ} (l : k < byte s 9) (p : a ≡ reading_place s k)
     (q : e ≡ record_end s a) where
   pub reading_end : e ≡ a + 5 + byte (piece_at s (reading_place s k)) 4
   reading_end =
@@ -289,8 +298,24 @@ module _ {places s : List ℕ} (x : Indexed places s) {k a e : ℕ} (l : k < byt
       let n : a + length (part s a e) ≡ e = omega (arith, reading_end, length_part s a e bounded) in
       rw (← cut) (ap tys_of (rw n at (part_part s a e 5 (length (part s a e)) (omega arith))))
 
+  -- what the code cuts out
+  pub reading_types_lem : ReadingTypes s k (part s (a + 5) e)
+  reading_types_lem =
+      let q₁ = piece_at s (reading_place s k) in
+      let f = reading_facts x k l in
+      let cut = part_piece s p q in
+      let bounded : e ≤ length s = rw q (record_end_within s a) in
+      let n : a + length (part s a e) ≡ e = omega (arith, reading_end, length_part s a e bounded) in
+      let same : part q₁ 5 (length q₁) ≡ part s (a + 5) e = rw (← cut)
+      (rw n at (part_part s a e 5 (length (part s a e)) (omega arith))) in
+      record {
+        typed = readings_at s k l ∙ ap some reading_types;
+        few = omega (arith, length_part s (a + 5) e bounded, reading_end, f.few);
+        are_types = rw same at f.types;
+      }
+
 -- a template's head, read where it stands in the agreement
-module _ {places s : List ℕ} {k a : ℕ} (x : Indexed places s × (k < byte s 10)) (p : a ≡ template_place s k) where
+module _ {s : List ℕ} {k a : ℕ} (x : Lists s × (k < byte s 10)) (p : a ≡ template_place s k) where
   abbrev head : List ℕ
   head = piece_at s (template_place s k)
 
@@ -318,6 +343,29 @@ module _ {places s : List ℕ} {k a : ℕ} (x : Indexed places s × (k < byte s 
         h ∙ ap (λ (b : ℕ). le16 s (b + (6 + n))) p
         ∙ sym (le16_part s (template_place s k) (record_end s (template_place s k)) (6 + n) (omega (arith, inside)))
         ∙ ap (λ (i : ℕ). le16 head (6 + i)) m
+
+    -- its value types
+    pub value_types_within : a + 5 + n ≤ length s
+    value_types_within = omega (arith, inside, record_end_within s (template_place s k))
+
+    pub value_types_lem : ValueTypes s k (part s (a + 5) (a + 5 + n))
+    unfolding template_head
+    value_types_lem =
+        let t = template_place s k in
+        let z = record_end s t in
+        let f = template_facts x.0 k x.1 in
+        let count : length (part s (a + 5) (a + 5 + n)) ≡ n =
+        length_part s (a + 5) (a + 5 + n) value_types_within ∙ omega arith in
+        let ends : t + (5 + byte head 4) ≡ a + 5 + n = omega arith in
+        let from : t + 5 ≡ a + 5 = omega arith in
+        let cut : part head 5 (5 + byte head 4) ≡ part s (a + 5) (a + 5 + n) =
+        part_part s t z 5 (5 + byte head 4) (omega (arith, inside)) ∙ rw (ends, from) in
+        record {
+          typed = ap tys_of (sym cut);
+          count = count ∙ m;
+          few = omega (arith, count, f.few);
+          are_types = rw cut at f.types;
+        }
 
 -- ---- where the first clause part begins
 pub first_within : (k : ℕ) (s : List ℕ) → 4 ≤ length s → first_clause k s ≤ length s

@@ -1,4 +1,4 @@
 pub mod Index
-mod Listed
+pub mod Listed
 pub mod Trees
 mod TypedValues

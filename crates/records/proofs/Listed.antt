@@ -1,16 +1,18 @@
--- Laws for the tests of an agreement's lists, and for filling the index.
+-- Laws for the tests of an agreement's lists, and for storing where its records begin.
 use mathlib.Core.Path.{◌≡◌, refl, sym, ap, ◌∙◌}
 use mathlib.Core.Bool.{Bool, true, false, not, ◌&&◌, false≢true}
-use mathlib.Core.List.{List}
-use Prim.Native.Nat.{ℕ, zero, suc, ◌+◌, ◌-◌, ◌≤◌, ◌<◌}
-use native.Mathlib.Nat.{not-suc-le-zero, zero-add}
-use native.Mathlib.Numerals.{add-one, sub-one}
+use mathlib.Core.List.{List, [], ◌∷◌, ◌++◌}
+use Rattle.std.specs.List.{list_all}
+use Prim.Native.Nat.{ℕ, ◌+◌, ◌-◌, ◌≤◌, ◌<◌}
+use native.Mathlib.Nat.{zero-add, add-zero, add_assoc, add_comm}
+use native.Mathlib.Numerals.{add-one}
 use native.Mathlib.Omega.{arith}
-use borrow.Author.Count.{below_more}
-use borrow.Author.Tests.{le-leb, lt-leb, eq-eqb}
+use borrow.Author.Count.{below_none, below_more}
+use borrow.Author.Tests.{le-leb, eq-eqb}
 use lib.Dec.{T, leb, eqb, leb→le, eqb→eq}
-use lib.ListN.{length, get_or, set, drop, length-set, drop_of_length-le}
-use lib.Seq.{drop-cons, get_or-set_same, get_or-set_other}
+use lib.ListN.{length, get_or, set, take, get_or-append}
+use Rattle.std.proofs.lemmas.List.{length-take-le}
+use lib.Seq.{get_or-set_same, get_or-set_other}
 use Rattle.arith.proofs.Lists.{length_part}
 use Rattle.octets.proofs.Bytes.{record_end_within}
 use Rattle.csl.specs.Lists.{all}
@@ -18,8 +20,8 @@ use Rattle.csl.specs.Bytes.{byte, le16, part, is_record, kind_number, record_end
 use Rattle.csl.specs.Decode.{pieces, records_end, templates_place, main_place, reading_pieces, template_pieces, between}
 use Rattle.csl.specs.Decode.{body_place, is_type, reading_type_ok, template_ok, counts_ok, listed, sized}
 use Rattle.laws.proofs.Bools.{told_no, told_yes, refused, both_true, T→true, true→T}
-use Rattle.records.specs.Index.{Indexed, piece_at, record_ok}
-use Rattle.records.proofs.Index.{all_pieces, ReadingHolds, reading_holds, TemplateHolds, template_holds}
+use Rattle.records.specs.Index.{Lists, Indexed, piece_at, Computes, all_pass, SomeFails, Placed}
+use Rattle.records.proofs.Index.{all_pieces, pieces_more, ReadingHolds, reading_holds, TemplateHolds, template_holds}
 
 -- u is what a call answered for x, and the code goes by `!u`
 pub untold : {u x : Bool} → u ≡ x → not u ≡ true → T x → ⊥
@@ -27,14 +29,6 @@ untold {x} e f t = false≢true (sym (told_no e f) ∙ T→true x t)
 
 -- ---- ranges
 module _ (low high n : ℕ) where
-  pub range_on : low ≤ n → leb n high ≡ between low high n
-  unfolding between
-  range_on h = rw (le-leb low n h)
-
-  pub range_off : n < low → leb low n ≡ between low high n
-  unfolding between
-  range_off h = rw (lt-leb low n h)
-
   pub range_holds : T (between low high n) → (low ≤ n) × (n ≤ high)
   unfolding between
   range_holds t = both_true (leb low n) (leb n high) t λ h g. (leb→le low n h, leb→le n high g)
@@ -49,28 +43,11 @@ module _ (s : List ℕ) {u : Bool} (e : u ≡ between 4 16_384 (length s)) where
   unfolding sized
   sized_yes f g = rw (told_yes e f, g)
 
--- ---- types, from i on
-types_step : (ts : List ℕ) (i : ℕ) → i < length ts → all is_type (drop i ts) ≡ is_type (byte ts i)
-    && all is_type (drop (i + 1) ts)
+-- ---- the library's word for `all`
+pub all_is : {A : Type 0} (p : A → Bool) (xs : List A) → list_all p xs ≡ all p xs
 unfolding all
-types_step ts i l = ap (all is_type) (drop-cons ts i 0 l)
-    ∙ ap (λ n. is_type (byte ts i) && all is_type (drop n ts)) (sym (add-one i))
-
-module _ (ts : List ℕ) (i : ℕ) (h : all is_type ts ≡ all is_type (drop i ts)) where
-  module _ {u : Bool} {b : ℕ} (l : i < length ts) (e : b ≡ byte ts i) (g : u ≡ between 1 3 b) where
-    type_is : u ≡ is_type (byte ts i)
-    unfolding is_type
-    type_is = g ∙ ap (between 1 3) e
-
-    pub types_no : not u ≡ true → false ≡ all is_type ts
-    types_no f = sym (h ∙ types_step ts i l ∙ rw (told_no type_is f) refl)
-
-    pub types_more : not u ≡ false → all is_type ts ≡ all is_type (drop (i + 1) ts)
-    types_more f = h ∙ types_step ts i l ∙ rw (told_yes type_is f) refl
-
-  pub types_end : length ts ≤ i → true ≡ all is_type ts
-  unfolding all
-  types_end l = sym (h ∙ ap (all is_type) (drop_of_length-le ts l))
+all_is p [] = refl
+all_is p (x ∷ xs) = ap (λ b. p x && b) (all_is p xs)
 
 -- ---- a reading type and a template: where one test fails, and where all but the last hold
 pub reading_no : (q : List ℕ) → (ReadingHolds q → ⊥) → false ≡ reading_type_ok q
@@ -100,43 +77,61 @@ template_last q a b c d e = rw (
   e,
 )
 
--- ---- n records from a, of which the code tests the first
-module _ (k : ℕ) (s : List ℕ) where
-  abbrev pub AllOk : ℕ → ℕ → Bool
-  AllOk n a = all (λ q. record_ok k q.bytes) (pieces n s a)
+-- ---- n records from a, of which the code tests the first i
+-- what is told of them after i of them
+pub record Tested (answers : List ℕ → Bool → Type 0) (s : List ℕ) (from i : ℕ) (places : List ℕ) (a : ℕ) : Type 0 where
+  pub within : a ≤ length s
+  pub ends : a ≡ records_end i s from
+  pub begin_at : (k : ℕ) → k < i → get_or places k 0 ≡ records_end k s from
+  pub passed : (t : List ℕ → Bool) → Computes answers t → (m : ℕ) → all_pass t (i + m) s from ≡ all_pass t m s a
 
-  records_step : (n a : ℕ) → 0 < n → AllOk n a ≡ record_ok k (piece_at s a) && AllOk (n - 1) (record_end s a)
+pass_step : (t : List ℕ → Bool) (s : List ℕ) (m a : ℕ)
+    → all_pass t (1 + m) s a ≡ t (piece_at s a) && all_pass t m s (record_end s a)
+unfolding all pieces
+pass_step t s m a = rw (add_comm 1 m, add-one m) refl
+
+module _ {answers : List ℕ → Bool → Type 0} {s : List ℕ} {from : ℕ} where
+  pub none_tested : (places : List ℕ) → from ≤ length s → Tested answers s from 0 places from
+  unfolding records_end
+  none_tested places l = record {
+    within = l;
+    ends = refl;
+    begin_at = below_none _;
+    passed = λ t c m. rw (zero-add m);
+  }
+
+  module _ {i a e : ℕ} {places : List ℕ} (h : Tested answers s from i places a) (p : e ≡ record_end s a) where
+    -- the record at a passes, and its place is stored
+    pub one_tested : answers (part s a e) true → i < length places → Tested answers s from (i + 1) (set places i a) e
+    one_tested y l = record {
+      within = omega (arith, p, record_end_within s a);
+      ends = p ∙ ap (record_end s) h.ends ∙ sym (pieces_more i s from);
+      begin_at = below_more (λ k. get_or (set places i a) k 0 ≡ records_end k s from) i
+          (λ k m. get_or-set_other places i k a 0 (λ q. omega arith) ∙ h.begin_at k m)
+          (get_or-set_same places i a 0 l ∙ h.ends);
+      passed = λ t c m.
+          let here : t (piece_at s a) ≡ true = sym (c (part s a e) true y ∙ ap (λ z. t (part s a z)) p) in
+          rw (add_assoc i 1 m) (h.passed t c (1 + m) ∙ pass_step t s m a ∙ rw (here, p));
+    }
+
+    pub one_fails : (n : ℕ) → answers (part s a e) false → i < n → SomeFails answers n s from
+    one_fails n y l = record {
+      fails = λ t c.
+          let here : t (piece_at s a) ≡ false = sym (c (part s a e) false y ∙ ap (λ z. t (part s a z)) p) in
+          let m = n - (i + 1) in
+          let all : n ≡ i + (1 + m) = omega arith in
+          ap (λ k. all_pass t k s from) all ∙ h.passed t c (1 + m) ∙ pass_step t s m a ∙ rw here;
+    }
+
+  pub all_tested : {i a : ℕ} {places : List ℕ} → Tested answers s from i places a → i ≡ length places
+      → Placed answers s from places a
   unfolding all pieces
-  records_step zero a l = absurd (not-suc-le-zero l)
-  records_step (suc n) a l = rw sub-one refl
-
-  pub records_end_lem : (n a : ℕ) → n ≤ 0 → true ≡ AllOk n a
-  unfolding all pieces
-  records_end_lem zero a l = refl
-  records_end_lem (suc n) a l = absurd (not-suc-le-zero l)
-
-  module _ (n a : ℕ) {e : ℕ} {u : Bool} (l : 0 < n) (p : e ≡ record_end s a) (g : u ≡ record_ok k (part s a e)) where
-    record_is : u ≡ record_ok k (piece_at s a)
-    record_is = g ∙ ap (λ z. record_ok k (part s a z)) p
-
-    pub records_no : {w : Bool} → w ≡ AllOk n a → not u ≡ true → false ≡ w
-    records_no h f = sym (h ∙ records_step n a l ∙ rw (told_no record_is f) refl)
-
-    pub records_more : {w : Bool} → w ≡ AllOk n a → not u ≡ false → w ≡ AllOk (n - 1) e
-    records_more h f = h ∙ records_step n a l ∙ rw (told_yes record_is f, p) refl
-
--- ---- cells filled one after another
-module _ (places : List ℕ) (base i a : ℕ) where
-  pub stored_more : (g : ℕ → ℕ) → base + i < length places → a ≡ g i
-      → ((k : ℕ) → k < i → get_or places (base + k) 0 ≡ g k) → (k : ℕ) → k < i + 1
-      → get_or (set places (base + i) a) (base + k) 0 ≡ g k
-  stored_more g l e h = below_more (λ k. get_or (set places (base + i) a) (base + k) 0 ≡ g k) i
-      (λ k m. get_or-set_other places (base + i) (base + k) a 0 (λ q. omega arith) ∙ h k m)
-      (get_or-set_same places (base + i) a 0 l ∙ e)
-
-  pub others_more : (o : List ℕ) → ((k : ℕ) → k < base → get_or places k 0 ≡ get_or o k 0) → (k : ℕ) → k < base
-      → get_or (set places (base + i) a) k 0 ≡ get_or o k 0
-  others_more o h k m = get_or-set_other places (base + i) k a 0 (λ q. omega arith) ∙ h k m
+  all_tested {i} {a} {places} h e = record {
+    passes = λ t c. ap (λ k. all_pass t k s from) (sym e ∙ sym (add-zero i)) ∙ h.passed t c 0;
+    begin_at = λ k l. h.begin_at k (omega arith);
+    ends = h.ends ∙ ap (λ k. records_end k s from) e;
+    within = h.within;
+  }
 
 -- ---- kind and counts
 abbrev pub counted : List ℕ → Bool
@@ -161,9 +156,6 @@ counts_hold s t =
     record { kind = eqb→eq (kind_number s) 1 h₁; parties = h₂; readings = h₃; templates = leb→le (byte s 10) 32 h₄ }
 
 module _ (s : List ℕ) {k : ℕ} (e : k ≡ kind_number s) where
-  pub counted_no_kind : (k ≡ 1 → ⊥) → false ≡ counted s
-  counted_no_kind f = refused (counted s) λ t. f (e ∙ (counts_hold s t).kind)
-
   module _ {u : Bool} {b : ℕ} (p : u ≡ between 1 16 b) (q : b ≡ byte s 8) where
     pub counted_no_parties : not u ≡ true → false ≡ counted s
     counted_no_parties f = refused (counted s) λ t. untold (p ∙ ap (between 1 16) q) f (counts_hold s t).parties
@@ -188,76 +180,84 @@ readings_ok s = all (λ q. reading_type_ok q.bytes) (reading_pieces s)
 abbrev templates_ok : List ℕ → Bool
 templates_ok s = all (λ q. template_ok q.bytes) (template_pieces s)
 
-from_listed : {C : Type 0} (s : List ℕ) → T (listed s) → (T (counted s) → T (readings_ok s) → C) → C
-unfolding listed
-from_listed s t f = both_true (counted s && readings_ok s) (templates_ok s) t λ t₁ h.
-    both_true (counted s) (readings_ok s) t₁ f
+-- what is listed is long: there is room for a first reading type
+pub lists_hold : (s : List ℕ) → listed s ≡ true → Lists s
+unfolding listed reading_pieces records_end
+lists_hold s e =
+    both_true (counted s && readings_ok s) (templates_ok s) (true→T e) λ t₁ h₃.
+    both_true (counted s) (readings_ok s) t₁ λ h₁ h₂.
+    let c = counts_hold s h₁ in
+    let readings = range_holds 1 16 (byte s 9) c.readings in
+    let first = all_pieces (λ q. reading_type_ok q.bytes) (byte s 9) s 11 0 h₂ readings.0 in
+    let cut = length_part s 11 (record_end s 11) (record_end_within s 11) in
+    record {
+      long = omega (arith, (reading_holds (piece_at s 11) first).long, cut, record_end_within s 11);
+      few_parties = (range_holds 1 16 (byte s 8) c.parties).1;
+      few_readings = readings.1;
+      few_templates = c.templates;
+      readings_ok = h₂;
+      templates_ok = h₃;
+    }
 
--- the counts that were tested
-module _ (s : List ℕ) {u : Bool} (e : u ≡ counted s) (f : not u ≡ false) where
-  pub counts_told : Counts s
-  counts_told = counts_hold s (true→T (told_yes e f))
-
-  pub few_readings_lem : byte s 9 ≤ 16
-  few_readings_lem = (range_holds 1 16 (byte s 9) counts_told.readings).1
-
--- a first reading type would begin beyond the end, and have no bytes
-pub listed_short : (s : List ℕ) → length s < 11 → false ≡ listed s
-unfolding reading_pieces records_end
-listed_short s l = refused (listed s) λ t. from_listed s t λ h g.
-    let some = range_holds 1 16 (byte s 9) (counts_hold s h).readings in
-    let ok = all_pieces (λ q. reading_type_ok q.bytes) (byte s 9) s 11 0 g some.0 in
-    let none = length_part s 11 (record_end s 11) (record_end_within s 11) in
-    omega (arith, (reading_holds (piece_at s 11) ok).long, none, record_end_within s 11)
+pub listed_short : (s : List ℕ) → length s < 11 → listed s ≡ false
+listed_short s l = sym (refused (listed s) λ t. omega (arith, (lists_hold s (T→true (listed s) t)).long))
 
 module _ (s : List ℕ) {u : Bool} (e : u ≡ counted s) where
-  pub listed_uncounted : not u ≡ true → false ≡ listed s
-  listed_uncounted f = refused (listed s) λ t. from_listed s t λ h g. untold e f h
+  pub listed_uncounted : u ≡ false → listed s ≡ false
+  unfolding listed
+  listed_uncounted f = rw (sym e ∙ f)
 
-  module _ {v : Bool} {n : ℕ} (p : n ≡ byte s 9) (q : v ≡ AllOk 2 s n 11) where
-    readings_told : v ≡ readings_ok s
-    unfolding record_ok reading_pieces
-    readings_told = q ∙ ap (λ z. AllOk 2 s z 11) p
+  module _ (c : u ≡ true) where
+    counts : Counts s
+    counts = counts_hold s (true→T (sym e ∙ c))
 
-    pub listed_no_reading : not v ≡ true → false ≡ listed s
-    listed_no_reading f = refused (listed s) λ t. from_listed s t λ h g. untold readings_told f g
+    -- n and m are the numbers of reading types and templates, as the code read them; so many of the cells z are taken
+    pub few_readings_lem : {n : ℕ} → n ≡ byte s 9 → n ≤ 16
+    few_readings_lem p = omega (arith, (range_holds 1 16 (byte s 9) counts.readings).1)
 
-    module _ {r : Bool} {m f : ℕ} (y : not u ≡ false) (z : not v ≡ false) (g : m ≡ byte s 10)
-        (h : f ≡ records_end n s 11) (x : r ≡ AllOk 3 s m f) where
-      first_is : f ≡ templates_place s
-      unfolding templates_place
-      first_is = h ∙ ap (λ i. records_end i s 11) p
+    pub few_templates_lem : {m : ℕ} → m ≡ byte s 10 → m ≤ 32
+    few_templates_lem p = omega (arith, counts.templates)
 
-      templates_told : r ≡ templates_ok s
-      unfolding record_ok template_pieces
-      templates_told = x ∙ ap (λ i. AllOk 3 s i f) g ∙ ap (λ i. AllOk 3 s (byte s 10) i) first_is
+    pub readings_room : {n : ℕ} (z : List ℕ) → 16 ≤ length z → n ≡ byte s 9 → length (take n z) ≡ byte s 9
+    readings_room z l p = length-take-le _ z (omega (arith, few_readings_lem p)) ∙ p
 
-      pub listed_last : r ≡ listed s
+    pub templates_room : {m : ℕ} (z : List ℕ) → 32 ≤ length z → m ≡ byte s 10 → length (take m z) ≡ byte s 10
+    templates_room z l p = length-take-le _ z (omega (arith, few_templates_lem p)) ∙ p
+
+    module _ {answers : List ℕ → Bool → Type 0} (y : Computes answers reading_type_ok) where
+      readings_are : {n : ℕ} → n ≡ byte s 9 → all_pass reading_type_ok n s 11 ≡ readings_ok s
+      unfolding reading_pieces
+      readings_are p = rw p
+
+      pub listed_no_reading : {n : ℕ} → n ≡ byte s 9 → SomeFails answers n s 11 → listed s ≡ false
       unfolding listed
-      listed_last = rw (told_yes e y, told_yes readings_told z) templates_told
+      listed_no_reading p f = rw (sym e ∙ c, sym (readings_are p) ∙ f.fails reading_type_ok y)
 
-      -- one and two are the cells after the reading types and after the templates
-      module _ (one two : List ℕ) {w : ℕ} (long : 11 ≤ length s) (room : length two ≡ 49) where
-        pub indexed : ((k : ℕ) → k < n → get_or one (0 + k) 0 ≡ records_end k s 11)
-            → ((k : ℕ) → k < m → get_or two (16 + k) 0 ≡ records_end k s f)
-            → ((k : ℕ) → k < 16 → get_or two k 0 ≡ get_or one k 0) → w ≡ records_end m s f → r ≡ true
-            → Indexed (set two 48 w) s
-        unfolding main_place
-        indexed stored stored₂ kept ends t =
-            let c = counts_told s e y in
-            let few = few_readings_lem s e y in
-            record {
-              room = length-set two 48 w ∙ room;
-              long = long;
-              few_parties = (range_holds 1 16 (byte s 8) c.parties).1;
-              few_readings = few;
-              few_templates = c.templates;
-              readings = λ k l. get_or-set_other two 48 k w 0 (λ q. omega arith) ∙ kept k (omega arith)
-                  ∙ sym (ap (λ i. get_or one i 0) (zero-add k)) ∙ stored k (omega arith);
-              templates = λ k l. get_or-set_other two 48 (16 + k) w 0 (λ q. omega (arith, c.templates))
-                  ∙ stored₂ k (omega arith) ∙ ap (λ i. records_end k s i) first_is;
-              main = get_or-set_same two 48 w 0 (omega arith) ∙ ends ∙ ap (λ i. records_end i s f) g
-                  ∙ ap (λ i. records_end (byte s 10) s i) first_is;
-              readings_ok = true→T (told_yes readings_told z);
-              templates_ok = true→T (sym templates_told ∙ t);
-            }
+      -- the reading types are placed, and the templates begin at `first`
+      module _ {one : List ℕ} {first : ℕ} (p : length one ≡ byte s 9) (h : Placed answers s 11 one first)
+          {asked : List ℕ → Bool → Type 0} (z : Computes asked template_ok) where
+        first_is : first ≡ templates_place s
+        unfolding templates_place
+        first_is = h.ends ∙ ap (λ i. records_end i s 11) p
+
+        listed_is : {m : ℕ} → m ≡ byte s 10 → listed s ≡ all_pass template_ok m s first
+        unfolding listed template_pieces
+        listed_is g = rw (sym e ∙ c, sym (readings_are p) ∙ h.passes reading_type_ok y, g, first_is)
+
+        pub listed_no_template : {m : ℕ} → m ≡ byte s 10 → SomeFails asked m s first → listed s ≡ false
+        listed_no_template g f = listed_is g ∙ f.fails template_ok z
+
+        -- so are the templates, and behind the places come cells that are not used
+        module _ {two : List ℕ} {main : ℕ} (g : length two ≡ byte s 10) (k : Placed asked s first two main) where
+          pub is_listed : listed s ≡ true
+          is_listed = listed_is g ∙ k.passes template_ok z
+
+          pub indexed : (r q : List ℕ) → Indexed (one ++ r) (two ++ q) main s
+          unfolding main_place
+          indexed r q = record {
+            lists = lists_hold s is_listed;
+            readings_at = λ i l. get_or-append one r 0 i (omega arith) ∙ h.begin_at i (omega arith);
+            templates_at = λ i l. get_or-append two q 0 i (omega arith) ∙ k.begin_at i (omega arith)
+                ∙ ap (records_end i s) first_is;
+            main_at = k.ends ∙ ap (λ i. records_end i s first) g ∙ ap (records_end (byte s 10) s) first_is;
+          }

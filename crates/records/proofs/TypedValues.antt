@@ -1,89 +1,59 @@
 -- Laws for numbers as values of their types.
 use mathlib.Core.Path.{◌≡◌, refl, sym, ap, ◌∙◌}
-use mathlib.Core.Bool.{Bool, true, false, not, ◌&&◌, cond}
-use mathlib.Core.List.{List}
-use Prim.Native.Nat.{ℕ, zero, suc, ◌+◌, ◌≤◌, ◌<◌}
-use native.Mathlib.Numerals.{add-one}
+use mathlib.Core.Bool.{Bool, false, ◌&&◌}
+use mathlib.Core.List.{List, [], ◌∷◌}
+use mathlib.Core.Logic.{inl, inr}
+use Prim.Native.Nat.{ℕ, zero, suc, ◌≤◌}
 use native.Mathlib.Omega.{arith}
-use borrow.Author.Tests.{ne_eqb, lt-leb, le-ltb, ltb-true, not-true, not-false}
-use lib.Dec.{T, leb, ltb, eqb}
+use borrow.Author.Tests.{lt-leb, le-ltb, ne_eqb}
+use lib.Dec.{ltb}
 use lib.IntN.{ℤ, pos, negsuc, nat_abs}
-use lib.ListN.{length, get_or, drop}
-use lib.Seq.{drop-cons, drop-length}
-use lib.Signed.{lt_z, non_neg, ◌≤ℤ◌}
+use lib.ListN.{length}
 use mir.Syntax.{w64}
-use mir.Val.{Fits, SFits}
-use Rattle.csl.specs.Numbers.{in_range}
-use Rattle.csl.specs.Bytes.{byte}
+use mir.Val.{SFits}
+use Rattle.std.specs.Int.{FitsUnsignedBits}
+use Rattle.std.specs.List.{list_all, zip}
+use Rattle.std.specs.Prelude.{Result, Ok, Err, MatchResult}
+use Rattle.std.specs.Result.{result_unwrap_or, OkIff}
+use Rattle.kinds.specs.declared.«Type».{«Type»}
+use Rattle.kinds.specs.declared.«Type».TheVariants.{Number, Truth, Party}
+use Rattle.kinds.specs.declared.Unknown.{Unknown}
 use Rattle.csl.specs.Syntax.{truth, party}
 use Rattle.csl.specs.Decode.{ty_of, tys_of}
+use Rattle.kinds.specs.Kinds.{ty_in, NamesType}
 use Rattle.records.specs.TypedValues.{value_ok, values_ok}
-use Rattle.arith.proofs.Ints.{seen, read, index_asked, index_given}
-use Rattle.arith.proofs.Linear.{ints}
 
--- ---- a value of the type with a number
-truth_test : (n : ℕ) → ltb n 2 ≡ leb n 1
-truth_test zero = refl
-truth_test (suc zero) = refl
-truth_test (suc (suc n)) = le-ltb (suc (suc n)) 2 (omega arith) ∙ sym (lt-leb (suc (suc n)) 1 (omega arith))
-
-not_number : (ty : ℕ) → (ty ≡ 1 → ⊥) → ty_of ty ≡ cond (eqb ty 2) truth party
+-- ---- what a number names is the type that csl reads it as, and one that names none reads as a party
+pub type_named : (n : ℕ) (r : Result «Type» Unknown) → NamesType n r → ty_in (result_unwrap_or r Party) ≡ ty_of n
 unfolding ty_of
-not_number ty f = rw (ne_eqb ty 1 f)
+type_named n (Ok Number) e = rw (← e)
+type_named n (Ok Truth) e = rw (← e)
+type_named n (Ok Party) e = rw (← e)
+type_named n (Err u) (inl l) = rw (ne_eqb n 1 (λ q. omega arith), ne_eqb n 2 (λ q. omega arith))
+type_named n (Err u) (inr l) = rw (ne_eqb n 1 (λ q. omega arith), ne_eqb n 2 (λ q. omega arith))
 
--- z is what the code was given, and reads from its bits
-module _ (ps ty : ℕ) (z : ℤ) (f : SFits w64 z) where
-  pub number_ok : {b : Bool} → ty ≡ 1 → b ≡ in_range (seen z) → b ≡ value_ok ps (ty_of ty) z
-  unfolding value_ok ty_of
-  number_ok e h = rw e (h ∙ ap in_range (read f))
+-- ---- the cast r of an i64 fails below 0 only; P says what is told of b where it does not
+pub cast_below : {E : Type 0} {P : ℕ → Type 0} (b : Bool) (end : ℕ) (r : Result ℕ E) (z : ℤ) → SFits w64 z
+    → OkIff r (FitsUnsignedBits 64 z) (nat_abs z) → MatchResult r P (λ _. b ≡ false) → ((n : ℕ) → P n → b ≡ ltb n end)
+    → b ≡ value_ok end party z
+unfolding value_ok
+cast_below b end (Ok n) (pos k) f o m h = h n m ∙ ap (λ i. ltb i end) o.1
+cast_below b end (Ok n) (negsuc k) f o m h = absurd o.0
+cast_below b end (Err e) (pos k) f o m h = absurd (o (omega (arith, f.sfits)))
+cast_below b end (Err e) (negsuc k) f o m h = m
 
-  module _ (n : ty ≡ 1 → ⊥) where
-    pub negative : lt_z (seen z) (pos 0) ≡ true → false ≡ value_ok ps (ty_of ty) z
-    unfolding value_ok
-    negative h = rw (not_number ty n) (below (eqb ty 2) z (rw (read f) at h))
-      where
-        below : (b : Bool) (z : ℤ) → lt_z z (pos 0) ≡ true → false ≡ value_ok ps (cond b truth party) z
-        below b (pos n) h = absurd (omega (arith, ltb-true n 0 h))
-        below true (negsuc n) h = refl
-        below false (negsuc n) h = refl
-
-    module _ (h : lt_z (seen z) (pos 0) ≡ false) where
-      from_nought : pos 0 ≤ℤ z
-      from_nought = omega (ints, rw (read f) at h)
-
-      pub cast_asked : T (non_neg (seen z)) × Fits w64 (nat_abs (seen z))
-      cast_asked = index_asked f from_nought
-
-      pub truth_ok : ty ≡ 2 → ltb (nat_abs (seen z)) 2 ≡ value_ok ps (ty_of ty) z
-      unfolding ty_of value_ok
-      truth_ok e = rw e (truth_test (nat_abs (seen z)) ∙ ap (value_ok ps truth) (index_given f from_nought))
-
-      pub party_ok : (ty ≡ 2 → ⊥) → ltb (nat_abs (seen z)) ps ≡ value_ok ps (ty_of ty) z
-      unfolding value_ok
-      party_ok e = rw (not_number ty n, ne_eqb ty 2 e) (ap (value_ok ps party) (index_given f from_nought))
+-- ---- a truth is one of two numbers
+pub truths : (ps : ℕ) (z : ℤ) → value_ok 2 party z ≡ value_ok ps truth z
+unfolding value_ok
+truths ps (pos zero) = refl
+truths ps (pos (suc zero)) = refl
+truths ps (pos (suc (suc n))) = le-ltb (suc (suc n)) 2 (omega arith) ∙ sym (lt-leb (suc (suc n)) 1 (omega arith))
+truths ps (negsuc n) = refl
 
 -- ---- values of the types, one for each
-module _ (ps : ℕ) (ts : List ℕ) (zs : List ℤ) (room : length ts ≤ length zs) where
-  abbrev From : ℕ → Type 0
-  From i = (i ≤ length ts) × (values_ok ps (tys_of ts) zs ≡ values_ok ps (tys_of (drop i ts)) (drop i zs))
-
-  pub values_first : From 0
-  values_first = (omega arith, refl)
-
-  module _ {i b : ℕ} {z : ℤ} {u : Bool} (l : i < length ts) (p : b ≡ byte ts i) (q : z ≡ get_or zs i (pos 0))
-      (g : u ≡ value_ok ps (ty_of b) z) (h : From i) where
-    one_more : values_ok ps (tys_of ts) zs ≡ (u && values_ok ps (tys_of (drop (i + 1) ts)) (drop (i + 1) zs))
-    unfolding values_ok tys_of
-    one_more =
-        let e = g ∙ ap (λ x. value_ok ps (ty_of x) z) p ∙ ap (value_ok ps (ty_of (byte ts i))) q in
-        h.1 ∙ rw (drop-cons ts i 0 l, drop-cons zs i (pos 0) (omega arith), add-one i, e)
-
-    pub values_more : not u ≡ false → From (i + 1)
-    values_more f = (omega arith, one_more ∙ rw (not-false u f))
-
-    pub values_not : not u ≡ true → false ≡ values_ok ps (tys_of ts) zs
-    values_not f = sym (one_more ∙ rw (not-true u f))
-
-  pub values_last : {i : ℕ} → length ts ≤ i → From i → true ≡ values_ok ps (tys_of ts) zs
-  unfolding values_ok tys_of
-  values_last {i} l h = let e : i ≡ length ts = omega arith in sym (h.1 ∙ rw (e, drop-length ts))
+pub values_zipped : (ps : ℕ) (ts : List ℕ) (zs : List ℤ) → length ts ≤ length zs
+    → list_all (λ p. value_ok ps (ty_of p.0) p.1) (zip ts zs) ≡ values_ok ps (tys_of ts) zs
+unfolding values_ok tys_of
+values_zipped ps [] zs l = refl
+values_zipped ps (t ∷ ts) [] l = absurd (omega arith)
+values_zipped ps (t ∷ ts) (z ∷ zs) l = ap (λ b. value_ok ps (ty_of t) z && b) (values_zipped ps ts zs (omega arith))

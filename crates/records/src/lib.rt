@@ -3,17 +3,21 @@
 
 pub mod values;
 
-ghost use Rattle.std.specs.Prelude.{◌≡◌, true, ◌&&◌, ◌++◌, ℕ, ◌+◌, ◌≤◌, ◌<◌, min, eqb, length, get_or, take};
+ghost use Rattle.std.specs.Prelude.{◌≡◌, true, false, ◌&&◌, ℕ, ◌+◌, ◌≤◌, ◌<◌, min, eqb, length};
+ghost use Rattle.std.specs.Prelude.{MatchOption};
+ghost use Rattle.std.specs.Fn.{FnReturnsAt};
 ghost use Rattle.csl.specs.Lists.{all};
 ghost use Rattle.csl.specs.Bytes as bytes;
-ghost use Rattle.csl.specs.Bytes.{kind_number};
+ghost use Rattle.csl.specs.Bytes.{kind_number, le32};
 ghost use Rattle.csl.specs.Decode as decode;
-ghost use Rattle.csl.specs.Decode.{wait_end, main_place, between, is_type, reading_type_ok, template_ok, pieces};
-ghost use Rattle.csl.specs.Decode.{records_end, counts_ok, listed};
-ghost use Rattle.records.specs.Index.{Indexed, reading_place, template_place, head_at, value_count, declared_bits};
-ghost use Rattle.records.specs.Index.{Spans, first_clause, record_ok};
+ghost use Rattle.csl.specs.Decode.{wait_end, main_place, between, is_type, reading_type_ok, template_ok, counts_ok};
+ghost use Rattle.csl.specs.Decode.{listed};
+ghost use Rattle.records.specs.Index.{Lists, reading_place, template_place, head_at, value_count, declared_bits};
+ghost use Rattle.records.specs.Index.{Spans, ReadingTypes, ValueTypes, body_bytes, main_bytes, first_clause};
+ghost use Rattle.records.specs.Index.{Placed, SomeFails};
 
-use octets::{byte, is_record, kind, record_end, unsigned16};
+use octets::{byte, is_record, kind, record_end, unsigned16, unsigned32};
+use std::marker::Model;
 
 // The byte place of an agreement's start time.
 pub const START_AT: usize = 4;
@@ -42,13 +46,11 @@ pub const BODY_DEPTH: usize = 22;
 // The most values in sight.
 pub const IN_SIGHT: usize = 16;
 
-// The cells of an index that have the place of the first template and of the main clause.
-const FIRST_TEMPLATE: usize = 16;
-
-const MAIN_CLAUSE: usize = 48;
+// Where the first reading type begins.
+const READINGS_FROM: usize = 11;
 
 // Where a template's body begins and ends.
-#[derive(Clone, Copy)]
+#[derive(Clone, Copy, Debug, PartialEq, Eq)]
 pub struct Span {
     pub from: usize,
     pub to: usize,
@@ -85,50 +87,184 @@ pub fn first_clause(s: &[u8], kind: usize) -> usize
     clause_part(&s[0..], kind)
 }
 
-// Where reading type k + 1, template k and the main clause begin.
-pub fn reading_place(agreement: &[u8], places: &[usize], k: usize) -> usize
-    requires { Indexed places.now agreement.now × (k < bytes.byte agreement.now 9) }
-    ensures { (result ≡ reading_place agreement.now k) × (result ≤ length agreement.now) }
-{
-    places[k]
+// An agreement whose counts, reading types and templates' heads are as listed, with the places where its reading types,
+// its templates and its main clause begin. Clauses see its bytes.
+#[derive(Drop)]
+pub struct Agreement<'a> {
+    bytes: &'a [u8],
+    readings: [usize; MOST_READINGS],
+    templates: [usize; MOST_TEMPLATES],
+    main: usize,
 }
 
-pub fn template_place(agreement: &[u8], places: &[usize], k: usize) -> usize
-    requires { Indexed places.now agreement.now × (k < bytes.byte agreement.now 10) }
-    ensures { (result ≡ template_place agreement.now k) × (result ≤ length agreement.now) }
-{
-    places[FIRST_TEMPLATE + k]
+impl<'a> Model for Agreement<'a> {
+    ghost use Rattle.std.specs.Prelude.{List, ℕ};
+
+    ghost Value = { List ℕ };
+
+    ghost use Rattle.records.specs.Index.{Indexed};
+
+    ghost view = { λ a. a.bytes.now };
+
+    ghost invariant = { λ a. Indexed a.readings a.templates a.main a.bytes.now };
 }
 
-pub fn main_place(agreement: &[u8], places: &[usize]) -> usize
-    requires { Indexed places.now agreement.now }
-    ensures { (result ≡ main_place agreement.now) × (result ≤ length agreement.now) }
-{
-    places[MAIN_CLAUSE]
-}
+impl<'a> Agreement<'a> {
+    // None where the kind, the counts, a reading type or a template's head is not as listed.
+    pub fn read(bytes: &'a [u8]) -> Option<Agreement<'a>>
+        ensures { MatchOption result (listed bytes.now ≡ false) (λ a. (a ≡ bytes.now) × (listed bytes.now ≡ true) × Lists bytes.now) }
+    {
+        // with fewer bytes there is no place for a reading type
+        if bytes.len() < READINGS_FROM {
+            return None;
+        }
+        if !counts_ok(bytes) {
+            return None;
+        }
+        let mut readings = [0; MOST_READINGS];
+        let mut templates = [0; MOST_TEMPLATES];
+        let n = byte(bytes, READINGS_AT);
+        let m = byte(bytes, TEMPLATES_AT);
+        let first = place_records(bytes, &mut readings[..n], READINGS_FROM, reading_ok)?;
+        let main = place_records(bytes, &mut templates[..m], first, template_ok)?;
+        Some(Agreement {
+            bytes,
+            readings,
+            templates,
+            main,
+        })
+    }
 
-// The head of template k: how many values and party parameters it has, and its declared parties by bit.
-pub fn value_count(agreement: &[u8], places: &[usize], k: usize) -> usize
-    requires { Indexed places.now agreement.now × (k < bytes.byte agreement.now 10) }
-    ensures { (result ≡ value_count agreement.now k) × (result ≡ length (head_at agreement.now k).values) × (result ≤ 8) }
-{
-    byte(agreement, template_place(agreement, places, k) + 4)
-}
+    pub fn bytes(&self) -> &'a [u8]
+        ensures { (result.now ≡ self.now) × Lists self.now }
+    {
+        self.bytes
+    }
 
-pub fn param_count(agreement: &[u8], places: &[usize], k: usize) -> usize
-    requires { Indexed places.now agreement.now × (k < bytes.byte agreement.now 10) }
-    ensures { (result ≡ (head_at agreement.now k).params) × (result ≤ 4) }
-{
-    let n = value_count(agreement, places, k);
-    byte(agreement, template_place(agreement, places, k) + (5 + n))
-}
+    pub fn start(&self) -> usize
+        ensures { (result ≡ le32 self.now 4) × (result < 4_294_967_296) × Lists self.now }
+    {
+        unsigned32(self.bytes, START_AT)
+    }
 
-pub fn declared_bits(agreement: &[u8], places: &[usize], k: usize) -> usize
-    requires { Indexed places.now agreement.now × (k < bytes.byte agreement.now 10) }
-    ensures { (result ≡ declared_bits agreement.now k) × (result < 65_536) }
-{
-    let n = value_count(agreement, places, k);
-    unsigned16(agreement, template_place(agreement, places, k) + (6 + n))
+    pub fn parties(&self) -> usize
+        ensures { (result ≡ bytes.byte self.now 8) × (result ≤ 16) × Lists self.now }
+    {
+        byte(self.bytes, PARTIES_AT)
+    }
+
+    pub fn reading_count(&self) -> usize
+        ensures { (result ≡ bytes.byte self.now 9) × (result ≤ 16) × Lists self.now }
+    {
+        byte(self.bytes, READINGS_AT)
+    }
+
+    pub fn template_count(&self) -> usize
+        ensures { (result ≡ bytes.byte self.now 10) × (result ≤ 32) × Lists self.now }
+    {
+        byte(self.bytes, TEMPLATES_AT)
+    }
+
+    // Where reading type k + 1, template k and the main clause begin.
+    pub fn reading_place(&self, k: usize) -> usize
+        requires { k < bytes.byte self.now 9 }
+        ensures { (result ≡ reading_place self.now k) × (result ≤ length self.now) × Lists self.now }
+    {
+        let places = &self.readings;
+        places[k]
+    }
+
+    pub fn template_place(&self, k: usize) -> usize
+        requires { k < bytes.byte self.now 10 }
+        ensures { (result ≡ template_place self.now k) × (result ≤ length self.now) × Lists self.now }
+    {
+        let places = &self.templates;
+        places[k]
+    }
+
+    pub fn main_place(&self) -> usize
+        ensures { (result ≡ main_place self.now) × (result ≤ length self.now) × Lists self.now }
+    {
+        self.main
+    }
+
+    // The types of the values of reading type k + 1.
+    pub fn reading_types(&self, k: usize) -> &'a [u8]
+        requires { k < bytes.byte self.now 9 }
+        ensures { ReadingTypes self.now k result.now × Lists self.now }
+    {
+        let bytes = self.bytes;
+        let a = self.reading_place(k);
+        let e = record_end(bytes, a);
+        &bytes[a + 5..e]
+    }
+
+    // The head of template k: how many values and party parameters it has, and its declared parties by bit.
+    pub fn value_count(&self, k: usize) -> usize
+        requires { k < bytes.byte self.now 10 }
+        ensures { (result ≡ value_count self.now k) × (result ≡ length (head_at self.now k).values) × (result ≤ 8) × Lists self.now }
+    {
+        byte(self.bytes, self.template_place(k) + 4)
+    }
+
+    pub fn value_types(&self, k: usize) -> &'a [u8]
+        requires { k < bytes.byte self.now 10 }
+        ensures { ValueTypes self.now k result.now × Lists self.now }
+    {
+        let bytes = self.bytes;
+        let a = self.template_place(k) + 5;
+        let n = self.value_count(k);
+        &bytes[a..a + n]
+    }
+
+    pub fn param_count(&self, k: usize) -> usize
+        requires { k < bytes.byte self.now 10 }
+        ensures { (result ≡ (head_at self.now k).params) × (result ≤ 4) × Lists self.now }
+    {
+        let n = self.value_count(k);
+        byte(self.bytes, self.template_place(k) + (5 + n))
+    }
+
+    pub fn declared_bits(&self, k: usize) -> usize
+        requires { k < bytes.byte self.now 10 }
+        ensures { (result ≡ declared_bits self.now k) × (result < 65_536) × Lists self.now }
+    {
+        let n = self.value_count(k);
+        unsigned16(self.bytes, self.template_place(k) + (6 + n))
+    }
+
+    // Where the body of template k stands.
+    pub fn body_span(&self, k: usize) -> Span
+        requires { k < bytes.byte self.now 10 }
+        ensures { Spans self.now k result.from result.to × Lists self.now }
+    {
+        let a = self.template_place(k);
+        let n = self.value_count(k);
+        let e = record_end(self.bytes, a);
+        Span {
+            from: a + head_size(n),
+            to: e,
+        }
+    }
+
+    pub fn body(&self, k: usize) -> &'a [u8]
+        requires { k < bytes.byte self.now 10 }
+        ensures { (result.now ≡ body_bytes self.now k) × Lists self.now }
+    {
+        let bytes = self.bytes;
+        let body = self.body_span(k);
+        let from = body.from;
+        let to = body.to;
+        &bytes[from..to]
+    }
+
+    pub fn main(&self) -> &'a [u8]
+        ensures { (result.now ≡ main_bytes self.now) × Lists self.now }
+    {
+        let bytes = self.bytes;
+        let main = self.main_place();
+        &bytes[main..]
+    }
 }
 
 // A template's head has so many bytes, with n values; its body stands behind it.
@@ -139,37 +275,10 @@ fn head_size(n: usize) -> usize
     8 + n
 }
 
-// Where the body of template k stands.
-pub fn body_span(agreement: &[u8], places: &[usize], k: usize) -> Span
-    requires { Indexed places.now agreement.now × (k < bytes.byte agreement.now 10) }
-    ensures { Spans agreement.now k result.from result.to }
-{
-    let a = template_place(agreement, places, k);
-    let n = value_count(agreement, places, k);
-    let e = record_end(agreement, a);
-    Span {
-        from: a + head_size(n),
-        to: e,
-    }
-}
-
-// The first n of out stay, and `from` stands behind them.
-pub fn append(out: &mut [u8], n: usize, from: &[u8])
-    requires { n + length from.now ≤ length out.old }
-    ensures { take (n + length from.now) out.new ≡ take n out.old ++ from.now }
-{
-    let mut i = 0;
-    while i < from.len() {
-        let x = from[i];
-        out[n + i] = x;
-        i += 1;
-    }
-}
-
 fn between(low: usize, high: usize, n: usize) -> bool
     ensures { result ≡ between low high n }
 {
-    low <= n && n <= high
+    (low..=high).contains(&n)
 }
 
 // The bytes are one record, of at most 16,384 bytes: what refusal 1 asks.
@@ -185,14 +294,7 @@ pub fn sized(agreement: &[u8]) -> bool
 fn types_ok(types: &[u8]) -> bool
     ensures { result ≡ all is_type types.now }
 {
-    let mut i = 0;
-    while i < types.len() {
-        if !between(1, 3, byte(types, i)) {
-            return false;
-        }
-        i += 1;
-    }
-    true
+    types.iter().all(|&t| 1 <= t && t <= 3)
 }
 
 fn reading_ok(piece: &[u8]) -> bool
@@ -236,57 +338,30 @@ fn template_ok(piece: &[u8]) -> bool
     byte(piece, 5 + n) <= 4
 }
 
-// Kind 2 is a reading type, kind 3 a template.
-fn record_ok(piece: &[u8], kind: usize) -> bool
-    ensures { result ≡ record_ok kind piece.now }
-{
-    if kind == 2 {
-        reading_ok(piece)
-    } else {
-        template_ok(piece)
-    }
-}
-
-// Each of the n records that begin at `from` is one of its kind, its head as listed.
-fn records_ok(agreement: &[u8], from: usize, n: usize, kind: usize) -> bool
-    requires { from ≤ length agreement.now }
-    ensures { result ≡ all (λ q. record_ok kind q.bytes) (pieces n agreement.now from) }
-{
-    let mut a = from;
-    let mut left = n;
-    while left > 0 {
-        let e = record_end(agreement, a);
-        if !record_ok(&agreement[a..e], kind) {
-            return false;
-        }
-        a = e;
-        left -= 1;
-    }
-    true
-}
-
-// Stores where each of the n records from `from` begins, in the cells from `base`, and gives where the last one ends.
-fn place_records(
-    agreement: &[u8],
+// Stores where each of the records that begin at `from` begins, one for each place, and gives where the last one ends.
+// None where one of them fails the test.
+fn place_records<F: Fn(&[u8]) -> bool>(
+    bytes: &[u8],
     places: &mut [usize],
-    base: usize,
     from: usize,
-    n: usize,
-) -> usize
-    requires { (from ≤ length agreement.now) × (base + n ≤ length places.old) }
-    ensures end { (result ≡ records_end n agreement.now from) × (result ≤ length agreement.now) }
+    test: F,
+) -> Option<usize>
+    requires always { F.IsAlwaysCallable test }
+    requires begins { from ≤ length bytes.now }
     ensures room { length places.new ≡ length places.old }
-    ensures stored { (k : ℕ) → k < n → get_or places.new (base + k) 0 ≡ records_end k agreement.now from }
-    ensures others { (k : ℕ) → k < base → get_or places.new k 0 ≡ get_or places.old k 0 }
+    ensures answer { MatchOption result (SomeFails (FnReturnsAt F.Fn test) (length places.old) bytes.now from)
+        (Placed (FnReturnsAt F.Fn test) bytes.now from places.new) }
 {
     let mut a = from;
-    let mut i = 0;
-    while i < n {
-        places[base + i] = a;
-        a = record_end(agreement, a);
-        i += 1;
+    for place in places.iter_mut() {
+        let e = record_end(bytes, a);
+        if !test(&bytes[a..e]) {
+            return None;
+        }
+        *place = a;
+        a = e;
     }
-    a
+    Some(a)
 }
 
 // The kind and the three counts are as listed.
@@ -303,29 +378,4 @@ fn counts_ok(agreement: &[u8]) -> bool
         return false;
     }
     byte(agreement, TEMPLATES_AT) <= MOST_TEMPLATES
-}
-
-// Whether kind, counts, reading types and templates' heads are as listed; where they are, `places` is the index.
-pub fn fill_index(agreement: &[u8], places: &mut [usize]) -> bool
-    requires { length places.old ≡ 49 }
-    ensures answer { result ≡ listed agreement.now }
-    ensures room { length places.new ≡ 49 }
-    ensures indexed { result ≡ true → Indexed places.new agreement.now }
-{
-    // with fewer bytes there is no place for a reading type
-    if agreement.len() < 11 {
-        return false;
-    }
-    if !counts_ok(agreement) {
-        return false;
-    }
-    let readings = byte(agreement, READINGS_AT);
-    let templates = byte(agreement, TEMPLATES_AT);
-    if !records_ok(agreement, 11, readings, 2) {
-        return false;
-    }
-    let first = place_records(agreement, places, 0, 11, readings);
-    let main = place_records(agreement, places, FIRST_TEMPLATE, first, templates);
-    places[MAIN_CLAUSE] = main;
-    records_ok(agreement, first, templates, 3)
 }

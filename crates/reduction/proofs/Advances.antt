@@ -11,6 +11,7 @@ use mir.ValLaws.{to_z_pos}
 use lib.IntN.{ℤ, pos}
 use lib.ListN.{length, take, drop, length-drop}
 use lib.Seq.{take_all}
+use Rattle.std.specs.Prelude.{Ok, Err}
 use Rattle.cells.specs.Reduce as cells
 use Rattle.cells.specs.Across.{nat_of}
 use Rattle.bridge.proofs.Tables.{units_in}
@@ -21,20 +22,18 @@ use Rattle.residues.specs.Tallies.{Reckons}
 use Rattle.waits.specs.Fates.{mode_at}
 use Rattle.walk.specs.Tree.{Tree, tree_reckoned}
 use Rattle.settling.specs.Settles.{Settles}
-use Rattle.waits.specs.declared.Event.{Event}
-use Rattle.waits.specs.declared.Step.{Step}
-use Rattle.waits.specs.declared.Step.TheVariants.{Activate, Forecast, Follow}
 use Rattle.residues.specs.declared.Reduced.{Reduced}
 use Rattle.residues.specs.declared.Reckoned.{Reckoned}
 use Rattle.residues.specs.declared.Reduced.TheVariants.{Done, Breach, Running}
 use Rattle.residues.proofs.Few.{reduce_few, outcome_few, answer_few}
 use Rattle.walk.proofs.Trees.{tree_only}
-use Rattle.reduction.specs.Steps.{main_reckoned, UnitsDue, DueBy, Due, reckoned_by, reckoned, reduced, counted_cost}
-use Rattle.reduction.specs.Steps.{Advances, NoRoom, Tried}
-use Rattle.reduction.specs.declared.Advanced.{Advanced}
-use Rattle.reduction.specs.declared.Advanced.TheVariants.{TooMany, Wrote}
-use Rattle.reduction.specs.declared.Attempt.{Attempt}
-use Rattle.reduction.specs.declared.Attempt.TheVariants.{Short, Wrote as Settled}
+use Rattle.waits.specs.declared.Event.{Event}
+use Rattle.waits.specs.declared.Event.TheVariants.{Activate, Forecast, Follow}
+use Rattle.reduction.specs.Steps.{main_reckoned, UnitsDue, DueBy, Due, reckoned_by, reckoned, reduced}
+use Rattle.reduction.specs.Steps.{counted_cost, Advances, NoRoom}
+use Rattle.reduction.specs.declared.Short.{Short}
+use Rattle.reduction.specs.declared.Wrote.{Wrote}
+use Rattle.reduction.specs.declared.TooMany.{TooMany}
 
 -- a time's cell
 pub time_cell : {t : ℕ} → t < 4_294_967_296 → (to_z w64 t ≡ pos (nat_of (to_z w64 t))) × (nat_of (to_z w64 t) ≡ t)
@@ -77,102 +76,86 @@ module _ (r : Reduced) (out : List ℤ) (x : cells.Reduced) (i : Is x r out) (no
   ) refl
 
 -- ---- what an event makes of the main clause or of units
--- the code's test: the step is not that of the start
-abbrev OnUnits : Step → Type 0
-OnUnits k = k ≡ Activate → ⊥
+-- the code's test: the event is not the start
+abbrev OnUnits : Event → Type 0
+OnUnits e = e ≡ Activate → ⊥
 
-by_units : (k : Step) (main units : cells.Reckoned) → OnUnits k → reckoned_by k main units ≡ units
+by_units : (e : Event) (main units : cells.Reckoned) → OnUnits e → reckoned_by e main units ≡ units
 by_units Activate main units f = absurd (f refl)
 by_units Forecast main units f = refl
-by_units Follow main units f = refl
+by_units (Follow r) main units f = refl
 
-due_by : (k : Step) (U : Type 0) → OnUnits k → DueBy k U → U
+due_by : (e : Event) (U : Type 0) → OnUnits e → DueBy e U → U
 due_by Activate U f d = absurd (f refl)
 due_by Forecast U f d = d
-due_by Follow U f d = d
+due_by (Follow r) U f d = d
 
-module _ {s places sights : List ℕ} {us : List ℤ} {n : ℕ} {e : Event} {rs : List ℤ}
-    (d : Due s places sights us n e rs) where
-  pub units_due : OnUnits e.step → Tree (length s) sights (take (length us - 8) (drop 8 us)) n
-  units_due f = let u = due_by e.step (UnitsDue s sights us n e rs) f d.units in rw (behind_head us) u.tree
+module _ {s sights : List ℕ} {us : List ℤ} {n time : ℕ} {e : Event} (d : Due s sights us n time e) where
+  pub units_due : OnUnits e → Tree (length s) sights (take (length us - 8) (drop 8 us)) n
+  units_due f = let u = due_by e (UnitsDue s sights us n e) f d.units in rw (behind_head us) u.tree
 
   module _ (x : Reckoned) (out : List ℤ) where
-    pub reckoned_main : e.step ≡ Activate → Reckons (main_reckoned s) x out
-        → Reckons (reckoned s sights us n e rs) x out
+    pub reckoned_main : e ≡ Activate → Reckons (main_reckoned s) x out → Reckons (reckoned s sights us n e) x out
     unfolding reckoned
     reckoned_main f i = subst (λ k. Reckons (reckoned_by k (main_reckoned s)
-        (tree_reckoned (mode_at e rs) s n sights (drop 8 us))) x out) (sym f) i
+        (tree_reckoned (mode_at e) s n sights (drop 8 us))) x out) (sym f) i
 
-    pub reckoned_units : OnUnits e.step
-        → Reckons (tree_reckoned (mode_at e rs) s n sights (take (length us - 8) (drop 8 us))) x out
-        → Reckons (reckoned s sights us n e rs) x out
+    pub reckoned_units : OnUnits e
+        → Reckons (tree_reckoned (mode_at e) s n sights (take (length us - 8) (drop 8 us))) x out
+        → Reckons (reckoned s sights us n e) x out
     unfolding reckoned
     reckoned_units f i = subst (λ y. Reckons y x out)
-        (ap (tree_reckoned (mode_at e rs) s n sights) (behind_head us) ∙ sym (by_units e.step (main_reckoned s) _ f)) i
+        (ap (tree_reckoned (mode_at e) s n sights) (behind_head us) ∙ sym (by_units e (main_reckoned s) _ f)) i
 
   module _ (r : Reduced) (out : List ℤ) where
     main_few : Is (main_reckoned s).outcome r out → bits_in r < 65_536
     unfolding main_reckoned
     main_few i = answer_few (main_reckoned s).outcome r out (reduce_few cells.activating _ _ _ _ _) i
 
-    units_few : UnitsDue s sights us n e rs → Is (tree_reckoned (mode_at e rs) s n sights (drop 8 us)).outcome r out
+    units_few : UnitsDue s sights us n e → Is (tree_reckoned (mode_at e) s n sights (drop 8 us)).outcome r out
         → bits_in r < 65_536
-    units_few u i = answer_few u.given.outcome r out (outcome_few (mode_at e rs) s n sights (drop 8 us) u.one)
+    units_few u i = answer_few u.given.outcome r out (outcome_few (mode_at e) s n sights (drop 8 us) u.one)
         (subst (λ x. Is x.outcome r out) (tree_only u.one) i)
 
-    bits_few : (k : Step) → DueBy k (UnitsDue s sights us n e rs)
-        → Is (reckoned_by k (main_reckoned s) (tree_reckoned (mode_at e rs) s n sights (drop 8 us))).outcome r out
+    bits_few : (k : Event) → DueBy k (UnitsDue s sights us n e)
+        → Is (reckoned_by k (main_reckoned s) (tree_reckoned (mode_at e) s n sights (drop 8 us))).outcome r out
         → bits_in r < 65_536
     bits_few Activate u i = main_few i
     bits_few Forecast u i = units_few u i
-    bits_few Follow u i = units_few u i
+    bits_few (Follow f) u i = units_few u i
 
-    module _ (i : Is (reduced s sights us n e rs) r out) where
+    module _ (i : Is (reduced s sights us n e) r out) where
       -- what `settle` asks of the answer
       pub reduced_few : bits_in r < 65_536
       unfolding reckoned
-      reduced_few = bits_few e.step d.units i
+      reduced_few = bits_few e d.units i
 
-      pub tried_none : {room : List ℤ} {u c : ℕ} → c ≡ counted_cost s sights us n e rs → length room ≡ length out
-          → u ≡ units_of r → length out < 24 * u → NoRoom s sights us n e rs room us u c
-      tried_none ec same eu h = record {
-        count = eu ∙ units_counted out (reduced s sights us n e rs) r i;
+      pub tried_none : {room : ℕ} {short : Short} → short.cost ≡ counted_cost s sights us n e
+          → short.units ≡ units_of r → room < 24 * short.units → NoRoom s sights us n e room us short
+      tried_none ec eu h = record {
+        count = eu ∙ units_counted out (reduced s sights us n e) r i;
         costs = ec;
-        short = omega arith;
+        less = h;
         kept = refl;
       }
 
-      pub tried_room : {t c : ℕ} {left : List ℤ} {q : Bool} → c ≡ counted_cost s sights us n e rs → units_of r ≤ 128
-          → t ≡ e.time → Settles t n r out us left q → Advances s sights us n e rs left (Wrote q c)
+      pub tried_room : {t : ℕ} {left : List ℤ} {wrote : Wrote} → wrote.cost ≡ counted_cost s sights us n e
+          → units_of r ≤ 128 → t ≡ time → Settles t n r out us left wrote.altered
+          → Advances s sights us n time e left (Ok wrote)
       tried_room {left = left} ec few et settles = record {
         costs = ec;
-        is = subst (λ t. answer 0 left ≡ kept_cells t n us (reduced s sights us n e rs)) et
-            (kept_few r out (reduced s sights us n e rs) i _ n us settles few);
-        told = settles.told (reduced s sights us n e rs) i;
+        is = subst (λ t. answer 0 left ≡ kept_cells t n us (reduced s sights us n e)) et
+            (kept_few r out (reduced s sights us n e) i _ n us settles few);
+        told = settles.told (reduced s sights us n e) i;
       }
 
--- ---- by what a try said
-module _ (s sights : List ℕ) (us : List ℤ) (n : ℕ) (e : Event) (rs room left : List ℤ) (a : Attempt)
-    (t : Tried s sights us n e rs room left a) where
-  pub is_short : {u c : ℕ} → a ≡ Short u c → NoRoom s sights us n e rs room left u c
-  is_short q = rw q at t
-
-  pub is_settled : {b : Bool} {c : ℕ} → a ≡ Settled b c → Advances s sights us n e rs left (Wrote b c)
-  is_settled q = rw q at t
-
--- ---- one room after another
-module _ {s sights : List ℕ} {us : List ℤ} {n : ℕ} {e : Event} {rs room left : List ℤ} {u c : ℕ}
-    (t : NoRoom s sights us n e rs room left u c) where
-  pub tried_over : 128 < u → Advances s sights us n e rs left (TooMany c)
-  tried_over h = record {
-    costs = t.costs;
-    is = ap (answer 11) t.kept ∙ kept_over (reduced s sights us n e rs) e.time n us t.count h;
+-- ---- a try that needs more units than a table has
+module _ {s sights : List ℕ} {us : List ℤ} {n : ℕ} {e : Event} {room : ℕ} {left : List ℤ} {short : Short}
+    (t : NoRoom s sights us n e room left short) where
+  pub tried_over : (time : ℕ) → 128 < short.units → {many : TooMany} → many.cost ≡ short.cost
+      → Advances s sights us n time e left (Err many)
+  tried_over time h ec = record {
+    costs = ec ∙ t.costs;
+    is = ap (answer 11) t.kept ∙ kept_over (reduced s sights us n e) time n us t.count h;
     told = tt;
   }
-
-  pub due_again : {places : List ℕ} → Due s places sights us n e rs → Due s places sights left n e rs
-  due_again {places = places} d = subst (λ a. Due s places sights a n e rs) (sym t.kept) d
-
-  pub advances_again : {last : List ℤ} {r : Advanced} → Advances s sights left n e rs last r
-      → Advances s sights us n e rs last r
-  advances_again {last = last} {r = r} a = subst (λ a. Advances s sights a n e rs last r) t.kept a

@@ -10,11 +10,8 @@ use borrow.Fn.Kinds.{Dens, ended_of}
 use denote.Triple.Clauses.{AtExit}
 use Rattle.csl.specs.Check.{check_of}
 use Rattle.csl.specs.Entries.{forecast_of, reading_of, start_of}
-use Rattle.monitor.specs.declared.Checked.{Checked}
-use Rattle.monitor.specs.declared.Started.{Started}
-use Rattle.monitor.specs.declared.Taken.{Taken}
-use Rattle.monitor.specs.declared.Foretold.{Foretold}
-use Rattle.monitor.specs.Answers.{check_answer, forecast_answer, start_answer, taken_answer}
+use Rattle.monitor.specs.Answers.{Checked, Foretold, Started, Taken, check_answer, forecast_answer, start_answer}
+use Rattle.monitor.specs.Answers.{taken_answer}
 use Rattle.givuntha.specs.Numbers.{forecast_numbers}
 use Rattle.givuntha.proofs.Apart.{apart}
 use Rattle.monitor.proofs.Calls.{forecast_call, reading_call, start_call}

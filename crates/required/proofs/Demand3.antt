@@ -7,6 +7,7 @@ use Prim.Native.Nat.{ℕ, ◌*◌, ◌≤◌, ◌<◌}
 use lib.Dec.{T}
 use lib.IntN.{ℤ, pos}
 use lib.ListN.{length, drop}
+use Rattle.std.specs.Prelude.{Ok}
 use Rattle.csl.specs.Lists.{at}
 use Rattle.csl.specs.Parties.{subset}
 use Rattle.csl.specs.Syntax.{Agreement}
@@ -19,9 +20,7 @@ use Rattle.csl.specs.Entries.{start_of}
 use Rattle.csl.specs.Demand3.{Bytes, AllBytes, fitting, reached, needed, NotStuck, IsBreach, Unaltered, run_after}
 use Rattle.csl.specs.Demand3.{costs_by, marks_by, numbers_by}
 use Rattle.csl.specs.Marks.{time_in}
-use Rattle.monitor.specs.declared.Started.{Started}
-use Rattle.monitor.specs.declared.Started.TheVariants.{Begun}
-use Rattle.monitor.specs.Answers.{start_answer}
+use Rattle.monitor.specs.Answers.{Started, start_answer}
 use Rattle.monitor.specs.Calls.{Call, Calls, last_table, readings_in, number_in, numbers_in, early_in, marks_in}
 use Rattle.monitor.specs.Calls.{cost_in, costs_in}
 use Rattle.monitor.specs.Early.{TooEarly}
@@ -57,7 +56,7 @@ module _ (s : List ℕ) (lent : List ℤ) (a : Agreement) (mains : List ℕ) (r 
   unfolding run_by
   never_stuck = claim.never_stuck
 
-  starts : r ≡ Begun
+  starts : r ≡ Ok tt
   starts = claim.begun
 
   answers : numbers_in calls ≡ numbers_by a (started a).run (readings_in calls)
@@ -137,7 +136,7 @@ module _ (s : List ℕ) (lent : List ℤ) (a : Agreement) (mains : List ℕ) (r 
   begins_unbreached : IsBreach (started a).run.outcome → ⊥
   begins_unbreached = claim.unbreached
 
-begun_was_started : (s : List ℕ) (lent us : List ℤ) → start_answer Begun us ≡ start_of s lent
+begun_was_started : (s : List ℕ) (lent us : List ℤ) → start_answer (Ok tt) us ≡ start_of s lent
     → (a : Agreement) × (mains : List ℕ) × (checked s ≡ accepted a mains) × (length lent ≡ 3080)
     × ((started a).number ≡ 0)
 unfolding Begins

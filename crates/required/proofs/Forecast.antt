@@ -15,8 +15,7 @@ use Rattle.csl.specs.Table.{Run, run_of}
 use Rattle.csl.specs.Entries.{no_breach, breach_at, forecast_of}
 use Rattle.csl.specs.Demand3.{AllBytes}
 use Rattle.csl.specs.Marks.{AllTimes, Breached, ForecastFits, breach_table, time_in}
-use Rattle.monitor.specs.declared.Foretold.{Foretold}
-use Rattle.monitor.specs.Answers.{forecast_answer}
+use Rattle.monitor.specs.Answers.{Foretold, forecast_answer}
 use Rattle.monitor.specs.Calls.{Call, Calls, last_table, readings_in}
 use Rattle.monitor.specs.Forecasts.{AcceptedMarks, ForecastClaim, Foretells}
 use Rattle.monitor.proofs.Forecasts.{forecasts}

@@ -8,11 +8,8 @@ use lib.ListN.{get_or, set}
 use Rattle.csl.specs.Bytes.{le32}
 use Rattle.csl.specs.Check.{CheckAnswer, check_of}
 use Rattle.csl.specs.Entries.{Answer, ReadingAnswer, Forecast, forecast_of, reading_of, refused_forecast, start_of}
-use Rattle.monitor.specs.declared.Checked.{Checked}
-use Rattle.monitor.specs.declared.Started.{Started}
-use Rattle.monitor.specs.declared.Taken.{Taken}
-use Rattle.monitor.specs.declared.Foretold.{Foretold}
-use Rattle.monitor.specs.Answers.{check_answer, forecast_answer, start_answer, taken_answer}
+use Rattle.monitor.specs.Answers.{Checked, Foretold, Started, Taken, check_answer, forecast_answer, start_answer}
+use Rattle.monitor.specs.Answers.{taken_answer}
 use Rattle.monitor.proofs.Apart.{checked_by, started_by, taken_by, foretold_by, check_told, start_told, reading_told}
 use Rattle.monitor.proofs.Apart.{forecast_told}
 use Rattle.monitor.proofs.WrongMonitors.{refuses_all_lem, eleven_at_once, invented_units}

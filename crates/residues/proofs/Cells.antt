@@ -1,16 +1,15 @@
 -- Cells that are copied and filled, and the cells of a unit.
 use mathlib.Core.Path.{◌≡◌, sym, ap, ap₂, ◌∙◌}
 use mathlib.Core.List.{List, [], ◌∷◌, ◌++◌, append-nil, append_assoc}
-use Prim.Native.Nat.{ℕ, suc, ◌+◌, ◌-◌, ◌≤◌, ◌<◌}
-use native.Mathlib.Numerals.{add-one}
+use Prim.Native.Nat.{ℕ, ◌+◌, ◌-◌, ◌≤◌}
 use native.Mathlib.Omega.{arith}
-use native.Mathlib.Decide.{dec_lt}
 use lib.IntN.{ℤ, pos}
-use lib.ListN.{length, get_or, take, drop, set, replicate, length-drop, length-append, length-take, get_or-replicate}
-use lib.ListN.{get_or-append, get_or-eq_default, length-set, drop_of_length-le}
-use lib.Seq.{set_at, take-suc, drop-cons, append_snoc, length-take-le, take-length, drop-length, take_at, drop_at}
-use lib.Seq.{get_or-append-add, sets-eq, drop-drop, take-add}
+use lib.ListN.{length, take, drop, set, replicate, length-drop, length-append, length-take}
+use lib.ListN.{length-set, drop_of_length-le}
+use lib.Seq.{length-take-le, take-length, take_at, drop_at}
+use lib.Seq.{sets-eq, drop-drop, take-add}
 use borrow.Rule.Slice.PartMut.{put_mid}
+use Rattle.std.proofs.lemmas.List.{drop-replicate}
 use Rattle.laws.proofs.Cells.{length_padded}
 use Rattle.arith.proofs.Lists.{part_put}
 use mir.Syntax.{w64}
@@ -20,26 +19,9 @@ use Rattle.residues.specs.Reduces.{farthest}
 use Rattle.csl.specs.Table.{padded}
 use Rattle.cells.specs.Reduce.{unit_of}
 
-module _ {A : Type 0} (z : A) where
-  -- one cell more
-  pub copy_more : (s d : List A) (i : ℕ) → i < length s → i < length d
-      → set (take i s ++ drop i d) i (get_or s i z) ≡ take (i + 1) s ++ drop (i + 1) d
-  copy_more s d i hs hd =
-      ap (λ (x : List A). set (take i s ++ x) i (get_or s i z)) (drop-cons d i z hd)
-      ∙ set_at (take i s) (get_or d i z) (drop (suc i) d) (get_or s i z) i (length-take-le i s (omega arith))
-      ∙ sym (append_snoc (take i s) (get_or s i z) (drop (suc i) d))
-      ∙ ap (λ (x : List A). x ++ drop (suc i) d) (sym (take-suc s i z hs))
-      ∙ ap (λ (k : ℕ). take k s ++ drop k d) (sym (add-one i))
-
 module _ {A : Type 0} where
   pub copied_all : (s d : List A) {i : ℕ} → i ≡ length s → take i s ++ drop i d ≡ s ++ drop (length s) d
   copied_all s d e = rw (e, take-length)
-
-  pub filled_all : (s d : List A) {i : ℕ} → i ≡ length s → length s ≡ length d → take i s ++ drop i d ≡ s
-  filled_all s d e f = rw (e, take-length, f, drop-length, append-nil)
-
-  pub copied_whole : (s d : List A) → length s ≡ length d → s ++ drop (length s) d ≡ s
-  copied_whole s d e = rw (e, drop-length, append-nil)
 
   -- a copy goes on from what is copied so far
   pub left_over : (s d : List A) {e : List A} {i : ℕ} → i ≤ length s → e ≡ take i s ++ drop i d → e ≡ take i s
@@ -61,20 +43,12 @@ module _ {A : Type 0} where
       part_put n m e u h ∙ rw (front, rest) (sym (append_assoc (take n s) u (drop m d))) ∙ ap (λ x. x ++ drop m d) more
 
 -- ---- with zeros behind
-pub padded_at : (n : ℕ) (xs : List ℤ) (i : ℕ) → i < n → get_or (padded n xs) i (pos 0) ≡ get_or xs i (pos 0)
+-- e is what is cleared; the source is copied to its front
+pub padded_is : (d s : List ℤ) {e v : List ℤ} → e ≡ replicate (length d) (pos 0) → v ≡ s
+    → put_mid 0 (length s) e v ≡ padded (length d) s
 unfolding padded
-padded_at n xs i h = by_place (dec_lt i (length xs))
-  where
-    by_place : Dec (i < length xs) → get_or (xs ++ replicate (n - length xs) (pos 0)) i (pos 0) ≡ get_or xs i (pos 0)
-    by_place (yes l) = get_or-append xs (replicate (n - length xs) (pos 0)) (pos 0) i l
-    by_place (no l) =
-        let e : i ≡ length xs + (i - length xs) = omega arith in
-        rw (
-          e,
-          get_or-append-add xs (replicate (n - length xs) (pos 0)) (i - length xs) (pos 0),
-          get_or-replicate (n - length xs) (i - length xs) (pos 0) (pos 0) (omega arith),
-        )
-        (sym (rw (← e) (get_or-eq_default xs (pos 0) (omega arith))))
+padded_is d s e f = ap₂ (λ x y. x ++ drop (length s) y) f e
+    ∙ ap (λ x. s ++ x) (drop-replicate (length s) (length d) (pos 0))
 
 -- ---- a unit
 pub unit_length : (sort place a : ℕ) (ps vs : List ℤ) → length ps ≤ 5 → length vs ≤ 16

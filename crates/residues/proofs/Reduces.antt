@@ -1,28 +1,33 @@
 -- Laws of answers: a residue at the end of `out`, and the two sides of a join.
-use mathlib.Core.Path.{◌≡◌, refl, sym, ap, ◌∙◌, subst}
+use mathlib.Core.Path.{◌≡◌, refl, sym, ap, ap₂, ◌∙◌}
 use mathlib.Core.Bool.{Bool, true, false, cond}
 use mathlib.Core.List.{List, [], ◌∷◌, ◌++◌}
 use Prim.Native.Nat.{ℕ, ◌+◌, ◌-◌, ◌*◌, ◌^◌, ◌≤◌, ◌<◌, min}
 use native.Mathlib.Omega.{arith}
 use lib.IntN.{ℤ, pos}
 use lib.Bits.{bit_or}
-use lib.Dec.{eqb}
-use borrow.Author.Tests.{eqb-true, eqb-false, ne_eqb}
 use lib.Signed.{lt_z, mag}
 use lib.ListN.{length, take, drop, length-append, length-take, length-drop, take-append-drop}
 use lib.Seq.{drop_at, take-length, length-take-le, drop-append-le}
 use borrow.Rule.Slice.PartMut.{put_mid}
+use Rattle.std.specs.Ordering.{MatchOrdering}
+use Rattle.std.specs.declared.cmp.Ordering.{Ordering}
+use Rattle.std.specs.declared.cmp.Ordering.TheVariants.{Less, Equal, Greater}
 use mir.Syntax.{w64}
 use mir.Val.{SFits, to_z}
 use Rattle.laws.proofs.Cells.{length_join}
 use Rattle.arith.proofs.Ints.{seen, read, read! }
 use Rattle.arith.proofs.Lists.{part_put, tail_put}
-use Rattle.csl.specs.Syntax.{Join, and, or}
-use Rattle.laws.specs.Joins.{join_of}
-use Rattle.csl.specs.Table.{padded, join_number, join_cells}
+use Rattle.csl.specs.Syntax.{and, or}
+use Rattle.csl.specs.Syntax as syntax
+use Rattle.kinds.specs.Kinds.{join_in, join_number}
+use Rattle.kinds.specs.declared.Join.{Join}
+use Rattle.kinds.specs.declared.Join.TheVariants.{And, Or}
+use Rattle.csl.specs.Table.{padded, join_cells}
+use Rattle.csl.specs.Table as csl
 use Rattle.cells.specs.Reduce.{unit_of}
 use Rattle.cells.specs.Reduce as cells
-use Rattle.residues.specs.Reduces.{Stands, Is, room_left, Counted, JoinIs, BreachIs}
+use Rattle.residues.specs.Reduces.{Stands, Is, room_left, JoinIs, BreachIs}
 use Rattle.residues.specs.declared.Reduced.{Reduced}
 use Rattle.residues.specs.declared.Reduced.TheVariants.{Done, Breach, Running}
 use Rattle.residues.proofs.Cells.{unit_length}
@@ -74,15 +79,14 @@ module _ (o : List ℤ) where
   is_running (cells.breach u c) h = absurd h
   is_running (cells.running cs) h = (cs, refl, h)
 
-  pub is_counted : (x : cells.Reduced) (r : Reduced) → Is x r o → Counted r
-  is_counted x Done h = tt
-  is_counted x (Breach t b) h = tt
-  is_counted x (Running n) h = omega (arith, (is_running x h).2.count)
-
-pub counted : {r : Reduced} {n : ℕ} → r ≡ Running n → Counted r → n ≤ 129
-counted {r} e h = subst Counted e h
-
 -- ---- two breaches
+-- what the order of two times says of its two tests
+pub ordered : (a b : Bool) {o : Ordering} → o ≡ cond a Less (cond b Greater Equal)
+    → MatchOrdering o (a ≡ true) ((a ≡ false) × (b ≡ false)) ((a ≡ false) × (b ≡ true))
+ordered true b e = rw e refl
+ordered false true e = rw e (refl, refl)
+ordered false false e = rw e (refl, refl)
+
 module _ {t u : ℤ} (b c : ℕ) (p : SFits w64 t) (q : SFits w64 u) where
   pub earlier_left : lt_z (seen t) (seen u) ≡ true → BreachIs cells.earlier t b u c (Breach (seen t) b)
   unfolding Is cells.earlier
@@ -173,55 +177,56 @@ module _ (n m : ℕ) (o : List ℤ) (hn : n ≤ 129) (hm : m ≤ 129) (few : len
       counts : (n m a b : ℕ) → n ≡ min a 129 → m ≡ min b 129 → min (1 + n + m) 129 ≡ min (1 + a + b) 129
       counts n m a b e f = omega arith
 
-joined_running : (j : Join) (ls rs : List ℤ)
+joined_running : (j : syntax.Join) (ls rs : List ℤ)
     → cells.joined j (cells.running ls) (cells.running rs) ≡ cells.running (join_cells j ++ (ls ++ rs))
 unfolding cells.joined cells.join_both cells.join_either
 joined_running and ls rs = refl
 joined_running or ls rs = refl
 
-head_is : (kind : ℕ) → 20 ≤ kind → kind < 22 → padded 24 (to_z w64 kind ∷ []) ≡ join_cells (join_of kind)
-unfolding join_cells join_number join_of
-head_is kind l u = by_kind (eqb kind 20) refl
-  where
-    by_kind : (b : Bool) → eqb kind 20 ≡ b → padded 24 (to_z w64 kind ∷ []) ≡ padded 24
-        (pos (join_number (cond b and or)) ∷ [])
-    by_kind true e = rw (eqb-true kind 20 e)
-    by_kind false e = let f : kind ≡ 21 = omega (arith, eqb-false kind 20 e) in rw f
+head_is : (kind : Join) → padded 24 (to_z w64 (join_number kind) ∷ []) ≡ join_cells (join_in kind)
+unfolding join_cells csl.join_number
+head_is And = refl
+head_is Or = refl
 
-module _ (kind n m : ℕ) (o : List ℤ) (r : (20 ≤ kind) × (kind < 22) × (n ≤ 129) × (m ≤ 129) × (length o ≤ 3072)) where
-  abbrev j : Join
-  j = join_of kind
+module _ (kind : Join) (n m : ℕ) (o : List ℤ) (few : length o ≤ 3072) where
+  -- what is known of two sides
+  side_counts : {cs : List ℤ} {k : ℕ} {out : List ℤ} → Stands cs k out → k ≤ 129
+  side_counts s = omega (arith, s.count)
 
   -- h is what `fill` made of the join's 24 cells
-  pub join_put : 24 * (n + m) + 24 ≤ length o → {h : List ℤ}
-      → h ≡ padded (length (take (length o - 24 * (n + m) - (length o - 24 * (n + m) - 24))
-      (drop (length o - 24 * (n + m) - 24) o))) (to_z w64 kind ∷ [])
-      → JoinIs j (Running n) (Running m) o (Running (1 + n + m))
-      (put_mid (length o - 24 * (n + m) - 24) (length o - 24 * (n + m) - (length o - 24 * (n + m) - 24)) o h)
+  pub join_put : {u from k : ℕ} {h : List ℤ} → u ≡ 1 + n + m → 24 * u ≤ length o → from ≡ length o - 24 * u → k ≡ 24
+      → h ≡ padded (length (take k (drop from o))) (to_z w64 (join_number kind) ∷ [])
+      → JoinIs (join_in kind) (Running n) (Running m) o (Running u) (put_mid from k o h)
   unfolding Is room_left
-  join_put room {h} e = record {
+  join_put {u} {from} {k} {h} eu room ef ek e = record {
     is = λ left right s.
         let x = is_running (take (length o - 24 * m) o) left s.of_left in
         let y = is_running o right s.of_right in
         let to = length o - 24 * (n + m) in
-        let l : length (take (to - (to - 24)) (drop (to - 24) o)) ≡ 24 = simp (length-take, length-drop)
-        (omega arith) in
-        let eh : h ≡ join_cells j = e ∙ ap (λ k. padded k (to_z w64 kind ∷ [])) l ∙ head_is kind r.0 r.1 in
-        rw (x.1, y.1, joined_running j x.0 y.0)
-        (joins n m o r.2 r.3 r.4 x.0 y.0 x.2 y.2 (join_cells j)
-        (put_mid (to - 24) (to - (to - 24)) o h) (length_join j) room
-        (part_put (to - 24) to o h (omega arith) ∙ ap (λ k. take (to - 24) o ++ (k ++ drop to o)) eh));
+        let at : from ≡ to - 24 = omega (arith, eu, ef, room) in
+        let size : k ≡ to - (to - 24) = omega (arith, eu, ek, room) in
+        let l : length (take k (drop from o)) ≡ 24 = simp (length-take, length-drop)
+        (omega (arith, eu, ef, ek, room)) in
+        let eh : h ≡ join_cells (join_in kind) = e ∙ ap (λ j. padded j (to_z w64 (join_number kind) ∷ [])) l
+        ∙ head_is kind in
+        rw (x.1, y.1, joined_running (join_in kind) x.0 y.0, eu)
+        (joins n m o (side_counts x.2) (side_counts y.2) few x.0 y.0 x.2 y.2 (join_cells (join_in kind))
+        (put_mid from k o h) (length_join (join_in kind)) (omega (arith, eu, room))
+        (ap₂ (λ i j. put_mid i j o h) at size ∙ part_put (to - 24) to o h (omega arith)
+        ∙ ap (λ j. take (to - 24) o ++ (j ++ drop to o)) eh));
   }
 
-  pub join_full : length o < 24 * (n + m) + 24 → {c : ℕ} → c ≡ min (1 + n + m) 129
-      → JoinIs j (Running n) (Running m) o (Running c) o
+  pub join_full : {c : ℕ} → (n ≤ 129 → m ≤ 129 → (length o < 24 * (n + m) + 24) × (c ≡ min (1 + n + m) 129))
+      → JoinIs (join_in kind) (Running n) (Running m) o (Running c) o
   unfolding Is room_left
-  join_full full e = record {
+  join_full full = record {
     is = λ left right s.
         let x = is_running (take (length o - 24 * m) o) left s.of_left in
         let y = is_running o right s.of_right in
-        rw (x.1, y.1, joined_running j x.0 y.0, e)
-        (overflows n m o r.2 r.3 r.4 x.0 y.0 x.2 y.2 (join_cells j) (length_join j) full);
+        let f = full (side_counts x.2) (side_counts y.2) in
+        rw (x.1, y.1, joined_running (join_in kind) x.0 y.0, f.1)
+        (overflows n m o (side_counts x.2) (side_counts y.2) few x.0 y.0 x.2 y.2 (join_cells (join_in kind))
+        (length_join (join_in kind)) f.0);
   }
 
 -- ---- each return of `join_both` and `join_either`
@@ -229,6 +234,18 @@ module _ (kind n m : ℕ) (o : List ℤ) (r : (20 ≤ kind) × (kind < 22) × (n
 whole : {l : Reduced} {n k : ℕ} (o : List ℤ) → l ≡ Running n → k ≡ length o → (x : cells.Reduced) → Is x l (take k o)
     → Is x (Running n) o
 whole o e f x h = rw (f, e, take-length) at h
+
+both_done_right : (x : cells.Reduced) → cells.joined and x cells.done ≡ x
+unfolding cells.joined cells.join_both
+both_done_right cells.done = refl
+both_done_right (cells.breach t b) = refl
+both_done_right (cells.running cs) = refl
+
+either_done_right : (x : cells.Reduced) → cells.joined or x cells.done ≡ cells.done
+unfolding cells.joined cells.join_either
+either_done_right cells.done = refl
+either_done_right (cells.breach t b) = refl
+either_done_right (cells.running cs) = refl
 
 module _ {l r : Reduced} (o : List ℤ) where
   pub both_done : l ≡ Done → JoinIs and l r o r o
@@ -242,19 +259,23 @@ module _ {l r : Reduced} (o : List ℤ) where
   unfolding Is cells.joined cells.join_either
   either_done e = record { is = λ x y s. rw (is_done (take (room_left r (length o)) o) x (rw e at s.of_left)) tt }
 
-  module _ {t : ℤ} {b : ℕ} (e : l ≡ Breach t b) where
-    pub both_breach_done : r ≡ Done → JoinIs and l r o (Breach t b) o
-    unfolding Is cells.joined cells.join_both
-    both_breach_done f = record {
-      is = λ x y s. let p = is_breach (take (room_left r (length o)) o) x
-          (rw e at s.of_left) in rw (p.1, is_done o y (rw f at s.of_right)) (p.2, refl);
-    }
+  pub both_beside_done : r ≡ Done → JoinIs and l r o l o
+  unfolding room_left cells.joined cells.join_both
+  both_beside_done e = record {
+    is = λ x y s. rw (is_done o y (rw e at s.of_right), both_done_right x)
+        (rw (e, take-length) at s.of_left);
+  }
 
-    pub both_breach_running : {m : ℕ} → r ≡ Running m → JoinIs and l r o (Breach t b) o
+  pub either_beside_done : r ≡ Done → JoinIs or l r o Done o
+  unfolding Is cells.joined cells.join_either
+  either_beside_done e = record { is = λ x y s. rw (is_done o y (rw e at s.of_right), either_done_right x) tt }
+
+  module _ {t : ℤ} {b : ℕ} (e : l ≡ Breach t b) where
+    pub both_breach_running : {m : ℕ} → r ≡ Running m → JoinIs and l r o l o
     unfolding Is cells.joined cells.join_both
     both_breach_running f = record {
       is = λ x y s. let p = is_breach (take (room_left r (length o)) o) x
-          (rw e at s.of_left) in rw (p.1, (is_running o y (rw f at s.of_right)).1) (p.2, refl);
+          (rw e at s.of_left) in rw (p.1, (is_running o y (rw f at s.of_right)).1, e) (p.2, refl);
     }
 
     pub both_breaches : {u : ℤ} {c : ℕ} → r ≡ Breach u c → mag t < 2 ^ 63 → mag u < 2 ^ 63 → {a : Reduced}
@@ -264,13 +285,6 @@ module _ {l r : Reduced} (o : List ℤ) where
       is = λ x y s. let p = is_breach (take (room_left r (length o)) o) x
           (rw e at s.of_left) in let q = is_breach o y (rw f at s.of_right) in
           rw (p.1, q.1) (g.is p.0 q.0 (read! ht ∙ p.2) (read! hu ∙ q.2) o);
-    }
-
-    pub either_breach_done : r ≡ Done → JoinIs or l r o Done o
-    unfolding Is cells.joined cells.join_either
-    either_breach_done f = record {
-      is = λ x y s. let p = is_breach (take (room_left r (length o)) o) x
-          (rw e at s.of_left) in rw (p.1, is_done o y (rw f at s.of_right)) tt;
     }
 
     pub either_breach_running : {m : ℕ} → r ≡ Running m → JoinIs or l r o r o
@@ -291,15 +305,6 @@ module _ {l r : Reduced} (o : List ℤ) where
     }
 
   module _ {n : ℕ} (e : l ≡ Running n) where
-    pub both_running_done : r ≡ Done → JoinIs and l r o (Running n) o
-    unfolding Is room_left cells.joined cells.join_both
-    both_running_done f = record {
-      is = λ x y s.
-          let h = whole o e (ap (λ a. room_left a (length o)) f) x s.of_left in
-          let p = is_running o x h in
-          rw (p.1, is_done o y (rw f at s.of_right)) p.2;
-    }
-
     pub both_running_breach : {u : ℤ} {c : ℕ} → r ≡ Breach u c → JoinIs and l r o r o
     unfolding cells.joined cells.join_both
     both_running_breach f = record {
@@ -309,57 +314,26 @@ module _ {l r : Reduced} (o : List ℤ) where
           rw (p.1, q.1) (rw q.1 at s.of_right);
     }
 
-    pub either_running_done : r ≡ Done → JoinIs or l r o Done o
-    unfolding Is cells.joined cells.join_either
-    either_running_done f = record {
-      is = λ x y s.
-          let p = is_running (take (room_left r (length o)) o) x (rw e at s.of_left) in
-          rw (p.1, is_done o y (rw f at s.of_right)) tt;
-    }
-
-    pub either_running_breach : {u : ℤ} {c : ℕ} → r ≡ Breach u c → JoinIs or l r o (Running n) o
+    pub either_running_breach : {u : ℤ} {c : ℕ} → r ≡ Breach u c → JoinIs or l r o l o
     unfolding Is room_left cells.joined cells.join_either
     either_running_breach f = record {
       is = λ x y s.
           let h = whole o e (ap (λ a. room_left a (length o)) f) x s.of_left in
           let p = is_running o x h in
-          rw (p.1, (is_breach o y (rw f at s.of_right)).1) p.2;
+          rw (p.1, (is_breach o y (rw f at s.of_right)).1, e) p.2;
     }
 
-    pub both_running : {k : Join} {m : ℕ} → r ≡ Running m → {a : Reduced} {o' : List ℤ}
+    pub both_running : {k : syntax.Join} {m : ℕ} → r ≡ Running m → {a : Reduced} {o' : List ℤ}
         → JoinIs k (Running n) (Running m) o a o' → JoinIs k l r o a o'
     both_running f g = rw (e, f) g
 
-pub as_join : {j k : Join} → j ≡ k → {l r a : Reduced} {o o' : List ℤ} → JoinIs j l r o a o' → JoinIs k l r o a o'
-as_join e g = rw (← e) g
-
-pub join_first : {k : ℕ} → k ≡ 20 → and ≡ join_of k
-unfolding join_of
-join_first e = rw e
-
-pub join_second : (k : ℕ) → (k ≡ 20 → ⊥) → or ≡ join_of k
-unfolding join_of
-join_second k h = rw (ne_eqb k 20 h)
-
-pub join_of_both : join_of 20 ≡ and
-join_of_both = sym (join_first refl)
-
-pub join_of_either : join_of 21 ≡ or
-join_of_either = sym (join_second 21 (λ e. omega arith))
-
 -- ---- what is left for the left side
-pub room_left_lem : {r : Reduced} {m : ℕ} (len : ℕ) → r ≡ Running m → len - 24 * m ≡ room_left r len
+pub room_left_lem : {r : Reduced} {m k : ℕ} (len : ℕ) → r ≡ Running m → k ≡ len - 24 * m → k ≡ room_left r len
 unfolding room_left
-room_left_lem len e = rw e
+room_left_lem len e f = rw e f
 
-pub room_none : {r : Reduced} {m : ℕ} (len : ℕ) → r ≡ Running m → len ≤ 24 * m → 0 ≡ room_left r len
+pub room_whole : (r : Reduced) (len : ℕ) → ((n : ℕ) → r ≡ Running n → ⊥) → len ≡ room_left r len
 unfolding room_left
-room_none len e h = rw e (omega arith)
-
-pub room_done : {r : Reduced} {len : ℕ} → r ≡ Done → len ≡ room_left r len
-unfolding room_left
-room_done e = rw e
-
-pub room_breach : {r : Reduced} {t : ℤ} {b len : ℕ} → r ≡ Breach t b → len ≡ room_left r len
-unfolding room_left
-room_breach e = rw e
+room_whole Done len h = refl
+room_whole (Breach t b) len h = refl
+room_whole (Running n) len h = absurd (h n refl)

@@ -40,12 +40,6 @@ pub record Sides (left right : cells.Reduced) (l r : Reduced) (out : List ℤ) :
   pub of_left : Is left l (take (room_left r (length out)) out)
   pub of_right : Is right r out
 
--- a count that a residue may have
-abbrev pub Counted : Reduced → Type 0
-Counted Done = Unit {0}
-Counted (Breach t b) = Unit {0}
-Counted (Running n) = n ≤ 129
-
 -- a is what the sides make, whatever sides l and r are the answers for
 pub record JoinIs (j : Join) (l r : Reduced) (before : List ℤ) (a : Reduced) (written : List ℤ) : Type 0 where
   pub is : (left right : cells.Reduced) → Sides left right l r before → Is (cells.joined j left right) a written

@@ -1,5 +1,5 @@
 -- What the code's answer says of what is counted: paper 02, No. 9.
-use Rattle.std.specs.Prelude.{◌≡◌, true, false, List, ℕ, ◌≤◌, min, ℤ}
+use Rattle.std.specs.Prelude.{◌≡◌, true, false, List, ℕ, min, ℤ}
 use Rattle.csl.specs.Syntax.{Join}
 use Rattle.csl.specs.Cost as csl
 use Rattle.csl.specs.Cost.{nothing_yet, one_more}
@@ -17,11 +17,6 @@ pub record TallyIs (x : csl.Tally) (t : Tally) : Type 0 where
   pub once : t.once ≡ x.at_once
   pub activated : t.activated ≡ min x.activated most_counted
   pub further : t.further ≡ min x.further most_counted
-
--- counts that a tally may have
-pub record Bounded (t : Tally) : Type 0 where
-  pub activated : t.activated ≤ most_counted
-  pub further : t.further ≤ most_counted
 
 -- the answer r, with what stands in `out`, is what the rules on cells give
 pub record Reckons (x : cells.Reckoned) (r : Reckoned) (out : List ℤ) : Type 0 where

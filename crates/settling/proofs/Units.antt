@@ -2,21 +2,16 @@
 use mathlib.Core.Path.{◌≡◌, refl, sym, ap, ap₂, ◌∙◌}
 use mathlib.Core.Bool.{Bool, true, false, not, cond, true≢false, ◌&&◌, ◌||◌}
 use mathlib.Core.List.{List, [], ◌∷◌, ◌++◌, append_assoc}
-use Prim.Native.Nat.{ℕ, ◌+◌, ◌-◌, ◌*◌, ◌^◌, ◌≤◌, ◌<◌}
-use native.Mathlib.Numerals.{add-one}
+use Prim.Native.Nat.{ℕ, ◌+◌, ◌-◌, ◌*◌, ◌≤◌}
 use native.Mathlib.Omega.{arith}
-use mir.Syntax.{w64}
-use mir.Val.{of_z, to_z}
+use Rattle.std.specs.Bool.{Decides}
 use lib.IntN.{ℤ, pos}
-use lib.Signed.{mag}
 use lib.Dec.{eqb, eqb→eq, eqb_refl}
 use lib.ListN.{get_or-append, length, get_or, take, drop, replicate, length-append, length-drop}
 use lib.ListN.{length-take}
-use lib.Seq.{drop_at, get_or-take, take-add, take_all, take_at, take-suc, length-take-le}
-use borrow.Author.Tests.{not-true, not-false}
+use lib.Seq.{drop_at, get_or-take, take-add, take_all, take_at, length-take-le}
 use borrow.Rule.Slice.PartMut.{put_mid}
 use Rattle.arith.proofs.Lists.{tail_put}
-use Rattle.arith.proofs.Ints.{read! }
 use Rattle.csl.specs.Run.{same_numbers}
 use Rattle.csl.specs.Table.{padded}
 use Rattle.settling.specs.Settles.{gone_on, other_units}
@@ -27,45 +22,27 @@ use Rattle.laws.proofs.Sameness.{same_append, same_are, same_not, same_self}
 abbrev pub altered_in : Bool → List ℤ → List ℤ → Bool
 altered_in altered cells unit = altered || not (same_numbers cells unit)
 
-pub known_altered : (altered b : Bool) → altered ≡ true → true ≡ (altered || b)
-known_altered altered b e = rw e refl
+pub altered_before : (altered b : Bool) {v : Bool} → altered ≡ true → v ≡ altered → v ≡ (altered || b)
+altered_before altered b e f = f ∙ rw e refl
 
--- two cells that the program finds equal are
-pub word_is : {x y : ℤ} → mag x < 2 ^ 63 → mag y < 2 ^ 63 → of_z w64 x ≡ of_z w64 y → x ≡ y
-word_is {x = x} {y = y} hx hy e = sym (read! {z = x} hx) ∙ ap (to_z w64) e ∙ read! {z = y} hy
+-- csl's test decides whether two lists are one
+pub sameness : (cells unit : List ℤ) → Decides (same_numbers cells unit) (cells ≡ unit)
+sameness cells unit = (same_are cells unit, λ q. rw q (same_self unit))
 
-module _ (altered : Bool) (cells unit : List ℤ) where
-  pub not_same : altered ≡ false → (cells ≡ unit → ⊥) → true ≡ altered_in altered cells unit
-  not_same e f = rw (e, same_not cells unit f) refl
+pub altered_here : (altered : Bool) (cells unit : List ℤ) {v : Bool} → altered ≡ false
+    → v ≡ not (same_numbers cells unit) → v ≡ altered_in altered cells unit
+altered_here altered cells unit e f = f ∙ rw e refl
 
-  pub nothing_differs : {r : Bool} → r ≡ altered_in altered cells unit → not r ≡ true
-      → (unit ≡ cells) × (false ≡ altered_in altered cells unit)
-  nothing_differs {r = r} e f =
-      let none : altered_in altered cells unit ≡ false = sym e ∙ not-true r f in
-      (sym (same_are cells unit (same altered (same_numbers cells unit) none)), sym none)
-    where
-      same : (a b : Bool) → (a || not b) ≡ false → b ≡ true
-      same true b g = absurd (true≢false g)
-      same false true g = refl
-      same false false g = absurd (true≢false g)
-
-  pub something_differs : {r : Bool} → r ≡ altered_in altered cells unit → not r ≡ false
-      → true ≡ altered_in altered cells unit
-  something_differs {r = r} e f = sym (not-false r f) ∙ e
-
--- ---- cell by cell
-pub same_more : (cells unit : List ℤ) (i : ℕ) → i < length cells → i < length unit → take i cells ≡ take i unit
-    → get_or cells i (pos 0) ≡ get_or unit i (pos 0) → take (i + 1) cells ≡ take (i + 1) unit
-same_more cells unit i hc hu e f =
-    ap (λ k. take k cells) (add-one i) ∙ take-suc cells i (pos 0) hc
-    ∙ ap₂ (λ xs x. xs ++ (x ∷ [])) e f
-    ∙ sym (ap (λ k. take k unit) (add-one i) ∙ take-suc unit i (pos 0) hu)
-
-pub same_whole : (cells unit : List ℤ) (i : ℕ) {altered : Bool} → length cells ≤ i → length unit ≤ i
-    → altered ≡ false → take i cells ≡ take i unit → false ≡ altered_in altered cells unit
-same_whole cells unit i hc hu a e =
-    let same : cells ≡ unit = sym (take_all i cells hc) ∙ e ∙ take_all i unit hu in
-    rw (a, same, same_self unit) refl
+pub nothing_differs : (altered : Bool) (cells unit : List ℤ) {v : Bool} → v ≡ altered_in altered cells unit → v ≡ false
+    → (unit ≡ cells) × (false ≡ altered_in altered cells unit)
+nothing_differs altered cells unit e f =
+    let none : altered_in altered cells unit ≡ false = sym e ∙ f in
+    (sym (same_are cells unit (same altered (same_numbers cells unit) none)), sym none)
+  where
+    same : (a b : Bool) → (a || not b) ≡ false → b ≡ true
+    same true b g = absurd (true≢false g)
+    same false true g = refl
+    same false false g = absurd (true≢false g)
 
 -- ---- unit by unit
 or_and : (a b c : Bool) → ((a || not b) || not c) ≡ (a || not (b && c))
@@ -155,9 +132,9 @@ altered_is n used residue t long size few e = by_test (eqb n used)
 -- ---- all of it: units, zeros, when the run last moved, and the head
 module _ (used n : ℕ) (residue t : List ℤ) (long : length t ≡ 3080) (size : length residue ≡ 24 * n) (few : n ≤ 128)
     (few' : used ≤ 128) (u v : List ℤ) (put : u ≡ residue ++ drop (length residue) (take (length t - 8) (drop 8 t)))
-    (zeros : v ≡ padded
+    (zeros : v ≡ replicate
     (length (take (length (put_mid 8 (length t - 8) t u) - (8 + 24 * n))
-    (drop (8 + 24 * n) (put_mid 8 (length t - 8) t u)))) []) where
+    (drop (8 + 24 * n) (put_mid 8 (length t - 8) t u)))) (pos 0)) where
   abbrev one : List ℤ
   one = put_mid 8 (length t - 8) t u
 
@@ -165,10 +142,9 @@ module _ (used n : ℕ) (residue t : List ℤ) (long : length t ≡ 3080) (size 
   two = put_mid (8 + 24 * n) (length one - (8 + 24 * n)) one v
 
   cleared : v ≡ replicate (3072 - 24 * n) (pos 0)
-  unfolding padded
   cleared =
       let l = written_long n residue t long size few u v put in
-      let m : length (take (length one - (8 + 24 * n)) (drop (8 + 24 * n) one)) - 0 ≡ 3072 - 24 * n = omega (
+      let m : length (take (length one - (8 + 24 * n)) (drop (8 + 24 * n) one)) ≡ 3072 - 24 * n = omega (
         arith,
         l,
         length-take (length one - (8 + 24 * n)) (drop (8 + 24 * n) one),
@@ -183,7 +159,7 @@ module _ (used n : ℕ) (residue t : List ℤ) (long : length t ≡ 3080) (size 
         (rw (take_all (length t - 8) (drop 8 t) (rw (length-drop 8 t) (omega arith))) at a)
 
     -- z is `time` as the program reads it
-    pub gone_on_lem : {time z moved cell : ℤ} {left : List ℤ} → z ≡ time
+    gone_on_lem : {time z moved cell : ℤ} {left : List ℤ} → z ≡ time
         → moved ≡ cond altered z (get_or two 5 (pos 0)) → cell ≡ pos n
         → left ≡ (pos 1 ∷ time ∷ pos 0 ∷ pos 0 ∷ cell ∷ moved ∷ pos 0 ∷ pos 0 ∷ []) ++ drop 8 two
         → left ≡ gone_on time used n residue t
@@ -193,3 +169,9 @@ module _ (used n : ℕ) (residue t : List ℤ) (long : length t ≡ 3080) (size 
         ∙ ap (λ b. cond b time (get_or t 5 (pos 0))) gone_altered in
         let rest : 3072 - 24 * n ≡ 3080 - length (replicate 8 (pos 0) ++ residue) = omega arith in
         rw (c, moved-too, whole_units n residue t long size few u v put cleared, rest) at e
+
+    pub headed_lem : {time z moved cell : ℤ} {head : List ℤ} → z ≡ time
+        → moved ≡ cond altered z (get_or two 5 (pos 0)) → cell ≡ pos n
+        → head ≡ pos 1 ∷ time ∷ pos 0 ∷ pos 0 ∷ cell ∷ moved ∷ pos 0 ∷ pos 0 ∷ []
+        → put_mid 0 8 two head ≡ gone_on time used n residue t
+    headed_lem r m c e = gone_on_lem r m c (ap (λ h. h ++ drop 8 two) e)

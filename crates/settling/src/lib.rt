@@ -10,7 +10,14 @@ ghost use Rattle.settling.specs.Settles.{Settles, Whole, gone_on, other_units};
 ghost use Rattle.residues.specs.Reduces.{bits_in};
 
 use cells::{HEAD_CELLS, LAST_MOVED, UNIT_CELLS};
-use residues::{Reduced, copy, fill};
+use residues::{Reduced, fill};
+
+// A run's state, by the number in its table's first cell.
+const RUNNING: i64 = 1;
+
+const FULFILLED: i64 = 2;
+
+const BREACHED: i64 = 3;
 
 // The table of a run that ends at `time`: a head, and no unit.
 fn end_run(table: &mut [i64], state: i64, time: i64, breach: i64, parties: usize)
@@ -22,22 +29,12 @@ fn end_run(table: &mut [i64], state: i64, time: i64, breach: i64, parties: usize
     fill(table, &head);
 }
 
-// Whether something has altered, before a unit's cells or in them.
-fn differs(unit: &[i64], cells: &[i64], altered: bool) -> bool
-    requires { (length unit.now ≡ 24) × (length cells.now ≡ 24) }
-    ensures { result ≡ (altered || not (same_numbers cells.now unit.now)) }
+// The cells are those of the unit.
+fn same(cells: &[i64], unit: &[i64]) -> bool
+    requires { (length cells.now ≡ 24) × (length unit.now ≡ 24) }
+    ensures { result ≡ same_numbers cells.now unit.now }
 {
-    if altered {
-        return true;
-    }
-    let mut i = 0;
-    while i < UNIT_CELLS {
-        if unit[i] != cells[i] {
-            return true;
-        }
-        i += 1;
-    }
-    false
+    cells.iter().zip(unit).all(|(x, y)| x == y)
 }
 
 // One unit's 24 cells. They are written where something has altered before them or in them; the answer says so.
@@ -45,29 +42,29 @@ fn put_unit(unit: &mut [i64], cells: &[i64], altered: bool) -> bool
     requires { (length unit.old ≡ 24) × (length cells.now ≡ 24) }
     ensures { (unit.new ≡ cells.now) × (result ≡ (altered || not (same_numbers cells.now unit.old))) }
 {
-    if !differs(unit, cells, altered) {
-        return false;
+    if altered || !same(cells, unit) {
+        unit.copy_from_slice(cells);
+        true
+    } else {
+        false
     }
-    copy(unit, cells);
-    true
 }
 
 // A residue's n units go to the front of the table's, unit by unit. The answer is whether something has altered.
+// By number: of parts that `chunks_exact_mut` lends a proof knows no cell afterwards.
 fn put_units(units: &mut [i64], residue: &[i64], n: usize, known: bool) -> bool
     requires { (length residue.now ≡ 24 * n) × (24 * n ≤ length units.old) }
     ensures { (units.new ≡ residue.now ++ drop (length residue.now) units.old)
         × (result ≡ (known || not (same_numbers residue.now (take (24 * n) units.old)))) }
 {
     let mut altered = known;
-    let mut k = 0;
-    while k < n {
+    for k in 0..n {
         let at = UNIT_CELLS * k;
         altered = put_unit(
             &mut units[at..at + UNIT_CELLS],
             &residue[at..at + UNIT_CELLS],
             altered,
         );
-        k += 1;
     }
     altered
 }
@@ -77,10 +74,7 @@ fn last_moved(table: &[i64], time: i64, altered: bool) -> i64
     requires { length table.now ≡ 3080 }
     ensures { result ≡ cond altered time (get_or table.now 5 (pos 0)) }
 {
-    if altered {
-        return time;
-    }
-    table[LAST_MOVED]
+    if altered { time } else { table[LAST_MOVED] }
 }
 
 // The table of a run that goes on with a residue's n units where so many were in use. It has moved unless they are the
@@ -91,12 +85,11 @@ fn go_on(table: &mut [i64], used: usize, time: i64, residue: &[i64], n: usize) -
         × (result ≡ other_units used residue.now table.old) }
 {
     let altered = put_units(&mut table[HEAD_CELLS..], residue, n, n != used);
-    let none = [0i64; 1];
-    fill(&mut table[HEAD_CELLS + UNIT_CELLS * n..], &none[..0]);
+    table[HEAD_CELLS + UNIT_CELLS * n..].fill(0);
     let moved = last_moved(table, time, altered);
     let units = n as i64;
-    let head = [1, time, 0, 0, units, moved, 0, 0];
-    copy(table, &head);
+    let head = [RUNNING, time, 0, 0, units, moved, 0, 0];
+    table[..HEAD_CELLS].copy_from_slice(&head);
     altered
 }
 
@@ -108,11 +101,11 @@ pub fn settle(table: &mut [i64], used: usize, time: i64, r: Reduced, out: &[i64]
 {
     match r {
         Reduced::Done => {
-            end_run(table, 2, time, 0, 0);
+            end_run(table, FULFILLED, time, 0, 0);
             true
         }
         Reduced::Breach { at: t, by: b } => {
-            end_run(table, 3, time, t, b);
+            end_run(table, BREACHED, time, t, b);
             true
         }
         Reduced::Running(n) => {

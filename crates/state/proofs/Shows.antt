@@ -11,7 +11,7 @@ use lib.IntN.{ℤ, pos, negsuc}
 use lib.ListN.{length, get_or, take, drop, length-drop}
 use lib.Seq.{take_all, drop-drop}
 use Rattle.arith.proofs.Lists.{take_drop}
-use borrow.Author.Tests.{ne_eqb, not-false, not-true}
+use borrow.Author.Tests.{ne_eqb}
 use Rattle.csl.specs.Lists.{all}
 use Rattle.csl.specs.Bytes.{le32}
 use Rattle.csl.specs.Parties.{bits_of, members, subset}
@@ -29,9 +29,9 @@ use Rattle.units.specs.Cells.{number_below}
 use Rattle.units.specs.Units.{sight_numbers}
 use Rattle.units.proofs.Cells.{below_is, below_not}
 use Rattle.units.proofs.Waits.{option_none}
-use Rattle.state.specs.declared.State.TheVariants.{Damaged, Running, Fulfilled, Breached}
-use Rattle.state.specs.declared.Walk.{Walk}
-use Rattle.state.specs.declared.Walk.TheVariants.{Damaged as Torn, Tree}
+use Rattle.std.specs.Prelude.{Option as Maybe, Some, None}
+use Rattle.state.specs.declared.State.TheVariants.{Running, Fulfilled, Breached}
+use Rattle.state.specs.declared.Tree.{Tree}
 use Rattle.state.specs.Tree.{ReadsAs, TreeAs, WalkIs}
 use Rattle.state.specs.Shown.{RunShows, Shows, TimeIs, run_in, HeadAt}
 use Rattle.state.proofs.Trees.{AllRead, trees_read, tree_first, reads_same}
@@ -81,7 +81,7 @@ module _ (cells : List ℤ) (l : length cells ≡ 3080) where
   -- ---- no run is read
   module _ (A : List ℕ) where
     pub shown_none : (sights : List ℕ) → ((q : Run) → RunFacts A cells q → ⊥)
-        → Shows (run_in A cells) cells sights Damaged
+        → Shows (run_in A cells) cells sights None
     unfolding Shows
     shown_none sights f = option_none (run_in A cells) (λ q e. f q (run_facts A cells (omega arith) q e))
 
@@ -152,30 +152,30 @@ module _ (cells : List ℤ) (l : length cells ≡ 3080) (A : List ℕ) {time : �
         rest = z;
       }
 
-  pub fulfilled_head : {b : Bool} → b ≡ all is_zero (take 2 (drop 2 cells)) → not b ≡ true
-      → Shows (run_in A cells) cells sights Damaged
+  pub fulfilled_head : {b : Bool} → b ≡ all is_zero (take 2 (drop 2 cells)) → b ≡ false
+      → Shows (run_in A cells) cells sights None
   fulfilled_head {b} e g = shown_none cells l A sights λ q f. let d = done_facts f in
       true_not_false (T→true (all is_zero (take 2 (drop 2 cells))) (zeros_two cells l d.timeless d.blameless))
-      (sym e ∙ not-true b g)
+      (sym e ∙ g)
 
-  pub fulfilled_used : {b : Bool} → b ≡ all is_zero (take 1 (drop 4 cells)) → not b ≡ true
-      → Shows (run_in A cells) cells sights Damaged
+  pub fulfilled_used : {b : Bool} → b ≡ all is_zero (take 1 (drop 4 cells)) → b ≡ false
+      → Shows (run_in A cells) cells sights None
   fulfilled_used {b} e g = shown_none cells l A sights λ q f. true_not_false
-      (T→true (all is_zero (take 1 (drop 4 cells))) (zeros_one cells l (done_facts f).unused)) (sym e ∙ not-true b g)
+      (T→true (all is_zero (take 1 (drop 4 cells))) (zeros_one cells l (done_facts f).unused)) (sym e ∙ g)
 
   pub fulfilled_rest : {b : Bool} → b ≡ all is_zero (take 3072 (drop 8 cells)) → b ≡ false
-      → Shows (run_in A cells) cells sights Damaged
+      → Shows (run_in A cells) cells sights None
   fulfilled_rest {b} e g = shown_none cells l A sights λ q f. true_not_false
       (T→true (all is_zero (drop 8 cells)) (done_facts f).rest)
       (ap (all is_zero) (sym (unit_cells cells l)) ∙ sym e ∙ g)
 
-  pub fulfilled_is : {a b c : Bool} → a ≡ all is_zero (take 2 (drop 2 cells)) → not a ≡ false
-      → b ≡ all is_zero (take 1 (drop 4 cells)) → not b ≡ false → c ≡ all is_zero (take 3072 (drop 8 cells)) → c ≡ true
-      → Shows (run_in A cells) cells sights Fulfilled
+  pub fulfilled_is : {a b c : Bool} → a ≡ all is_zero (take 2 (drop 2 cells)) → a ≡ true
+      → b ≡ all is_zero (take 1 (drop 4 cells)) → b ≡ true → c ≡ all is_zero (take 3072 (drop 8 cells)) → c ≡ true
+      → Shows (run_in A cells) cells sights (Some Fulfilled)
   unfolding Shows read_state
   fulfilled_is {a} {b} e g i j k m =
-      let two = two_zeros cells l (true→T (sym e ∙ not-false a g)) in
-      let one = one_zero cells l (true→T (sym i ∙ not-false b j)) in
+      let two = two_zeros cells l (true→T (sym e ∙ g)) in
+      let one = one_zero cells l (true→T (sym i ∙ j)) in
       let rest : T (all is_zero (drop 8 cells)) = true→T (ap (all is_zero) (sym (unit_cells cells l)) ∙ sym k ∙ m) in
       shows cells l A h done two.0 two.1 one (passes (all is_zero (drop 8 cells)) _ rest)
 
@@ -225,39 +225,41 @@ module _ (cells : List ℤ) (l : length cells ≡ 3080) (A : List ℕ) {time : �
       not_nought : (n : ℕ) → T (not (eqb n 0)) → n ≡ 0 → ⊥
       not_nought n t e = subst (λ (m : ℕ). T (not (eqb m 0))) e t
 
-  broken_none : (Broken → ⊥) → Shows (run_in A cells) cells sights Damaged
+  broken_none : (Broken → ⊥) → Shows (run_in A cells) cells sights None
   broken_none k = shown_none cells l A sights λ q f. k (broken_facts f)
 
-  pub breached_late : {when : ℕ} → when ≡ number_below (time + 1) (get_or cells 2 (pos 0)) → time < when
-      → Shows (run_in A cells) cells sights Damaged
-  breached_late e g = broken_none λ b. omega
-      (arith, below_not (time + 1) b.when (get_or cells 2 (pos 0)) (omega arith) b.is_when, b.to)
+  pub breached_late : None ≡ number_below (time + 1) (get_or cells 2 (pos 0))
+      → Shows (run_in A cells) cells sights None
+  breached_late e = broken_none λ b. omega
+      (arith, below_not (time + 1) b.when (get_or cells 2 (pos 0)) e b.is_when, b.to)
 
-  module _ {when : ℕ} (e : when ≡ number_below (time + 1) (get_or cells 2 (pos 0))) (g : when ≤ time) where
+  module _ {when : ℕ} (e : Some when ≡ number_below (time + 1) (get_or cells 2 (pos 0))) where
     is_when_lem : get_or cells 2 (pos 0) ≡ pos when
-    is_when_lem = below_is (time + 1) (get_or cells 2 (pos 0)) (omega arith) ∙ ap pos (sym e)
+    is_when_lem = (below_is (time + 1) when (get_or cells 2 (pos 0)) e).0
 
-    pub breached_before : {start : ℕ} → start ≡ le32 A 4 → when < start → Shows (run_in A cells) cells sights Damaged
+    until : when ≤ time
+    until = omega (arith, (below_is (time + 1) when (get_or cells 2 (pos 0)) e).1)
+
+    pub breached_before : {start : ℕ} → start ≡ le32 A 4 → when < start → Shows (run_in A cells) cells sights None
     breached_before s k = broken_none λ b. let same : b.when ≡ when = pos_inj (sym b.is_when ∙ is_when_lem) in
         omega (arith, b.from)
 
-  pub breached_wide : {bits : ℕ} → bits ≡ number_below 65_536 (get_or cells 3 (pos 0)) → bits ≡ 65_536
-      → Shows (run_in A cells) cells sights Damaged
-  breached_wide e g = broken_none λ b. omega
-      (arith, below_not 65_536 b.bits (get_or cells 3 (pos 0)) (omega arith) b.is_bits, b.small)
+  pub breached_wide : None ≡ number_below 65_536 (get_or cells 3 (pos 0))
+      → Shows (run_in A cells) cells sights None
+  breached_wide e = broken_none λ b. omega
+      (arith, below_not 65_536 b.bits (get_or cells 3 (pos 0)) e b.is_bits, b.small)
 
-  module _ {bits : ℕ} (e : bits ≡ number_below 65_536 (get_or cells 3 (pos 0))) (u : bits ≤ 65_536)
-      (g : bits ≡ 65_536 → ⊥) where
+  module _ {bits : ℕ} (e : Some bits ≡ number_below 65_536 (get_or cells 3 (pos 0))) where
     narrow : bits < 65_536
-    narrow = omega arith
+    narrow = (below_is 65_536 bits (get_or cells 3 (pos 0)) e).1
 
     is_bits_lem : get_or cells 3 (pos 0) ≡ pos bits
-    is_bits_lem = below_is 65_536 (get_or cells 3 (pos 0)) (omega (arith, narrow)) ∙ ap pos (sym e)
+    is_bits_lem = (below_is 65_536 bits (get_or cells 3 (pos 0)) e).0
 
     same_bits : (b : Broken) → b.bits ≡ bits
     same_bits b = pos_inj (sym b.is_bits ∙ is_bits_lem)
 
-    pub breached_nobody : bits ≡ 0 → Shows (run_in A cells) cells sights Damaged
+    pub breached_nobody : bits ≡ 0 → Shows (run_in A cells) cells sights None
     breached_nobody k = broken_none λ b. b.some_party (same_bits b ∙ k)
 
     in_mains : {mains : ℕ} {t : Bool} → mains ≡ bits_of (mains_of A) → t ≡ eqb (bit_or bits mains) mains
@@ -268,42 +270,40 @@ module _ (cells : List ℤ) (l : length cells ≡ 3080) (A : List ℕ) {time : �
         (λ q t. omega (arith, members_within 16 0 bits q t)))
 
     pub breached_others : {mains : ℕ} {t : Bool} → mains ≡ bits_of (mains_of A) → t ≡ eqb (bit_or bits mains) mains
-        → not t ≡ true → Shows (run_in A cells) cells sights Damaged
+        → t ≡ false → Shows (run_in A cells) cells sights None
     breached_others {t = t} m k n = broken_none λ b. true_not_false
         (T→true (subset (members b.bits) (mains_of A)) b.of_mains)
-        (ap (λ (y : ℕ). subset (members y) (mains_of A)) (same_bits b) ∙ sym (in_mains m k) ∙ not-true t n)
+        (ap (λ (y : ℕ). subset (members y) (mains_of A)) (same_bits b) ∙ sym (in_mains m k) ∙ n)
 
-  pub breached_used : {b : Bool} → b ≡ all is_zero (take 1 (drop 4 cells)) → not b ≡ true
-      → Shows (run_in A cells) cells sights Damaged
+  pub breached_used : {b : Bool} → b ≡ all is_zero (take 1 (drop 4 cells)) → b ≡ false
+      → Shows (run_in A cells) cells sights None
   breached_used {b} e g = broken_none λ f. true_not_false
-      (T→true (all is_zero (take 1 (drop 4 cells))) (zeros_one cells l f.unused)) (sym e ∙ not-true b g)
+      (T→true (all is_zero (take 1 (drop 4 cells))) (zeros_one cells l f.unused)) (sym e ∙ g)
 
-  pub breached_rest : {b : Bool} → b ≡ all is_zero (take 3072 (drop 8 cells)) → not b ≡ true
-      → Shows (run_in A cells) cells sights Damaged
+  pub breached_rest : {b : Bool} → b ≡ all is_zero (take 3072 (drop 8 cells)) → b ≡ false
+      → Shows (run_in A cells) cells sights None
   breached_rest {b} e g = broken_none λ f. true_not_false (T→true (all is_zero (drop 8 cells)) f.rest)
-      (ap (all is_zero) (sym (unit_cells cells l)) ∙ sym e ∙ not-true b g)
+      (ap (all is_zero) (sym (unit_cells cells l)) ∙ sym e ∙ g)
 
-  module _ {when start bits mains : ℕ} {s v w : Bool} {t : ℤ} where
-    pub breached_is : when ≡ number_below (time + 1) (get_or cells 2 (pos 0)) → when ≤ time → start ≡ le32 A 4
-        → start ≤ when → bits ≡ number_below 65_536 (get_or cells 3 (pos 0)) → bits ≤ 65_536 → (bits ≡ 65_536 → ⊥)
-        → (bits ≡ 0 → ⊥) → mains ≡ bits_of (mains_of A) → s ≡ eqb (bit_or bits mains) mains → not s ≡ false
-        → v ≡ all is_zero (take 1 (drop 4 cells)) → not v ≡ false → w ≡ all is_zero (take 3072 (drop 8 cells))
-        → not w ≡ false → t ≡ get_or cells 2 (pos 0) → Shows (run_in A cells) cells sights (Breached t bits)
+  module _ {when start bits mains : ℕ} {s v w : Bool} where
+    pub breached_is : Some when ≡ number_below (time + 1) (get_or cells 2 (pos 0)) → start ≡ le32 A 4
+        → start ≤ when → Some bits ≡ number_below 65_536 (get_or cells 3 (pos 0)) → (bits ≡ 0 → ⊥)
+        → mains ≡ bits_of (mains_of A) → s ≡ eqb (bit_or bits mains) mains → s ≡ true
+        → v ≡ all is_zero (take 1 (drop 4 cells)) → v ≡ true → w ≡ all is_zero (take 3072 (drop 8 cells)) → w ≡ true
+        → Shows (run_in A cells) cells sights (Some (Breached when bits))
     unfolding Shows read_state agreement_of
-    breached_is e g a b c u d n m k s₁ p v₁ q w₁ z =
+    breached_is e a b c n m k s₁ p v₁ q w₁ =
         let rest : T (all is_zero (drop 8 cells)) = true→T
-        (ap (all is_zero) (sym (unit_cells cells l)) ∙ sym q ∙ not-false w w₁) in
+        (ap (all is_zero) (sym (unit_cells cells l)) ∙ sym q ∙ w₁) in
         record {
-          time = when;
-          is_time = z ∙ is_when_lem e g;
-          small = narrow c u d;
-          shows = shows cells l A h (breach when (members bits)) (is_when_lem e g) (is_bits_lem c u d)
-              (one_zero cells l (true→T (sym p ∙ not-false v v₁)))
+          small = narrow c;
+          shows = shows cells l A h (breach when (members bits)) (is_when_lem e) (is_bits_lem c)
+              (one_zero cells l (true→T (sym p ∙ v₁)))
               (passes (leb (le32 A 4) when) _ (le→leb (le32 A 4) when (omega arith))
-              ∙ passes (leb when time) _ (le→leb when time g)
-              ∙ passes (ltb bits (2 ^ 16)) _ (lt→ltb bits (2 ^ 16) (narrow c u d))
+              ∙ passes (leb when time) _ (le→leb when time (until e))
+              ∙ passes (ltb bits (2 ^ 16)) _ (lt→ltb bits (2 ^ 16) (narrow c))
               ∙ passes (not (eqb bits 0)) _ (subst (λ (y : Bool). T (not y)) (sym (ne_eqb bits 0 n)) tt)
-              ∙ passes (subset (members bits) (mains_of A)) _ (true→T (sym (in_mains c u d m k) ∙ not-false s s₁))
+              ∙ passes (subset (members bits) (mains_of A)) _ (true→T (sym (in_mains c m k) ∙ s₁))
               ∙ passes (eqb 0 0) _ tt
               ∙ passes (all is_zero (drop 8 cells)) _ rest);
         }
@@ -345,26 +345,26 @@ module _ (cells : List ℤ) (l : length cells ≡ 3080) (A : List ℕ) {time : �
             (same_now cells l A h f) a₄;
       }
 
-  waits_none : (sights : List ℕ) → (Waits → ⊥) → Shows (run_in A cells) cells sights Damaged
+  waits_none : (sights : List ℕ) → (Waits → ⊥) → Shows (run_in A cells) cells sights None
   waits_none sights k = shown_none cells l A sights λ q f. k (waits_facts f)
 
-  pub running_head : {b : Bool} (sights : List ℕ) → b ≡ all is_zero (take 2 (drop 2 cells)) → not b ≡ true
-      → Shows (run_in A cells) cells sights Damaged
+  pub running_head : {b : Bool} (sights : List ℕ) → b ≡ all is_zero (take 2 (drop 2 cells)) → b ≡ false
+      → Shows (run_in A cells) cells sights None
   running_head {b} sights e g = waits_none sights λ w. true_not_false
       (T→true (all is_zero (take 2 (drop 2 cells))) (zeros_two cells l w.timeless w.blameless))
-      (sym e ∙ not-true b g)
+      (sym e ∙ g)
 
-  pub running_many : {n : ℕ} (sights : List ℕ) → n ≡ number_below 129 (get_or cells 4 (pos 0)) → n ≡ 129
-      → Shows (run_in A cells) cells sights Damaged
-  running_many sights e g = waits_none sights λ w. omega
-      (arith, below_not 129 w.used (get_or cells 4 (pos 0)) (omega arith) w.is_used, w.few)
+  pub running_many : (sights : List ℕ) → None ≡ number_below 129 (get_or cells 4 (pos 0))
+      → Shows (run_in A cells) cells sights None
+  running_many sights e = waits_none sights λ w. omega
+      (arith, below_not 129 w.used (get_or cells 4 (pos 0)) e w.is_used, w.few)
 
-  module _ {n : ℕ} (e : n ≡ number_below 129 (get_or cells 4 (pos 0))) (u : n ≤ 129) (g : n ≡ 129 → ⊥) where
+  module _ {n : ℕ} (e : Some n ≡ number_below 129 (get_or cells 4 (pos 0))) where
     pub fewer : n ≤ 128
-    fewer = omega arith
+    fewer = omega (arith, (below_is 129 n (get_or cells 4 (pos 0)) e).1)
 
     is_used_lem : get_or cells 4 (pos 0) ≡ pos n
-    is_used_lem = below_is 129 (get_or cells 4 (pos 0)) (omega (arith, fewer)) ∙ ap pos (sym e)
+    is_used_lem = (below_is 129 n (get_or cells 4 (pos 0)) e).0
 
     same_used : (w : Waits) → w.used ≡ n
     same_used w = pos_inj (sym w.is_used ∙ is_used_lem)
@@ -388,38 +388,39 @@ module _ (cells : List ℤ) (l : length cells ≡ 3080) (A : List ℕ) {time : �
         let k : 3072 - 24 * n ≡ 3080 - (8 + 24 * n) = omega (arith, fewer) in
         take_drop (24 * n) 3072 (drop 8 cells) ∙ ap₂ take k (drop-drop (24 * n) 8 cells)
 
-    module _ (sights : List ℕ) {r : Walk} (k : WalkIs A time n (take 3072 (drop 8 cells)) sights r) where
-      pub running_torn : r ≡ Torn → Shows (run_in A cells) cells sights Damaged
+    module _ (sights : List ℕ) {r : Maybe Tree} (k : WalkIs A time n (take 3072 (drop 8 cells)) sights r) where
+      pub running_torn : r ≡ None → Shows (run_in A cells) cells sights None
       unfolding WalkIs
       running_torn t = waits_none sights λ w.
           let none_there = rw t at k in
           let is = residue_read w in
           none_some (sym (none_there w.residue is.0 (omega (arith, is.1))) ∙ w.have)
 
-      module _ {m x : ℕ} (t : r ≡ Tree m x) where
-        tree_there : TreeAs A time n (take 3072 (drop 8 cells)) sights m x
+      module _ {tree : Tree} (t : r ≡ Some tree) where
+        tree_there : TreeAs A time n (take 3072 (drop 8 cells)) sights tree.units tree.bits
         unfolding WalkIs
         tree_there = rw t at k
 
-        pub running_other : (m ≡ n → ⊥) → Shows (run_in A cells) cells sights Damaged
+        pub running_other : (tree.units ≡ n → ⊥) → Shows (run_in A cells) cells sights None
         running_other f = waits_none sights λ w.
             let is = residue_read w in
             let same = reads_same (agreement_of A) tree_there.residue w.residue (take 3072 (drop 8 cells))
             tree_there.reads is.0 in
             f (tree_there.count ∙ ap units same ∙ is.1)
 
-        module _ (f : m ≡ n) {z : Bool} (e₂ : z ≡ all is_zero (take (3080 - (8 + 24 * n)) (drop (8 + 24 * n) cells)))
+        module _ (f : tree.units ≡ n) {z : Bool}
+            (e₂ : z ≡ all is_zero (take (3080 - (8 + 24 * n)) (drop (8 + 24 * n) cells)))
           where
-            pub running_more : z ≡ false → Shows (run_in A cells) cells sights Damaged
+            pub running_more : z ≡ false → Shows (run_in A cells) cells sights None
             running_more g = waits_none sights λ w. true_not_false (residue_read w).2
                 (ap (all is_zero) rest_cells ∙ sym e₂ ∙ g)
 
-            pub running_is : {b : Bool} → b ≡ all is_zero (take 2 (drop 2 cells)) → not b ≡ false → z ≡ true
-                → Shows (run_in A cells) cells sights (Running n)
+            pub running_is : {b : Bool} → b ≡ all is_zero (take 2 (drop 2 cells)) → b ≡ true → z ≡ true
+                → Shows (run_in A cells) cells sights (Some (Running n))
             unfolding Shows read_state single trees
             running_is {b} p q g =
                 let x = tree_there.residue in
-                let two = two_zeros cells l (true→T (sym p ∙ not-false b q)) in
+                let two = two_zeros cells l (true→T (sym p ∙ q)) in
                 let count : n ≡ units x = sym f ∙ tree_there.count in
                 let count₀ : n ≡ units x + 0 = omega (arith, count) in
                 let none-behind : trees (agreement_of A) 0 (drop (24 * units x) (take 3072 (drop 8 cells))) ≡ some
@@ -453,21 +454,24 @@ state_in_lem A d cells (suc (suc (suc zero))) o e = (omega arith, omega arith)
 state_in_lem A d cells (suc (suc (suc (suc n)))) o e = none_some e
 
 module _ (cells : List ℤ) (l : length cells ≡ 3080) (A : List ℕ) (sights : List ℕ) where
-  pub head_other : {r : ℕ} → r ≡ number_below 4 (get_or cells 0 (pos 0)) → (r ≡ 1 → ⊥) → (r ≡ 2 → ⊥) → (r ≡ 3 → ⊥)
-      → Shows (run_in A cells) cells sights Damaged
-  unfolding number_below
+  pub head_none : None ≡ number_below 4 (get_or cells 0 (pos 0)) → Shows (run_in A cells) cells sights None
+  head_none e = shown_none cells l A sights λ q f.
+      let s = state_in_lem A f.head (drop 8 cells) f.head.state f.outcome f.reads in
+      omega (arith, below_not 4 f.head.state (get_or cells 0 (pos 0)) e f.is_state)
+
+  pub head_other : {r : ℕ} → Some r ≡ number_below 4 (get_or cells 0 (pos 0)) → (r ≡ 1 → ⊥) → (r ≡ 2 → ⊥)
+      → (r ≡ 3 → ⊥) → Shows (run_in A cells) cells sights None
   head_other {r} e a b c = shown_none cells l A sights λ q f.
       let s = state_in_lem A f.head (drop 8 cells) f.head.state f.outcome f.reads in
-      let same : r ≡ f.head.state = e ∙ ap (number_below 4) f.is_state ∙ omega arith in
+      let same : r ≡ f.head.state = pos_inj (sym (below_is 4 r (get_or cells 0 (pos 0)) e).0 ∙ f.is_state) in
       omega arith
 
-  module _ {time : ℕ} (t : TimeIs A cells time) where
-    pub head_timeless : time ≡ 4_294_967_296 → Shows (run_in A cells) cells sights Damaged
-    head_timeless g = shown_none cells l A sights λ q f. omega (arith, t.only f.head.now f.times, f.times.to)
+  module _ (t : Maybe ℕ) (h : TimeIs A cells t) where
+    pub head_timeless : t ≡ None → Shows (run_in A cells) cells sights None
+    unfolding TimeIs
+    head_timeless g = shown_none cells l A sights λ q f. (rw g at h) f.head.now f.times
 
-    pub head_at : {r n : ℕ} → (time ≡ 4_294_967_296 → ⊥) → r ≡ number_below 4 (get_or cells 0 (pos 0)) → r ≡ n → n < 4
-        → HeadAt A cells n time
-    head_at g w i j = record {
-      is_state = below_is 4 (get_or cells 0 (pos 0)) (omega arith) ∙ ap pos (sym w ∙ i);
-      times = t.there (omega (arith, t.most));
-    }
+    pub head_at : {time r : ℕ} → t ≡ Some time → Some r ≡ number_below 4 (get_or cells 0 (pos 0))
+        → HeadAt A cells r time
+    unfolding TimeIs
+    head_at {r = r} g w = record { is_state = (below_is 4 r (get_or cells 0 (pos 0)) w).0; times = rw g at h }

@@ -1,16 +1,15 @@
 -- The tree of units at the front of the cells, as the code reads it and as csl's `trees` reads it from the last unit
 -- to the first.
 use mathlib.Core.Path.{◌≡◌, refl, sym, ap, ap₂, subst, ◌∙◌}
-use mathlib.Core.Bool.{Bool, true, false, cond, not, ◌||◌, true≢false}
+use mathlib.Core.Bool.{Bool, true, false, ◌||◌, true≢false}
 use mathlib.Core.List.{List, [], ◌∷◌, ◌++◌}
-use mathlib.Core.Logic.{inl}
+use mathlib.Core.Logic.{◌⊎◌, inl, inr}
 use mathlib.Core.Option.{Option, none, some}
 use Prim.Native.Nat.{ℕ, zero, suc, ◌+◌, ◌-◌, ◌*◌, ◌≤◌, ◌<◌}
 use native.Mathlib.Decide.{dec_le}
 use native.Mathlib.Omega.{arith}
-use borrow.Author.Tests.{ne_eqb, not-false, not-true}
 use lib.Bits.{bit_or}
-use lib.Dec.{T, leb, ltb, eqb, leb→le}
+use lib.Dec.{T, leb, ltb, leb→le}
 use lib.IntN.{ℤ, pos, negsuc}
 use lib.ListN.{length, get_or, take, drop, set, length-drop, length-append}
 use borrow.Rule.Slice.PartMut.{put_mid}
@@ -20,14 +19,13 @@ use Rattle.csl.specs.Lists.{◌>>=◌, need, all, at, split}
 use Rattle.csl.specs.Syntax.{Join, and, or, Agreement}
 use Rattle.csl.specs.Parties.{member, member_count, bits_of}
 use Rattle.csl.specs.Decode.{agreement_of}
-use Rattle.laws.specs.Joins.{join_of}
 use Rattle.csl.specs.Typing.{join_ok}
 use Rattle.csl.specs.Places.{clause_at}
 use Rattle.csl.specs.Values.{as_nat, values_of}
 use Rattle.csl.specs.Outcomes.{Sort, an_obligation, a_choice, Sight, Residue, unit, both, units}
 use Rattle.csl.specs.Table.{is_zero, as_nats, is_sort, waiting_unit, push, UnitSort, waiting, joining, unit_sort}
 use Rattle.csl.specs.Table.{add_unit}
-use Rattle.csl.specs.Table.{trees, residue_parties, sort_number, join_number}
+use Rattle.csl.specs.Table.{trees, residue_parties}
 use Rattle.laws.proofs.Options.{from_bind, from_need, some_bind, passes, some_inj, none_some}
 use Rattle.laws.proofs.PartyBits.{member_append}
 use Rattle.laws.proofs.Residues.{some_units}
@@ -35,36 +33,38 @@ use Rattle.laws.proofs.Bools.{T→true}
 use Rattle.parties.specs.Masks.{mask_of, ValidMembers}
 use Rattle.parties.proofs.Masks.{mask_bits, bits_small}
 use Rattle.csl.specs.Check.{mains_of}
+use Rattle.std.specs.Prelude.{Option as Maybe, Some, None}
+use Rattle.std.specs.Prelude.{Result, Ok, Err}
+use Rattle.std.specs.Result.{result_ok}
+use Rattle.laws.proofs.Clash.{impossible}
+use Rattle.kinds.specs.Kinds.{join_in, sort_in, wait_number, join_number as number_of_join, NamesWait, NamesJoin}
+use Rattle.kinds.specs.declared.Unknown.{Unknown}
+use Rattle.kinds.specs.declared.Join as kinds
+use Rattle.kinds.specs.declared.Join.TheVariants.{And, Or}
+use Rattle.kinds.specs.declared.WaitKind.{WaitKind}
+use Rattle.kinds.specs.declared.WaitKind.TheVariants.{Obligation, Choice}
 use Rattle.units.specs.declared.Waiting.{Waiting}
-use Rattle.units.specs.declared.Waiting.TheVariants.{Damaged as NoUnit, Of}
-use Rattle.units.specs.Cells.{number_below}
-use Rattle.units.specs.Units.{cells_in, sight_numbers, PartiesOf, WaitingIs, sort_of}
-use Rattle.units.proofs.Cells.{below_is}
+use Rattle.units.specs.Units.{cells_in, sight_numbers, PartiesOf, WaitingIs}
 use Rattle.units.proofs.Blames.{at_past, joined_bits}
 use Rattle.units.proofs.Waits.{option_none, split_takes, split_is}
-use Rattle.state.specs.declared.Walk.{Walk}
-use Rattle.state.specs.declared.Walk.TheVariants.{Damaged, Tree}
+use Rattle.state.specs.declared.Tree.{Tree}
 use Rattle.state.specs.declared.First.{First}
-use Rattle.state.specs.declared.First.TheVariants.{Waits, Joins, Nothing}
+use Rattle.state.specs.declared.First.TheVariants.{Waits, Joins}
 use Rattle.state.specs.Tree.{WaitsFirst, JoinsFirst, ReadsAs, FirstIs, TreeAs, WalkIs, SidesAs}
 
 bits_below : {n : ℕ} (ps : List ℕ) → n ≡ bits_of ps → n < 1_048_576
 bits_below ps e = omega (arith, bits_small ps)
 
 -- ---- the rule for joins
-pub join_and : {sort bits : ℕ} → sort ≡ 20 → (ps : List ℕ) → ((q : ℕ) → member q ps ≡ true → q < 16)
-    → bits ≡ bits_of ps → true ≡ join_ok (join_of sort) ps
-unfolding join_of join_ok
-join_and e ps f g = rw e
+pub join_and : {bits : ℕ} (ps : List ℕ) → ((q : ℕ) → member q ps ≡ true → q < 16) → bits ≡ bits_of ps
+    → true ≡ join_ok and ps
+unfolding join_ok
+join_and ps f g = refl
 
-pub join_or : {sort bits r : ℕ} → (sort ≡ 20 → ⊥)
-    → ((ps : List ℕ) → ValidMembers ps → bits ≡ mask_of ps → r ≡ member_count ps) → (ps : List ℕ)
-    → ((q : ℕ) → member q ps ≡ true → q < 16) → bits ≡ bits_of ps → leb r 1 ≡ join_ok (join_of sort) ps
-unfolding join_of join_ok
-join_or {sort} h m ps f g = rw (
-  ne_eqb sort 20 h,
-  m ps (record { each = λ q t. inl (f q t) }) (g ∙ sym (mask_bits ps f)),
-)
+pub join_or : {bits r : ℕ} → ((ps : List ℕ) → ValidMembers ps → bits ≡ mask_of ps → r ≡ member_count ps) → (ps : List ℕ)
+    → ((q : ℕ) → member q ps ≡ true → q < 16) → bits ≡ bits_of ps → leb r 1 ≡ join_ok or ps
+unfolding join_ok
+join_or m ps f g = rw (m ps (record { each = λ q t. inl (f q t) }) (g ∙ sym (mask_bits ps f)))
 
 module _ (a : List ℕ) (now : ℕ) (j : Join) {l r : Residue} {x y bits : ℕ} (p : PartiesOf a now l x)
     (q : PartiesOf a now r y) (e : bits ≡ bit_or x y) where
@@ -96,19 +96,13 @@ module _ (a : List ℕ) (now : ℕ) (j : Join) {l r : Residue} {x y bits : ℕ} 
     unfolding need ◌>>=◌
     both_none t = asked ∙ rw (sym ok ∙ t)
 
-sort_joining : (k : ℕ) → join_number (join_of k) ≡ k → unit_sort (pos k) ≡ some (joining (join_of k))
-sort_joining k e = subst (λ (n : ℕ). unit_sort (pos n) ≡ some (joining (join_of k))) e (go (join_of k))
-  where
-    go : (j : Join) → unit_sort (pos (join_number j)) ≡ some (joining j)
-    go and = unfold unit_sort join_number as_nat ◌>>=◌ need at in refl
-    go or = unfold unit_sort join_number as_nat ◌>>=◌ need at in refl
+sort_joining : (j : kinds.Join) → unit_sort (pos (number_of_join j)) ≡ some (joining (join_in j))
+sort_joining And = unfold unit_sort as_nat ◌>>=◌ need at in refl
+sort_joining Or = unfold unit_sort as_nat ◌>>=◌ need at in refl
 
-sort_waiting : (k : ℕ) → sort_number (sort_of k) ≡ k → unit_sort (pos k) ≡ some (waiting (sort_of k))
-sort_waiting k e = subst (λ (n : ℕ). unit_sort (pos n) ≡ some (waiting (sort_of k))) e (go (sort_of k))
-  where
-    go : (s : Sort) → unit_sort (pos (sort_number s)) ≡ some (waiting s)
-    go an_obligation = unfold unit_sort sort_number as_nat ◌>>=◌ need at in refl
-    go a_choice = unfold unit_sort sort_number as_nat ◌>>=◌ need at in refl
+sort_waiting : (w : WaitKind) → unit_sort (pos (wait_number w)) ≡ some (waiting (sort_in w))
+sort_waiting Obligation = unfold unit_sort as_nat ◌>>=◌ need at in refl
+sort_waiting Choice = unfold unit_sort as_nat ◌>>=◌ need at in refl
 
 -- ---- the two numbers before the others
 sights_put : (x y n : ℕ) (sights : List ℕ) → 2 ≤ length sights → take (2 * suc n) (set (set sights 0 x) 1 y) ≡ x ∷ y
@@ -118,24 +112,8 @@ sights_put x y n (p ∷ []) l = absurd (omega arith)
 sights_put x y n (p ∷ q ∷ sights) l = let e : 2 * suc n ≡ suc (suc (2 * n)) = omega arith in rw e refl
 
 -- ---- a unit by its sort
-pub join_number_lem : (k : ℕ) → 20 ≤ k → k < 22 → join_number (join_of k) ≡ k
-unfolding join_of
-join_number_lem k l u = go (dec_le k 20)
-  where
-    go : Dec (k ≤ 20) → join_number (cond (eqb k 20) and or) ≡ k
-    go (yes h) = let e : k ≡ 20 = omega arith in rw e (unfold join_number in refl)
-    go (no h) = let e : k ≡ 21 = omega arith in rw e (unfold join_number in refl)
-
-pub sort_number_lem : (k : ℕ) → 17 ≤ k → k < 19 → sort_number (sort_of k) ≡ k
-unfolding sort_of
-sort_number_lem k l u = go (dec_le k 17)
-  where
-    go : Dec (k ≤ 17) → sort_number (cond (eqb k 17) an_obligation a_choice) ≡ k
-    go (yes h) = let e : k ≡ 17 = omega arith in rw e (unfold sort_number in refl)
-    go (no h) = let e : k ≡ 18 = omega arith in rw e (unfold sort_number in refl)
-
-abbrev kinds : List (Option UnitSort)
-kinds = some (waiting an_obligation) ∷ some (waiting a_choice) ∷ none ∷ some (joining and) ∷ some (joining or) ∷ []
+abbrev sorts : List (Option UnitSort)
+sorts = some (waiting an_obligation) ∷ some (waiting a_choice) ∷ none ∷ some (joining and) ∷ some (joining or) ∷ []
 
 sort_from : (n : ℕ) (u : UnitSort) → unit_sort (pos n) ≡ some u → (17 ≤ n) × (n < 22) × (n ≡ 19 → ⊥)
 unfolding unit_sort at as_nat
@@ -143,39 +121,56 @@ sort_from n u e =
     from_bind (as_nat (pos n)) _ u e λ m a e₁.
     let same : m ≡ n = some_inj (sym a) in
     from_need (leb 17 m) _ u e₁ λ t e₂.
-    from_bind (at kinds (m - 17)) _ u e₂ λ o b e₃.
+    from_bind (at sorts (m - 17)) _ u e₂ λ o b e₃.
     let low = leb→le 17 m t in
     (omega arith, omega (arith, inside m b), λ h. middle m o b e₃ (omega arith))
   where
-    inside : (m : ℕ) {o : Option UnitSort} → at kinds (m - 17) ≡ some o → m < 22
+    inside : (m : ℕ) {o : Option UnitSort} → at sorts (m - 17) ≡ some o → m < 22
     inside m b = go (dec_le 22 m)
       where
         go : Dec (22 ≤ m) → m < 22
-        go (yes h) = none_some (sym (at_past kinds (m - 17) (omega arith)) ∙ b)
+        go (yes h) = none_some (sym (at_past sorts (m - 17) (omega arith)) ∙ b)
         go (no h) = omega arith
 
-    middle : (m : ℕ) (o : Option UnitSort) → at kinds (m - 17) ≡ some o → o ≡ some u → m ≡ 19 → ⊥
-    middle m o b e h = let third : some none ≡ some o = ap (λ (y : ℕ). at kinds (y - 17)) (sym h) ∙ b in
+    middle : (m : ℕ) (o : Option UnitSort) → at sorts (m - 17) ≡ some o → o ≡ some u → m ≡ 19 → ⊥
+    middle m o b e h = let third : some none ≡ some o = ap (λ (y : ℕ). at sorts (y - 17)) (sym h) ∙ b in
         none_some (some_inj third ∙ e)
 
-pub no_sort : {r : ℕ} (z : ℤ) → r ≡ number_below 22 z → (17 ≤ r → r < 19 → ⊥) → (20 ≤ r → r < 22 → ⊥)
-    → unit_sort z ≡ none
-unfolding unit_sort as_nat ◌>>=◌ number_below
-no_sort {r} z e f g = option_none (unit_sort z) (λ u h. go z e u h)
+-- what a number names
+pub wait_named : (n : ℕ) (r : Result WaitKind Unknown) → NamesWait n r → {w : WaitKind} → r ≡ Ok w → wait_number w ≡ n
+wait_named n r h e = rw e at h
+
+pub wait_unnamed : (n : ℕ) (r : Result WaitKind Unknown) → NamesWait n r → {u : Unknown} → r ≡ Err u
+    → (n < 17) ⊎ (18 < n)
+wait_unnamed n r h e = rw e at h
+
+module _ (n : ℕ) (r : Result kinds.Join Unknown) {o : Maybe kinds.Join} (q : o ≡ result_ok r) (h : NamesJoin n r) where
+  pub join_named : {j : kinds.Join} → o ≡ Some j → number_of_join j ≡ n
+  join_named {j} e = go r (sym q ∙ e) h
+    where
+      go : (r : Result kinds.Join Unknown) → result_ok r ≡ Some j → NamesJoin n r → number_of_join j ≡ n
+      go (Ok i) e h = let same : i ≡ j = cc in ap number_of_join (sym same) ∙ h
+      go (Err u) e h = impossible cc
+
+  pub join_unnamed : o ≡ None → (n < 20) ⊎ (21 < n)
+  join_unnamed e = go r (sym q ∙ e) h
+    where
+      go : (r : Result kinds.Join Unknown) → result_ok r ≡ None → NamesJoin n r → (n < 20) ⊎ (21 < n)
+      go (Ok i) e h = impossible cc
+      go (Err u) e h = h
+
+pub no_cell : (z : ℤ) → ((n : ℕ) → z ≡ pos n → ⊥) → unit_sort z ≡ none
+unfolding unit_sort as_nat ◌>>=◌
+no_cell (pos n) f = absurd (f n refl)
+no_cell (negsuc n) f = refl
+
+pub no_sort : (n : ℕ) → (n < 17) ⊎ (18 < n) → (n < 20) ⊎ (21 < n) → unit_sort (pos n) ≡ none
+no_sort n f g = option_none (unit_sort (pos n)) (λ u h. let s = sort_from n u h in apart s f g)
   where
-    go : (z : ℤ) → r ≡ number_below 22 z → (u : UnitSort) → unit_sort z ≡ some u → ⊥
-    go (pos n) e u h =
-        let s = sort_from n u h in
-        let k : r ≡ n = omega (arith, e, s.1) in
-        either (dec_le n 18) k s
-      where
-        either : Dec (n ≤ 18) → r ≡ n → (17 ≤ n) × (n < 22) × (n ≡ 19 → ⊥) → ⊥
-        either (yes l) k s = f (omega arith) (omega arith)
-        either (no l) k s = g (above s) (omega arith)
-          where
-            above : (17 ≤ n) × (n < 22) × (n ≡ 19 → ⊥) → 20 ≤ r
-            above s = omega arith
-    go (negsuc n) e u h = none_some h
+    apart : (17 ≤ n) × (n < 22) × (n ≡ 19 → ⊥) → (n < 17) ⊎ (18 < n) → (n < 20) ⊎ (21 < n) → ⊥
+    apart s (inl a) b = omega arith
+    apart s (inr a) (inl b) = s.2 (omega arith)
+    apart s (inr a) (inr b) = omega arith
 
 -- ---- csl's `trees` and the tree in prefix order
 module _ (ag : Agreement) where
@@ -370,32 +365,38 @@ module _ (ag : Agreement) where
               all_are g
 
 -- ---- the first unit
-pub no_kind : (cells : List ℤ) → unit_sort (get_or cells 0 (pos 0)) ≡ none → FirstIs cells Nothing
+pub no_kind : (cells : List ℤ) → unit_sort (get_or cells 0 (pos 0)) ≡ none → FirstIs cells None
 unfolding FirstIs ReadsAs
 no_kind cells e ag (unit s p t v) w = none_some (sym e ∙ w.is_sort)
 no_kind cells e ag (both j l r) w = none_some (sym e ∙ w.0.is_sort)
 
 -- r is what the code found
-pub is_waits : (cells : List ℤ) {r : First} {k : ℕ} → FirstIs cells r → r ≡ Waits k
-    → (sort_number (sort_of k) ≡ k) × (get_or cells 0 (pos 0) ≡ pos k)
+pub is_waits : (cells : List ℤ) {r : Maybe First} {w : WaitKind} → FirstIs cells r → r ≡ Some (Waits w)
+    → get_or cells 0 (pos 0) ≡ pos (wait_number w)
 unfolding FirstIs
 is_waits cells h e = rw e at h
 
-pub is_joins : (cells : List ℤ) {r : First} {k : ℕ} → FirstIs cells r → r ≡ Joins k → JoinsFirst (join_of k) cells
+pub is_joins : (cells : List ℤ) {r : Maybe First} {j : kinds.Join} → FirstIs cells r → r ≡ Some (Joins j)
+    → JoinsFirst (join_in j) cells
 unfolding FirstIs
 is_joins cells h e = rw e at h
 
-module _ (cells : List ℤ) (sort : ℕ) (first : get_or cells 0 (pos 0) ≡ pos sort) (k : join_number (join_of sort) ≡ sort)
-    {t : Bool} (h : t ≡ all is_zero (cells_in cells 1 24)) where
-  is_joining : unit_sort (get_or cells 0 (pos 0)) ≡ some (joining (join_of sort))
-  is_joining = ap unit_sort first ∙ sort_joining sort k
+pub waits_first : (cells : List ℤ) {n : ℕ} (w : WaitKind) → get_or cells 0 (pos 0) ≡ pos n → wait_number w ≡ n
+    → FirstIs cells (Some (Waits w))
+unfolding FirstIs
+waits_first cells w e h = e ∙ ap pos (sym h)
 
-  pub joins_cells : t ≡ false → FirstIs cells Nothing
+module _ (cells : List ℤ) {n : ℕ} (first : get_or cells 0 (pos 0) ≡ pos n) (j : kinds.Join)
+    (k : number_of_join j ≡ n) {t : Bool} (h : t ≡ all is_zero (cells_in cells 1 24)) where
+  is_joining : unit_sort (get_or cells 0 (pos 0)) ≡ some (joining (join_in j))
+  is_joining = ap unit_sort (first ∙ ap pos (sym k)) ∙ sort_joining j
+
+  pub joins_cells : t ≡ false → FirstIs cells None
   unfolding FirstIs ReadsAs
   joins_cells f ag (unit s p u v) w = sort_not ag w.is_sort is_joining
-  joins_cells f ag (both j l r) w = absurd (true≢false (sym w.0.zeros ∙ sym h ∙ f))
+  joins_cells f ag (both i l r) w = absurd (true≢false (sym w.0.zeros ∙ sym h ∙ f))
 
-  pub joins_first : 24 ≤ length cells → t ≡ true → FirstIs cells (Joins sort)
+  pub joins_first : 24 ≤ length cells → t ≡ true → FirstIs cells (Some (Joins j))
   unfolding FirstIs
   joins_first room f = record { room = room; is_sort = is_joining; zeros = sym h ∙ f }
 
@@ -404,50 +405,51 @@ module _ (a : List ℕ) (now n : ℕ) (cells : List ℤ) where
   abbrev ag : Agreement
   ag = agreement_of a
 
-  pub no_units : (sights : List ℕ) → n ≡ 0 → WalkIs a now n cells sights Damaged
+  pub no_units : (sights : List ℕ) → n ≡ 0 → WalkIs a now n cells sights None
   unfolding WalkIs
   no_units sights e r w few = absurd (omega (arith, some_units r))
 
-  pub no_first : (sights : List ℕ) → FirstIs cells Nothing → WalkIs a now n cells sights Damaged
+  pub no_first : (sights : List ℕ) → FirstIs cells None → WalkIs a now n cells sights None
   unfolding WalkIs FirstIs
   no_first sights f r w few = absurd (f ag r w)
 
-  module _ (sort : ℕ) (first : get_or cells 0 (pos 0) ≡ pos sort) where
-    module _ (k : sort_number (sort_of sort) ≡ sort) where
-      is_waiting : unit_sort (get_or cells 0 (pos 0)) ≡ some (waiting (sort_of sort))
-      is_waiting = ap unit_sort first ∙ sort_waiting sort k
+  module _ (wait : WaitKind) (first : get_or cells 0 (pos 0) ≡ pos (wait_number wait)) where
+    is_waiting : unit_sort (get_or cells 0 (pos 0)) ≡ some (waiting (sort_in wait))
+    is_waiting = ap unit_sort first ∙ sort_waiting wait
 
-      pub waits_not : {r : Waiting} (sights : List ℕ) → WaitingIs a now (sort_of sort) (cells_in cells 1 24) r
-          → r ≡ NoUnit → WalkIs a now n cells sights Damaged
-      unfolding WalkIs WaitingIs ReadsAs
-      waits_not sights h g q w few = go q w
-        where
-          there : (q : Residue) → WaitsFirst ag q cells → residue_parties ag (mains_of a) now q ≡ none
-          there q w =
-              let read : waiting_unit ag (sort_of sort) (cells_in cells 1 24) ≡ some q = ap
-              (λ (s : Sort). waiting_unit ag s (cells_in cells 1 24)) (sort_one ag is_waiting w.is_sort)
-              ∙ w.reads in
-              let none_there = rw g at h in
-              sym (some_bind (waiting_unit ag (sort_of sort) (cells_in cells 1 24)) _ q read) ∙ none_there
+    pub waits_not : {r : Maybe Waiting} (sights : List ℕ) → WaitingIs a now (sort_in wait) (cells_in cells 1 24) r
+        → r ≡ None → WalkIs a now n cells sights None
+    unfolding WalkIs WaitingIs ReadsAs
+    waits_not sights h g q w few = go q w
+      where
+        there : (q : Residue) → WaitsFirst ag q cells → residue_parties ag (mains_of a) now q ≡ none
+        there q w =
+            let read : waiting_unit ag (sort_in wait) (cells_in cells 1 24) ≡ some q = ap
+            (λ (s : Sort). waiting_unit ag s (cells_in cells 1 24)) (sort_one ag is_waiting w.is_sort)
+            ∙ w.reads in
+            let none_there = rw g at h in
+            sym (some_bind (waiting_unit ag (sort_in wait) (cells_in cells 1 24)) _ q read) ∙ none_there
 
-          go : (q : Residue) → ReadsAs ag q cells → residue_parties ag (mains_of a) now q ≡ none
-          go (unit s p t v) w = there (unit s p t v) w
-          go (both j l r) w = sort_not ag is_waiting w.0.is_sort
+        go : (q : Residue) → ReadsAs ag q cells → residue_parties ag (mains_of a) now q ≡ none
+        go (unit s p t v) w = there (unit s p t v) w
+        go (both j l r) w = sort_not ag is_waiting w.0.is_sort
 
-      pub waits_of : {r : Waiting} {bits i c : ℕ} (sights : List ℕ) → 24 ≤ length cells → 0 < n → 2 ≤ length sights
-          → WaitingIs a now (sort_of sort) (cells_in cells 1 24) r → r ≡ Of bits i c
-          → WalkIs a now n cells (set (set sights 0 i) 1 c) (Tree 1 bits)
-      unfolding WalkIs WaitingIs
-      waits_of {bits = bits} {i = i} {c = c} sights room Some-of two h g =
-          let w = rw g at h in
-          record {
-            residue = w.residue;
-            reads = (reads_unit ag (sort_of sort) cells w.residue room is_waiting w.is).0;
-            count = sym w.one;
-            few = omega arith;
-            parties = w.parties;
-            sighted = sights_put i c 0 sights two ∙ sym w.sights;
-          }
+    pub waits_of : {r : Maybe Waiting} {u : Waiting} {tree : Tree} (sights : List ℕ) → 24 ≤ length cells → 0 < n
+        → 2 ≤ length sights → WaitingIs a now (sort_in wait) (cells_in cells 1 24) r → r ≡ Some u
+        → tree.units ≡ 1 → tree.bits ≡ u.parties
+        → WalkIs a now n cells (set (set sights 0 u.params) 1 u.count) (Some tree)
+    unfolding WalkIs WaitingIs
+    waits_of {u = u} sights room Some-of two h g i j =
+        rw (i, j)
+        let w = rw g at h in
+        record {
+          residue = w.residue;
+          reads = (reads_unit ag (sort_in wait) cells w.residue room is_waiting w.is).0;
+          count = sym w.one;
+          few = omega arith;
+          parties = w.parties;
+          sighted = sights_put u.params u.count 0 sights two ∙ sym w.sights;
+        }
 
   -- the sides
   left_none : (j : Join) (l r : Residue) → residue_parties ag (mains_of a) now l ≡ none
@@ -463,17 +465,17 @@ module _ (a : List ℕ) (now n : ℕ) (cells : List ℤ) where
       from_bind (residue_parties ag (mains_of a) now r) _ ps f₁ λ rs g _. none_some (sym e ∙ g)
 
   module _ {j : Join} (first : JoinsFirst j cells) where
-    pub left_damaged : (sights sights₂ : List ℕ) {w : Walk} → WalkIs a now (n - 1) (drop 24 cells) sights w
-        → w ≡ Damaged → WalkIs a now n cells sights₂ Damaged
+    pub left_damaged : (sights sights₂ : List ℕ) {w : Maybe Tree} → WalkIs a now (n - 1) (drop 24 cells) sights w
+        → w ≡ None → WalkIs a now n cells sights₂ None
     unfolding WalkIs ReadsAs units
     left_damaged sights sights₂ h e (unit s p u v) q few = sort_not ag q.is_sort first.is_sort
     left_damaged sights sights₂ h e (both i l r) q few = let none_there = rw e at h in
         left_none i l r (none_there l q.1 (omega (arith, some_units r)))
 
-    pub right_damaged : (sights₂ sights₃ : List ℕ) {sights : List ℕ} {k x : ℕ} {w : Walk}
+    pub right_damaged : (sights₂ sights₃ : List ℕ) {sights : List ℕ} {k x : ℕ} {w : Maybe Tree}
         → TreeAs a now (n - 1) (drop 24 cells) sights k x
-        → WalkIs a now (n - 1 - k) (drop (24 + 24 * k) cells) sights₂ w → w ≡ Damaged
-        → WalkIs a now n cells sights₃ Damaged
+        → WalkIs a now (n - 1 - k) (drop (24 + 24 * k) cells) sights₂ w → w ≡ None
+        → WalkIs a now n cells sights₃ None
     unfolding WalkIs ReadsAs units
     right_damaged sights₂ sights₃ t h e (unit s p u v) q few = sort_not ag q.is_sort first.is_sort
     right_damaged sights₂ sights₃ {k = k} t h e (both i l r) q few =
@@ -482,8 +484,8 @@ module _ (a : List ℕ) (now n : ℕ) (cells : List ℤ) where
         right_none i l r (none_there r (subst (λ (y : ℕ). ReadsAs ag r (drop (24 + 24 * y) cells)) (sym same) q.2)
         (omega (arith, same)))
 
-pub tree_of : {a : List ℕ} {now n : ℕ} {cells : List ℤ} {sights : List ℕ} {w : Walk} {k x : ℕ}
-    → WalkIs a now n cells sights w → w ≡ Tree k x → TreeAs a now n cells sights k x
+pub tree_of : {a : List ℕ} {now n : ℕ} {cells : List ℤ} {sights : List ℕ} {w : Maybe Tree} {t : Tree}
+    → WalkIs a now n cells sights w → w ≡ Some t → TreeAs a now n cells sights t.units t.bits
 unfolding WalkIs
 tree_of h e = rw e at h
 
@@ -491,9 +493,9 @@ pub tree_bits : {a : List ℕ} {now n : ℕ} {cells : List ℤ} {sights : List �
     → TreeAs a now n cells sights k x → x < 1_048_576
 tree_bits t = bits_below t.parties.parties t.parties.same
 
-module _ (a : List ℕ) (now n sort : ℕ) (cells : List ℤ) {sights : List ℕ} {k x m y bits : ℕ} {ok : Bool}
-    (t : SidesAs a now n (join_of sort) cells sights k x m y) (u : bits ≡ bit_or x y)
-    (o : (ps : List ℕ) → ((q : ℕ) → member q ps ≡ true → q < 16) → bits ≡ bits_of ps → ok ≡ join_ok (join_of sort) ps)
+module _ (a : List ℕ) (now n : ℕ) (j : Join) (cells : List ℤ) {sights : List ℕ} {left right : Tree} {bits : ℕ}
+    {ok : Bool} (t : SidesAs a now n j cells sights left right) (u : bits ≡ bit_or left.bits right.bits)
+    (o : (ps : List ℕ) → ((q : ℕ) → member q ps ≡ true → q < 16) → bits ≡ bits_of ps → ok ≡ join_ok j ps)
   where
     abbrev l : Residue
     l = t.of_left.residue
@@ -501,7 +503,7 @@ module _ (a : List ℕ) (now n sort : ℕ) (cells : List ℤ) {sights : List ℕ
     abbrev r : Residue
     r = t.of_right.residue
 
-    whole_reads : ReadsAs (agreement_of a) (both (join_of sort) l r) cells
+    whole_reads : ReadsAs (agreement_of a) (both j l r) cells
     unfolding ReadsAs
     whole_reads = (
       t.joins,
@@ -509,29 +511,32 @@ module _ (a : List ℕ) (now n sort : ℕ) (cells : List ℤ) {sights : List ℕ
       subst (λ (i : ℕ). ReadsAs (agreement_of a) r (drop (24 + 24 * i) cells)) t.of_left.count t.of_right.reads,
     )
 
-    allowed : ok ≡ join_ok (join_of sort) (t.of_left.parties.parties ++ t.of_right.parties.parties)
-    allowed = o _ (both_small a now (join_of sort) t.of_left.parties t.of_right.parties u)
-        (both_bits a now (join_of sort) t.of_left.parties t.of_right.parties u)
+    allowed : ok ≡ join_ok j (t.of_left.parties.parties ++ t.of_right.parties.parties)
+    allowed = o _ (both_small a now j t.of_left.parties t.of_right.parties u)
+        (both_bits a now j t.of_left.parties t.of_right.parties u)
 
-    pub joins_not : not ok ≡ true → (sights₂ : List ℕ) → WalkIs a now n cells sights₂ Damaged
+    pub joins_not : ok ≡ false → (sights₂ : List ℕ) → WalkIs a now n cells sights₂ None
     unfolding WalkIs
     joins_not g sights₂ q w few = subst (λ (z : Residue). residue_parties (agreement_of a) (mains_of a) now z ≡ none)
-        (reads_same (agreement_of a) (both (join_of sort) l r) q cells whole_reads w)
-        (both_none a now (join_of sort) t.of_left.parties t.of_right.parties u allowed (not-true ok g))
+        (reads_same (agreement_of a) (both j l r) q cells whole_reads w)
+        (both_none a now j t.of_left.parties t.of_right.parties u allowed g)
 
-    pub joins_both : not ok ≡ false → 2 ≤ length sights
-        → WalkIs a now n cells (set (set sights 0 k) 1 0) (Tree (1 + k + m) bits)
+    pub joins_both : ok ≡ true → 2 ≤ length sights → {tree : Tree} → tree.units ≡ 1 + left.units + right.units
+        → tree.bits ≡ bits → WalkIs a now n cells (set (set sights 0 left.units) 1 0) (Some tree)
     unfolding WalkIs units sight_numbers
-    joins_both g two =
+    joins_both g two v w =
+        let k = left.units in
+        let m = right.units in
+        rw (v, w)
         let more : 1 + k + m ≡ suc (k + m) = omega arith in
         let twice : 2 * (k + m) ≡ 2 * k + 2 * m = omega arith in
         record {
-          residue = both (join_of sort) l r;
+          residue = both j l r;
           reads = whole_reads;
           count = omega (arith, t.of_left.count, t.of_right.count);
           few = omega (arith, t.some_units, t.of_left.few, t.of_right.few);
-          parties = both_parties a now (join_of sort) t.of_left.parties t.of_right.parties u allowed
-              (not-false ok g);
+          parties = both_parties a now j t.of_left.parties t.of_right.parties u allowed
+              g;
           sighted = ap (λ (i : ℕ). take (2 * i) (set (set sights 0 k) 1 0)) more ∙ sights_put k 0 (k + m) sights two
               ∙ ap₂ (λ (i : ℕ) (z : List ℕ). i ∷ 0 ∷ z) t.of_left.count
               (ap (λ (i : ℕ). take i (drop 2 sights)) twice ∙ take-add (2 * k) (2 * m) (drop 2 sights)
@@ -562,15 +567,14 @@ module _ (i : ℕ) (xs ys : List ℕ) (h : i ≤ length xs) where
   pub lent_room : 2 ≤ i → 2 ≤ length (lent i xs ys)
   lent_room e = rw (tail_put i xs ys h) (omega (arith, length-append (take i xs) ys, length-take-le i xs h))
 
-pub first_is : {r : ℕ} (z : ℤ) → r ≡ number_below 22 z → r < 22 → z ≡ pos r
-first_is z e h = below_is 22 z (omega arith) ∙ ap pos (sym e)
-
 -- both sides, in the sights that were lent to each
-pub sides_read : {a : List ℕ} {now n : ℕ} {j : Join} {cells : List ℤ} {k x m y : ℕ} (sights ls rs : List ℕ)
-    → JoinsFirst j cells → 0 < n → 2 + 2 * k ≤ length sights → length ls ≡ length sights - 2
-    → TreeAs a now (n - 1) (drop 24 cells) ls k x → TreeAs a now (n - 1 - k) (drop (24 + 24 * k) cells) rs m y
-    → SidesAs a now n j cells (lent (2 + 2 * k) (lent 2 sights ls) rs) k x m y
-sides_read {k = k} sights ls rs first Some-of room long l r =
+pub sides_read : {a : List ℕ} {now n : ℕ} {j : Join} {cells : List ℤ} (left right : Tree) (sights ls rs : List ℕ)
+    → JoinsFirst j cells → 0 < n → 2 + 2 * left.units ≤ length sights → length ls ≡ length sights - 2
+    → TreeAs a now (n - 1) (drop 24 cells) ls left.units left.bits
+    → TreeAs a now (n - 1 - left.units) (drop (24 + 24 * left.units) cells) rs right.units right.bits
+    → SidesAs a now n j cells (lent (2 + 2 * left.units) (lent 2 sights ls) rs) left right
+sides_read left right sights ls rs first Some-of room long l r =
+    let k = left.units in
     let two : 2 ≤ length sights = omega arith in
     let same : length (lent 2 sights ls) ≡ length sights = lent_length 2 sights ls two long in
     let enough : 2 + 2 * k ≤ length (lent 2 sights ls) = omega (arith, same) in

@@ -1,5 +1,6 @@
 -- The state that a table shows.
 use Rattle.std.specs.Prelude.{◌≡◌, List, ℕ, ◌*◌, ◌≤◌, ◌<◌, T, ℤ, pos, get_or, take, drop}
+use Rattle.std.specs.Prelude.{Option as Maybe, Some, None}
 use Rattle.std.proofs.Math.Option.{Option, none, some}
 use Rattle.csl.specs.Lists.{all}
 use Rattle.csl.specs.Bytes.{le32}
@@ -10,7 +11,7 @@ use Rattle.csl.specs.Table.{Run, is_zero, run_of}
 use Rattle.csl.specs.Check.{mains_of}
 use Rattle.units.specs.Units.{sight_numbers}
 use Rattle.state.specs.declared.State.{State}
-use Rattle.state.specs.declared.State.TheVariants.{Damaged, Running, Fulfilled, Breached}
+use Rattle.state.specs.declared.State.TheVariants.{Running, Fulfilled, Breached}
 
 -- o is a run with this outcome, and its last reading time stands in cell 1
 pub record RunShows (o : Option Run) (cells : List ℤ) (out : Outcome) : Type 0 where
@@ -28,17 +29,15 @@ pub record RunningAs (o : Option Run) (cells : List ℤ) (sights : List ℕ) (n 
   pub few : n ≤ 128
   pub sighted : take (2 * n) sights ≡ sight_numbers residue
 
-pub record BreachedAs (o : Option Run) (cells : List ℤ) (t : ℤ) (bits : ℕ) : Type 0 where
-  pub time : ℕ
-  pub is_time : t ≡ pos time
+pub record BreachedAs (o : Option Run) (cells : List ℤ) (time bits : ℕ) : Type 0 where
   pub small : bits < 65_536
   pub shows : RunShows o cells (breach time (members bits))
 
-unfoldable pub Shows : Option Run → List ℤ → List ℕ → State → Type 0
-Shows o cells sights Damaged = o ≡ none
-Shows o cells sights (Running n) = RunningAs o cells sights n
-Shows o cells sights Fulfilled = RunShows o cells done
-Shows o cells sights (Breached t bits) = BreachedAs o cells t bits
+unfoldable pub Shows : Option Run → List ℤ → List ℕ → Maybe State → Type 0
+Shows o cells sights None = o ≡ none
+Shows o cells sights (Some (Running n)) = RunningAs o cells sights n
+Shows o cells sights (Some Fulfilled) = RunShows o cells done
+Shows o cells sights (Some (Breached t bits)) = BreachedAs o cells t bits
 
 -- the run that csl reads
 abbrev pub run_in : List ℕ → List ℤ → Option Run
@@ -54,11 +53,10 @@ pub record TimesAt (a : List ℕ) (cells : List ℤ) (time : ℕ) : Type 0 where
   pub to : time < 4_294_967_296
   pub zeros : T (all is_zero (take 2 (drop 6 cells)))
 
--- r is the last reading time; it is too great for one where the head's times are none
-pub record TimeIs (a : List ℕ) (cells : List ℤ) (r : ℕ) : Type 0 where
-  pub only : (time : ℕ) → TimesAt a cells time → r ≡ time
-  pub there : r < 4_294_967_296 → TimesAt a cells r
-  pub most : r ≤ 4_294_967_296
+-- the last reading time, where the head's times are some
+unfoldable pub TimeIs : List ℕ → List ℤ → Maybe ℕ → Type 0
+TimeIs a cells None = (time : ℕ) → TimesAt a cells time → ⊥
+TimeIs a cells (Some time) = TimesAt a cells time
 
 -- the head's state and times
 pub record HeadAt (a : List ℕ) (cells : List ℤ) (state time : ℕ) : Type 0 where
@@ -66,6 +64,6 @@ pub record HeadAt (a : List ℕ) (cells : List ℤ) (state time : ℕ) : Type 0 
   pub times : TimesAt a cells time
 
 -- what a table with a fulfilled state shows
-abbrev pub FulfilledIs : List ℤ → State → Type 0
+abbrev pub FulfilledIs : List ℤ → Maybe State → Type 0
 FulfilledIs cells r = (a : List ℕ) (time : ℕ) (sights : List ℕ) → HeadAt a cells 2 time
     → Shows (run_in a cells) cells sights r

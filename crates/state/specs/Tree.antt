@@ -1,19 +1,20 @@
 -- The tree of units at the front of the cells: "An `and` or `or` unit is followed by all of its left side, then all
 -- of its right".
 use Rattle.std.specs.Prelude.{◌≡◌, true, List, ℕ, ◌+◌, ◌-◌, ◌*◌, ◌≤◌, ◌<◌, ℤ, pos, length, get_or, take, drop}
+use Rattle.std.specs.Prelude.{Option as Maybe, Some, None}
 use Rattle.std.proofs.Math.Option.{none, some}
 use Rattle.csl.specs.Lists.{all}
 use Rattle.csl.specs.Syntax.{Join, Agreement}
 use Rattle.csl.specs.Decode.{agreement_of}
-use Rattle.laws.specs.Joins.{join_of}
 use Rattle.csl.specs.Outcomes.{Sort, Residue, unit, both, units}
-use Rattle.csl.specs.Table.{is_zero, waiting_unit, waiting, joining, unit_sort, residue_parties, sort_number}
+use Rattle.csl.specs.Table.{is_zero, waiting_unit, waiting, joining, unit_sort, residue_parties}
 use Rattle.csl.specs.Check.{mains_of}
-use Rattle.units.specs.Units.{cells_in, PartiesOf, sight_numbers, sort_of}
+use Rattle.kinds.specs.Kinds.{join_in, wait_number}
+use Rattle.kinds.specs.declared.WaitKind.{WaitKind}
+use Rattle.units.specs.Units.{cells_in, PartiesOf, sight_numbers}
 use Rattle.state.specs.declared.First.{First}
-use Rattle.state.specs.declared.First.TheVariants.{Waits, Joins, Nothing}
-use Rattle.state.specs.declared.Walk.{Walk}
-use Rattle.state.specs.declared.Walk.TheVariants.{Damaged, Tree}
+use Rattle.state.specs.declared.First.TheVariants.{Waits, Joins}
+use Rattle.state.specs.declared.Tree.{Tree}
 
 -- the first unit waits and is read as r
 pub record WaitsFirst (ag : Agreement) (r : Residue) (cells : List ℤ) : Type 0 where
@@ -35,12 +36,11 @@ ReadsAs ag (both j l r) cells = JoinsFirst j cells × ReadsAs ag l (drop 24 cell
     × ReadsAs ag r (drop (24 + 24 * units l) cells)
 
 -- ---- what is asked for
--- the first unit waits, of kind k, and its cells and two sights are there
-pub record UnitFirst (now k : ℕ) (cells : List ℤ) (sights : List ℕ) : Type 0 where
+-- the first unit waits so, and its cells and two sights are there
+pub record UnitFirst (now : ℕ) (wait : WaitKind) (cells : List ℤ) (sights : List ℕ) : Type 0 where
   pub soon : now < 4_294_967_296
-  pub is_kind : sort_number (sort_of k) ≡ k
   pub long : 24 ≤ length cells
-  pub first : get_or cells 0 (pos 0) ≡ pos k
+  pub first : get_or cells 0 (pos 0) ≡ pos (wait_number wait)
   pub room : 2 ≤ length sights
 
 -- n units' cells and sights are there
@@ -60,26 +60,28 @@ pub record TreeAs (a : List ℕ) (now n : ℕ) (cells : List ℤ) (sights : List
   pub parties : PartiesOf a now residue bits
   pub sighted : take (2 * k) sights ≡ sight_numbers residue
 
--- damaged: no residue of at most n units that is as it should be stands at the front
-unfoldable pub WalkIs : List ℕ → ℕ → ℕ → List ℤ → List ℕ → Walk → Type 0
-WalkIs a now n cells sights Damaged = (r : Residue) → ReadsAs (agreement_of a) r cells → units r ≤ n
+-- none: no residue of at most n units that is as it should be stands at the front
+unfoldable pub WalkIs : List ℕ → ℕ → ℕ → List ℤ → List ℕ → Maybe Tree → Type 0
+WalkIs a now n cells sights None = (r : Residue) → ReadsAs (agreement_of a) r cells → units r ≤ n
     → residue_parties (agreement_of a) (mains_of a) now r ≡ none
-WalkIs a now n cells sights (Tree k bits) = TreeAs a now n cells sights k bits
+WalkIs a now n cells sights (Some t) = TreeAs a now n cells sights t.units t.bits
 
--- the first unit waits, of kind k, or is a join; where it is none, no residue stands at the front
-unfoldable pub FirstIs : List ℤ → First → Type 0
-FirstIs cells (Waits k) = (sort_number (sort_of k) ≡ k) × (get_or cells 0 (pos 0) ≡ pos k)
-FirstIs cells (Joins k) = JoinsFirst (join_of k) cells
-FirstIs cells Nothing = (ag : Agreement) (r : Residue) → ReadsAs ag r cells → ⊥
+-- the first unit waits so, or is a join; where it is none, no residue stands at the front
+unfoldable pub FirstIs : List ℤ → Maybe First → Type 0
+FirstIs cells (Some (Waits w)) = get_or cells 0 (pos 0) ≡ pos (wait_number w)
+FirstIs cells (Some (Joins j)) = JoinsFirst (join_in j) cells
+FirstIs cells None = (ag : Agreement) (r : Residue) → ReadsAs ag r cells → ⊥
 
--- a join's two sides, of k and m units, were read
-pub record SidesAs (a : List ℕ) (now n : ℕ) (j : Join) (cells : List ℤ) (sights : List ℕ) (k x m y : ℕ) : Type 0 where
+-- a join's two sides were read
+pub record SidesAs (a : List ℕ) (now n : ℕ) (j : Join) (cells : List ℤ) (sights : List ℕ) (left right : Tree) : Type
+    0 where
   pub joins : JoinsFirst j cells
   pub some_units : 0 < n
-  pub of_left : TreeAs a now (n - 1) (drop 24 cells) (drop 2 sights) k x
-  pub of_right : TreeAs a now (n - 1 - k) (drop (24 + 24 * k) cells) (drop (2 + 2 * k) sights) m y
+  pub of_left : TreeAs a now (n - 1) (drop 24 cells) (drop 2 sights) left.units left.bits
+  pub of_right : TreeAs a now (n - 1 - left.units) (drop (24 + 24 * left.units) cells)
+      (drop (2 + 2 * left.units) sights) right.units right.bits
 
 -- what stands at the front where they were
-abbrev pub JoinedIs : Join → ℕ → ℕ → ℕ → ℕ → List ℕ → List ℕ → Walk → Type 0
-JoinedIs j k x m y sights out r = (a : List ℕ) (now n : ℕ) (cells : List ℤ) → SidesAs a now n j cells sights k x m y
-    → WalkIs a now n cells out r
+abbrev pub JoinedIs : Join → Tree → Tree → List ℕ → List ℕ → Maybe Tree → Type 0
+JoinedIs j left right sights out r = (a : List ℕ) (now n : ℕ) (cells : List ℤ)
+    → SidesAs a now n j cells sights left right → WalkIs a now n cells out r

@@ -1,12 +1,16 @@
 -- The lines that the steps put are those of the definitions, case by case of the entries' answers.
-use mathlib.Core.Path.{◌≡◌, refl, sym, ap, ap₂, ◌∙◌}
+use mathlib.Core.Path.{◌≡◌, refl, sym, ap, ◌∙◌}
 use mathlib.Core.Bool.{Bool, true, false, not}
 use mathlib.Core.List.{List, [], ◌∷◌, ◌++◌, append_assoc}
-use Prim.Native.Nat.{ℕ, ◌+◌, ◌≤◌}
+use Prim.Native.Nat.{ℕ, ◌+◌, ◌^◌, ◌≤◌, ◌<◌}
 use borrow.Author.Tests.{eq-eqb, ne_eqb}
 use lib.Dec.{eqb}
 use lib.IntN.{ℤ, pos}
 use lib.ListN.{get_or}
+use lib.Signed.{mag}
+use mir.Syntax.{w64}
+use mir.Val.{of_z}
+use Rattle.arith.proofs.Ints.{eqb_bits}
 use Rattle.csl.specs.Numbers.{eq_z}
 use Rattle.csl.specs.Bytes.{le32}
 use Rattle.csl.specs.Early.{mark_of}
@@ -15,11 +19,11 @@ use Rattle.monitor.specs.declared.Refusal.{Refusal}
 use Rattle.monitor.specs.declared.Refusal.TheVariants.{AgreementLength, AgreementForm, AgreementTyping}
 use Rattle.monitor.specs.declared.Refusal.TheVariants.{AgreementGuards, AgreementWidth, TableLength, TableContent}
 use Rattle.monitor.specs.declared.Refusal.TheVariants.{ReadingForm, ReadingTyping, ReadingTime, Units}
-use Rattle.monitor.specs.declared.Started.{Started}
-use Rattle.monitor.specs.declared.Taken.{Taken}
-use Rattle.monitor.specs.declared.Started.TheVariants.{Begun, Refused as refusedStart}
-use Rattle.monitor.specs.declared.Taken.TheVariants.{Accepted, Refused as refusedReading}
-use Rattle.monitor.specs.Answers.{number_of, start_answer, taken_answer}
+use Rattle.std.specs.Prelude.{Option, Ok, Err}
+use Rattle.monitor.specs.declared.Accepted.{Accepted}
+use Rattle.monitor.specs.declared.Refused.{Refused}
+use Rattle.monitor.specs.declared.Breach.{Breach}
+use Rattle.monitor.specs.Answers.{Started, Taken, Foretold, number_of, start_answer, taken_answer, forecast_answer}
 use Rattle.lines.specs.Text.{decimal, fields, line, space, dash, live, done, breach}
 use Rattle.lines.specs.Lines.{forecast_fields, state_by, state_fields, verdict_fields, refusal_fields, answer_fields}
 use Rattle.lines.specs.Lines.{time_field, start_time, start_line, reading_time, reading_line}
@@ -33,34 +37,33 @@ pub line_put : (n : ℕ) (f : List ℕ) (fs : List (List ℕ)) {a b c : List ℕ
 unfolding line fields
 line_put n f fs p q = same_put (append_assoc (decimal n) (space ∷ f) (fields fs)) (then p q)
 
+-- ---- the forecast's fields, by what is foretold
+pub foretold_ahead : (r : Foretold) {o ahead : Option Breach} → r ≡ Ok o → o ≡ ahead
+    → forecast_fields (forecast_answer (Ok ahead)) ≡ forecast_fields (forecast_answer r)
+foretold_ahead r e f = rw (e, f) refl
+
+-- ---- what the code's tests of the state say
+module _ (z : ℤ) (n : ℕ) (h : mag z < 2 ^ 63) (small : n < 2 ^ 63) where
+  pub same_state : of_z w64 z ≡ n → eq_z z (pos n) ≡ true
+  same_state e = sym (eqb_bits z (pos n) (record { sfits = h }) (record { sfits = small })) ∙ eq-eqb (of_z w64 z) n e
+
+  pub other_state : (of_z w64 z ≡ n → ⊥) → eq_z z (pos n) ≡ false
+  other_state f = sym (eqb_bits z (pos n) (record { sfits = h }) (record { sfits = small })) ∙ ne_eqb (of_z w64 z) n f
+
 -- ---- the verdict, by the tests of the state
-module _ (s : List ℕ) (cells : List ℤ) {state : ℤ} (is : state ≡ get_or cells 0 (pos 0)) {two : Bool}
-    (asked-two : two ≡ eq_z state (pos 2)) where
-  state_two : {b : Bool} → two ≡ b → eq_z (get_or cells 0 (pos 0)) (pos 2) ≡ b
-  state_two e = ap (λ z. eq_z z (pos 2)) (sym is) ∙ sym asked-two ∙ e
-
-  pub verdict_done : two ≡ true → done ∷ [] ≡ verdict_fields s cells
+module _ (s : List ℕ) (cells : List ℤ) {state : ℤ} (is : state ≡ get_or cells 0 (pos 0)) where
+  pub verdict_done : eq_z state (pos 2) ≡ true → done ∷ [] ≡ verdict_fields s cells
   unfolding verdict_fields state_fields state_by
-  verdict_done e =
-      ap (λ b. state_by b (eq_z (get_or cells 0 (pos 0)) (pos 1)) (forecast_of s cells)) (sym (state_two e))
+  verdict_done e = rw (sym is, e) refl
 
-  module _ {f : Forecast} (foretold : f ≡ forecast_of s cells) (no : two ≡ false) {one : Bool}
-      (asked-one : one ≡ eq_z state (pos 1)) where
-    state_one : {b : Bool} → one ≡ b → b ≡ eq_z (get_or cells 0 (pos 0)) (pos 1)
-    state_one e = sym e ∙ asked-one ∙ ap (λ z. eq_z z (pos 1)) is
+  module _ {f : Forecast} (foretold : f ≡ forecast_of s cells) (no : eq_z state (pos 2) ≡ false) where
+    pub verdict_live : eq_z state (pos 1) ≡ true → live ∷ forecast_fields f ≡ verdict_fields s cells
+    unfolding verdict_fields state_fields state_by
+    verdict_live e = rw (sym is, no, e, foretold) refl
 
-    verdict_by : {b : Bool} → one ≡ b → state_by false b f ≡ verdict_fields s cells
-    unfolding verdict_fields state_fields
-    verdict_by {b} e = ap₂ (λ x y. state_by x y f) (sym (state_two no)) (state_one e)
-        ∙ ap (state_fields (get_or cells 0 (pos 0))) foretold
-
-    pub verdict_live : one ≡ true → live ∷ forecast_fields f ≡ verdict_fields s cells
-    unfolding state_by
-    verdict_live e = verdict_by e
-
-    pub verdict_breach : one ≡ false → breach ∷ forecast_fields f ≡ verdict_fields s cells
-    unfolding state_by
-    verdict_breach e = verdict_by e
+    pub verdict_breach : eq_z state (pos 1) ≡ false → breach ∷ forecast_fields f ≡ verdict_fields s cells
+    unfolding verdict_fields state_fields state_by
+    verdict_breach e = rw (sym is, no, e, foretold) refl
 
 -- ---- an answer's record
 abbrev answer_of : ℕ → List ℤ → Answer
@@ -126,7 +129,7 @@ not_zero_lem Units = refl
 -- ---- from an entry's answer and what was put to the step's promise
 module _ (s : List ℕ) (cells cells₂ : List ℤ) {out out₂ : List ℕ} {to : ℕ} where
   module _ {r : Started} (answered : start_answer r cells₂ ≡ start_of s cells) (room : to ≤ line_room) where
-    pub begins_refused : {why : Refusal} {number mid : ℕ} {out₁ : List ℕ} → r ≡ refusedStart why
+    pub begins_refused : {why : Refusal} {number mid : ℕ} {out₁ : List ℕ} → r ≡ Err why
         → number ≡ number_of why → Put (decimal 0 ++ (space ∷ dash)) out 0 out₁ mid
         → Put (fields (refusal_fields number)) out₁ mid out₂ to
         → Begins s cells cells₂ out out₂ (record { go = false; at = to })
@@ -142,12 +145,12 @@ module _ (s : List ℕ) (cells cells₂ : List ℤ) {out out₂ : List ℕ} {to 
           room = room;
         }
 
-    pub begins_begun : {time mid : ℕ} {out₁ : List ℕ} → r ≡ Begun → time ≡ le32 s 4
+    pub begins_begun : {begun : Unit {0}} {time mid : ℕ} {out₁ : List ℕ} → r ≡ Ok begun → time ≡ le32 s 4
         → Put (decimal 0 ++ (space ∷ decimal time)) out 0 out₁ mid
         → Put (fields (verdict_fields s cells₂)) out₁ mid out₂ to
         → Begins s cells cells₂ out out₂ (record { go = true; at = to })
     unfolding start_line start_time time_field answer_fields
-    begins_begun {time} is told p q =
+    begins_begun {begun} {time} is told p q =
         let a : answer_of 0 cells₂ ≡ start_of s cells = ap (λ x. start_answer x cells₂) (sym is) ∙ answered in
         record {
           line = same_put (ap (start_line s) a) (line_put 0 (decimal (le32 s 4)) (verdict_fields s cells₂)
@@ -159,7 +162,8 @@ module _ (s : List ℕ) (cells cells₂ : List ℤ) {out out₂ : List ℕ} {to 
 
   module _ (n : ℕ) (b : List ℕ) (at : ℕ) {r : Taken} (answered : taken_answer r cells₂ ≡ reading_of s cells b)
       (room : to ≤ at + line_room) where
-    pub follows_refused : {why : Refusal} {cost number : ℕ} → r ≡ refusedReading why cost → number ≡ number_of why
+    pub follows_refused : {why : Refusal} {cost number : ℕ} → r ≡ Err (record { why = why; cost = cost })
+        → number ≡ number_of why
         → Put (line n (reading_time b number ∷ refusal_fields number)) out at out₂ to
         → Follows s cells cells₂ n b out at out₂ (record { go = not (eqb number 8); at = to })
     follows_refused {why} {cost} {number} is told p =
@@ -173,14 +177,14 @@ module _ (s : List ℕ) (cells cells₂ : List ℤ) {out out₂ : List ℕ} {to 
           room = room;
         }
 
-    pub follows_accepted : {early : Bool} {cost time mid : ℕ} {out₁ : List ℕ} → r ≡ Accepted early cost
+    pub follows_accepted : {taken : Accepted} {time mid : ℕ} {out₁ : List ℕ} → r ≡ Ok taken
         → time ≡ le32 b 4
         → Put (decimal n ++ (space ∷ decimal time)) out at out₁ mid
         → Put (fields (verdict_fields s cells₂)) out₁ mid out₂ to
         → Follows s cells cells₂ n b out at out₂ (record { go = true; at = to })
     unfolding reading_line reading_time time_field answer_fields
-    follows_accepted {early} {cost} {time} is told p q =
-        let a : reading_answer_of 0 (mark_of early) cost cells₂ ≡ reading_of s cells b =
+    follows_accepted {taken} {time} is told p q =
+        let a : reading_answer_of 0 (mark_of taken.early) taken.cost cells₂ ≡ reading_of s cells b =
         ap (λ x. taken_answer x cells₂) (sym is) ∙ answered in
         record {
           line = same_put (ap (reading_line s n b) a)

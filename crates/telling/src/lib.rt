@@ -8,9 +8,8 @@ ghost use Rattle.lines.specs.Put.{Put};
 ghost use Rattle.monitor.specs.Answers.{forecast_answer};
 ghost use Rattle.telling.specs.Told.{line_room, Begins, Follows};
 
-use arith::equal;
 use lines::{put_bytes, put_decimal, put_next, put_refusal};
-use monitor::{Foretold, Started, Taken};
+use monitor::{Breach, Refusal, Refused};
 use octets::unsigned32;
 use records::START_AT;
 
@@ -18,19 +17,19 @@ use records::START_AT;
 pub const LINE_ROOM: usize = 96;
 
 // A forecast's time and parties, or NONE, and the line's end.
-fn put_forecast(out: &mut [u8], at: usize, foretold: Foretold) -> usize
+fn put_forecast(out: &mut [u8], at: usize, foretold: Result<Option<Breach>, Refusal>) -> usize
     requires { at + 43 ≤ length out.old }
     ensures puts { Put (fields (forecast_fields (forecast_answer foretold))) out.old at out.new result }
     ensures room { result ≤ at + 43 }
 {
     match foretold {
-        Foretold::Breach { time, parties } => {
+        Ok(Some(Breach { time, parties })) => {
             let a = put_next(out, at, time);
             let b = put_next(out, a, parties as u64);
             put_bytes(out, b, b"\n")
         }
-        Foretold::Nothing => put_bytes(out, at, b" NONE\n"),
-        Foretold::Refused(_) => put_bytes(out, at, b"\n"),
+        Ok(None) => put_bytes(out, at, b" NONE\n"),
+        Err(_) => put_bytes(out, at, b"\n"),
     }
 }
 
@@ -48,11 +47,11 @@ fn put_verdict(out: &mut [u8], at: usize, agreement: &[u8], table: &[i64]) -> us
     ensures room { result ≤ at + 50 }
 {
     let state = state_of(table);
-    if equal(state, 2) {
+    if state == 2 {
         return put_bytes(out, at, b" DONE\n");
     }
     let foretold = monitor::forecast(agreement, table);
-    if equal(state, 1) {
+    if state == 1 {
         let a = put_bytes(out, at, b" LIVE");
         return put_forecast(out, a, foretold);
     }
@@ -93,14 +92,14 @@ pub fn begin(agreement: &[u8], table: &mut [i64], out: &mut [u8]) -> Told
     ensures { Begins agreement.now table.old table.new out.old out.new result }
 {
     match monitor::start(agreement, table) {
-        Started::Refused(why) => {
+        Err(why) => {
             let a = put_timeless(out, 0, 0);
             Told {
                 go: false,
-                at: put_refusal(out, a, monitor::number(why)),
+                at: put_refusal(out, a, u32::from(why)),
             }
         }
-        Started::Begun => {
+        Ok(()) => {
             let a = put_time(out, 0, 0, unsigned32(agreement, START_AT));
             Told {
                 go: true,
@@ -138,14 +137,14 @@ pub fn follow(
         reading.now out.old at out.new result }
 {
     match monitor::reading(agreement, table, reading) {
-        Taken::Refused { why, cost: _ } => {
-            let number = monitor::number(why);
+        Err(Refused { why, cost: _ }) => {
+            let number = u32::from(why);
             Told {
                 at: put_refused(out, at, n, reading, number),
                 go: number != 8,
             }
         }
-        Taken::Accepted { early: _, cost: _ } => {
+        Ok(_) => {
             let a = put_time(out, at, n, unsigned32(reading, 4));
             Told {
                 go: true,

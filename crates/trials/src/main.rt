@@ -5,7 +5,7 @@
 // given last; 9, a name: length (2 bytes) and bytes. It takes the reading's place until the next.
 #![tactic(auto)]
 
-use monitor::{Checked, Foretold, Started, Taken};
+use monitor::{Accepted, Breach, Refusal, Refused};
 use octets::{byte, unsigned16, unsigned32};
 use std::io;
 use std::io::{Read, Write};
@@ -28,10 +28,10 @@ struct Turn {
 }
 
 // ---- lines
-fn started_number(started: Started) -> u32 {
+fn started_number(started: Result<(), Refusal>) -> u32 {
     match started {
-        Started::Begun => 0,
-        Started::Refused(refusal) => monitor::number(refusal),
+        Ok(()) => 0,
+        Err(refusal) => u32::from(refusal),
     }
 }
 
@@ -41,14 +41,14 @@ fn put_number(out: &mut [u8], at: usize, word: &[u8], number: u32) -> usize {
 }
 
 // The number, and the parties by bit.
-fn put_check(out: &mut [u8], at: usize, checked: Checked) -> usize {
+fn put_check(out: &mut [u8], at: usize, checked: Result<usize, Refusal>) -> usize {
     match checked {
-        Checked::Accepted(parties) => {
+        Ok(parties) => {
             let to = put_number(out, at, b"check", 0);
             put_next(out, to, parties as u64)
         }
-        Checked::Refused(refusal) => {
-            let to = put_number(out, at, b"check", monitor::number(refusal));
+        Err(refusal) => {
+            let to = put_number(out, at, b"check", u32::from(refusal));
             put_next(out, to, 0)
         }
     }
@@ -65,27 +65,27 @@ fn put_reading(out: &mut [u8], at: usize, number: u32, early: bool, cost: usize)
     put_next(out, then, cost as u64)
 }
 
-fn put_taken(out: &mut [u8], at: usize, taken: Taken) -> usize {
+fn put_taken(out: &mut [u8], at: usize, taken: Result<Accepted, Refused>) -> usize {
     match taken {
-        Taken::Accepted { early, cost } => put_reading(out, at, 0, early, cost),
-        Taken::Refused { why, cost } => put_reading(out, at, monitor::number(why), false, cost),
+        Ok(Accepted { early, cost }) => put_reading(out, at, 0, early, cost),
+        Err(Refused { why, cost }) => put_reading(out, at, u32::from(why), false, cost),
     }
 }
 
 // The number, and the time and parties by bit, or `none`.
-fn put_forecast(out: &mut [u8], at: usize, foretold: Foretold) -> usize {
+fn put_forecast(out: &mut [u8], at: usize, foretold: Result<Option<Breach>, Refusal>) -> usize {
     match foretold {
-        Foretold::Nothing => {
+        Ok(None) => {
             let to = put_number(out, at, b"forecast", 0);
             put_all(out, to, b" none")
         }
-        Foretold::Breach { time, parties } => {
+        Ok(Some(Breach { time, parties })) => {
             let to = put_number(out, at, b"forecast", 0);
             let then = put_next(out, to, time);
             put_next(out, then, parties as u64)
         }
-        Foretold::Refused(refusal) => {
-            let to = put_number(out, at, b"forecast", monitor::number(refusal));
+        Err(refusal) => {
+            let to = put_number(out, at, b"forecast", u32::from(refusal));
             put_all(out, to, b" none")
         }
     }

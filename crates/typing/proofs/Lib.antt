@@ -1,6 +1,5 @@
 pub mod Exprs
 pub mod Sights
-pub mod Clauses
 pub mod Instances
 pub mod Typings
 pub mod Templates

@@ -1,6 +1,6 @@
 -- Typing of a clause by its record: csl's rules in the shape in which the code goes by them.
 use mathlib.Core.Path.{◌≡◌, refl, sym, ap, ◌∙◌}
-use mathlib.Core.Bool.{Bool, true, false, cond}
+use mathlib.Core.Bool.{Bool, true, false, cond, ◌&&◌}
 use mathlib.Core.List.{List, [], ◌∷◌, ◌++◌}
 use mathlib.Core.Option.{Option, none, some}
 use Prim.Native.Nat.{ℕ, zero, suc, ◌+◌, ◌-◌, ◌<◌, ◌≤◌}
@@ -8,9 +8,13 @@ use native.Mathlib.Numerals.{sub-one}
 use native.Mathlib.Decide.{dec_le}
 use native.Mathlib.Omega.{arith}
 use borrow.Author.Tests.{ne_eqb, eq-eqb, lt-ltb, le-ltb, le-leb, lt-leb}
+use lib.Bits.{bit_or}
 use lib.Count.{ones}
 use lib.Dec.{eqb, leb, ltb}
-use lib.ListN.{length, take}
+use lib.ListN.{length}
+use Rattle.std.specs.Prelude.{Some, None}
+use Rattle.std.specs.Prelude as prelude
+use Rattle.arrayvec.specs.ArrayVec.{ArrayVec}
 use Rattle.csl.specs.Lists.{◌>>=◌, need, at}
 use Rattle.csl.specs.Bytes.{byte, part, is_record, kind_number, record_end}
 use Rattle.csl.specs.Parties.{member_count}
@@ -21,8 +25,9 @@ use Rattle.laws.specs.Joins.{join_of}
 use Rattle.csl.specs.Decode.{clause_head, clause, heads_of, agreement_of}
 use Rattle.csl.specs.Typing.{Names, names_of, blame_ok, has_type, join_ok, then_sight, type_wait, type_clause}
 use Rattle.laws.proofs.Options.{some_bind}
+use Rattle.laws.proofs.Bools.{by}
 use Rattle.laws.proofs.Clash.{impossible}
-use Rattle.records.specs.Index.{Indexed, first_clause}
+use Rattle.records.specs.Index.{Lists, first_clause}
 use Rattle.records.proofs.Trees.{kind_fulfilled, kind_instance, kind_no_clause_low, kind_no_clause_high, sided}
 use Rattle.records.proofs.Trees.{sided_choice, sided_if, sided_join, body_wait, body_two}
 use Rattle.records.proofs.Index.{heads_in_lem}
@@ -31,11 +36,9 @@ use Rattle.parties.proofs.Masks.{mask_nil, mask_append, mask_count, valid_append
 use Rattle.parties.proofs.Typed.{valid_typed, declared_valid}
 use Rattle.typing.specs.Types.{record_kind}
 use Rattle.typing.specs.Clauses.{names_in, seen_as, wait_sight, first_sight, first_end, typed_as, fulfilled_as}
-use Rattle.typing.specs.Clauses.{blamed_as, sides_as, joined_as}
-use Rattle.typing.specs.declared.Typed.{Typed}
-use Rattle.typing.specs.declared.Typed.TheVariants.{Parties, Untyped}
-use Rattle.typing.proofs.Sights.{seen_some, seen_none}
-use Rattle.typing.proofs.Instances.{untyped}
+use Rattle.typing.specs.Clauses.{sides_as}
+use Rattle.typing.proofs.Exprs.{kind_found}
+use Rattle.typing.proofs.Instances.{from_typed, from_untyped, untyped}
 
 -- ---- a clause's type does not go by its place
 module _ {A B : Type 0} where
@@ -147,23 +150,25 @@ module _ (n : Names) (env : List Ty) where
         pick (no h) (no g) = rw (sided_join e 0 s k t f (omega arith)) (typed_join k (omega arith) u)
 
 -- ---- a record by its kind's number
-no_kind : clause_kind 0 ≡ no_clause
-unfolding clause_kind
-no_kind = refl
-
-body_by : (hs : List Head) (e : List ℕ → Expr) (f : ℕ → List ℕ → Clause) (p : ℕ) (s : List ℕ) (n : ℕ) (b : Bool)
-    → clause_body hs e f p s (cond b (clause_kind n) no_clause) ≡ clause_body hs e f p s (clause_kind (cond b n 0))
-body_by hs e f p s n true = refl
-body_by hs e f p s n false = ap (clause_body hs e f p s) (sym no_kind)
-
-pub clause_is : (hs : List Head) (d p : ℕ) (s : List ℕ) {k : ℕ} → k ≡ record_kind d s
-    → clause hs d p s ≡ clause_body hs (expr (d - 1)) (clause hs (d - 1)) p s (clause_kind k)
+pub clause_none : (hs : List Head) (d p : ℕ) (s : List ℕ) → None ≡ record_kind d s → clause hs d p s ≡ bad_clause
 unfolding record_kind clause clause_head clause_body
-clause_is hs zero p s e = rw (e, no_kind)
-clause_is hs (suc d) p s e = rw (e, ne_eqb (suc d) 0 (λ q. omega arith), sub-one)
-    (body_by hs (expr d) (clause hs d) p s (kind_number s) (is_record s))
+clause_none hs zero p s e = refl
+clause_none hs (suc d) p s e = by (λ b. None ≡ cond b (Some (kind_number s)) None
+    → clause_body hs (expr d) (clause hs d) p s (cond b (clause_kind (kind_number s)) no_clause) ≡
+    bad_clause) (is_record s)
+    (λ _ i. impossible cc) (λ _ i. refl) (rw (lt-ltb 0 (suc d) (omega arith)) at e)
 
-module _ (n : Names) (env : List Ty) (hs : List Head) (d : ℕ) (s : List ℕ) {k : ℕ} (e : k ≡ record_kind d s) where
+pub clause_is : (hs : List Head) (d p : ℕ) (s : List ℕ) {k : ℕ} → Some k ≡ record_kind d s
+    → clause hs d p s ≡ clause_body hs (expr (d - 1)) (clause hs (d - 1)) p s (clause_kind k)
+unfolding clause clause_head
+clause_is hs d p s {k} e = let h = kind_found d s e in go d h.0 h.1 h.2
+  where
+    go : (d : ℕ) → 0 < d → is_record s ≡ true → kind_number s ≡ k
+        → clause hs d p s ≡ clause_body hs (expr (d - 1)) (clause hs (d - 1)) p s (clause_kind k)
+    go zero h i j = absurd (omega arith)
+    go (suc d) h i j = rw (sub-one, i, j)
+
+module _ (n : Names) (env : List Ty) (hs : List Head) (d : ℕ) (s : List ℕ) {k : ℕ} (e : Some k ≡ record_kind d s) where
   -- the clause within, at whatever place
   child : (ts : List Ty) (a z : ℕ) → type_clause n ts (clause hs (d - 1) (0 + a) (part s a z)) ≡ type_clause n ts
       (clause hs (d - 1) 0 (part s a z))
@@ -207,37 +212,27 @@ module _ (n : Names) (env : List Ty) (hs : List Head) (d : ℕ) (s : List ℕ) {
 
 -- ---- parties by bit
 sides_typed : (b : Bool) (ps : List ℕ) (m : ℕ) → m ≡ member_count ps
-    → cond b (cond (ltb 1 m) Untyped (Parties (mask_of ps))) (Parties (mask_of ps)) ≡ typed_as
+    → cond (b && ltb 1 m) None (Some (mask_of ps)) ≡ typed_as
     (need (cond b (leb (member_count ps) 1) true) >>= λ _. some ps)
 unfolding typed_as need ◌>>=◌
 sides_typed true ps m e = pick (dec_le m 1)
   where
-    pick : Dec (m ≤ 1) → cond (ltb 1 m) Untyped (Parties (mask_of ps)) ≡ typed_as
+    pick : Dec (m ≤ 1) → cond (ltb 1 m) None (Some (mask_of ps)) ≡ typed_as
         (need (leb (member_count ps) 1) >>= λ _. some ps)
     pick (yes h) = rw (← e, le-ltb 1 m h, le-leb m 1 h)
     pick (no h) = rw (← e, lt-ltb 1 m (omega arith), lt-leb m 1 (omega arith))
 sides_typed false ps m e = refl
 
-joined_typed : (k : ℕ) (o p : Option (List ℕ)) → ((ps : List ℕ) → o ≡ some ps → ValidMembers ps)
-    → ((qs : List ℕ) → p ≡ some qs → ValidMembers qs)
-    → joined_as k (typed_as o) (typed_as p) ≡ typed_as (both_sides k o p)
-unfolding typed_as joined_as sides_as ◌>>=◌
-joined_typed k none p f g = refl
-joined_typed k (some ps) none f g = refl
-joined_typed k (some ps) (some qs) f g = rw (← mask_append ps qs)
-    (sides_typed (eqb k 21) (ps ++ qs) (ones (mask_of (ps ++ qs)))
-    (mask_count (ps ++ qs) (valid_append (f ps refl) (g qs refl))))
-
-blamed_typed : (b : ℕ) (o : Option (List ℕ))
-    → blamed_as (mask_of (b ∷ [])) (typed_as o) ≡ typed_as (o >>= λ ps. some (b ∷ ps))
-unfolding typed_as blamed_as ◌>>=◌
-blamed_typed b none = refl
-blamed_typed b (some ps) = ap Parties (sym (mask_append (b ∷ []) ps))
+joined_typed : (k : ℕ) (ps qs : List ℕ) → ValidMembers ps → ValidMembers qs
+    → sides_as k (mask_of ps) (mask_of qs) ≡ typed_as (both_sides k (some ps) (some qs))
+unfolding ◌>>=◌
+joined_typed k ps qs f g = rw (← mask_append ps qs)
+    (sides_typed (eqb k 21) (ps ++ qs) (ones (mask_of (ps ++ qs))) (mask_count (ps ++ qs) (valid_append f g)))
 
 four : (n : Names) (env : List Ty) (b : Bool)
-    → cond b (Parties 0) Untyped ≡ typed_as (type_clause n env (cond b fulfilled bad_clause))
+    → cond b (Some 0) None ≡ typed_as (type_clause n env (cond b fulfilled bad_clause))
 unfolding typed_as type_clause
-four n env true = ap Parties (sym mask_nil)
+four n env true = ap Some (sym mask_nil)
 four n env false = refl
 
 -- the blame byte's bit, where it is allowed
@@ -256,79 +251,104 @@ bit_is : (g : List ℕ) (params : ℕ) (s : List ℕ) {b ps v : ℕ} → b ≡ b
 unfolding blame_ok names_of agreement_of
 bit_is g params s {b} {ps} p w j h = j.is ∙ rw (p, w, h)
 
-module _ {places g : List ℕ} (x : Indexed places g) (params : ℕ) (few : params ≤ 4) where
-  pub valid : (env : List Ty) (c : Clause) (ps : List ℕ) → type_clause (names_in g params) env c ≡ some ps
-      → ValidMembers ps
-  unfolding names_of agreement_of
-  valid env c = valid_typed (names_in g params) x.few_parties few
-      (λ k h q. declared_valid g k h (rw (heads_in_lem g) at q)) c env
+pub valid : {g : List ℕ} (x : Lists g) (params : ℕ) → params ≤ 4 → (env : List Ty) (c : Clause) (ps : List ℕ)
+    → type_clause (names_in g params) env c ≡ some ps → ValidMembers ps
+unfolding names_of agreement_of
+valid {g} x params few env c = valid_typed (names_in g params) x.few_parties few
+    (λ k h q. declared_valid g k h (rw (heads_in_lem g) at q)) c env
 
-  module _ (bs : List ℕ) (d : ℕ) (s : List ℕ) {k : ℕ} (e : k ≡ record_kind d s) where
-    pub clause_fulfilled : {r : Typed} → k ≡ 16 → r ≡ fulfilled_as (length s)
-        → r ≡ typed_as (type_clause (names_in g params) (tys_of bs) (clause (heads_of g) d 0 s))
-    unfolding clause_body fulfilled_as
+module _ (g : List ℕ) (params : ℕ) (bs : List ℕ) (d : ℕ) (s : List ℕ) where
+  abbrev of_clause : prelude.Option ℕ
+  of_clause = typed_as (type_clause (names_in g params) (tys_of bs) (clause (heads_of g) d 0 s))
+
+  pub clause_untyped : None ≡ record_kind d s → None ≡ of_clause
+  unfolding type_clause
+  clause_untyped e = untyped (rw (clause_none (heads_of g) d 0 s e))
+
+  module _ {k : ℕ} (e : Some k ≡ record_kind d s) where
+    pub clause_fulfilled : {r : prelude.Option ℕ} → k ≡ 16 → r ≡ fulfilled_as (length s) → r ≡ of_clause
+    unfolding clause_body
     clause_fulfilled h q = q ∙ rw (clause_is (heads_of g) d 0 s e, kind_fulfilled h)
         (four (names_in g params) (tys_of bs) (eqb (length s) 4))
 
-    pub clause_instance : {r : Typed} → k ≡ 22
+    pub clause_instance : {r : prelude.Option ℕ} → k ≡ 22
         → r ≡ typed_as (type_clause (names_in g params) (tys_of bs)
-        (instance_of (expr (d - 1)) s (at (heads_of g) (byte s 4))))
-        → r ≡ typed_as (type_clause (names_in g params) (tys_of bs) (clause (heads_of g) d 0 s))
+        (instance_of (expr (d - 1)) s (at (heads_of g) (byte s 4)))) → r ≡ of_clause
     unfolding clause_body
     clause_instance h q = q ∙ rw (clause_is (heads_of g) d 0 s e, kind_instance h)
 
-    pub clause_low : k < 16
-        → Untyped ≡ typed_as (type_clause (names_in g params) (tys_of bs) (clause (heads_of g) d 0 s))
+    pub clause_low : k < 16 → None ≡ of_clause
     unfolding clause_body type_clause
     clause_low l = untyped (rw (clause_is (heads_of g) d 0 s e, kind_no_clause_low k l))
 
-    pub clause_high : (k ≡ 22 → ⊥) → 22 ≤ k
-        → Untyped ≡ typed_as (type_clause (names_in g params) (tys_of bs) (clause (heads_of g) d 0 s))
+    pub clause_high : (k ≡ 22 → ⊥) → 22 ≤ k → None ≡ of_clause
     unfolding clause_body type_clause
     clause_high h l = untyped (rw (clause_is (heads_of g) d 0 s e, kind_no_clause_high k (omega arith)))
 
-    module _ (n : k ≡ 16 → ⊥) (l : 16 ≤ k) (u : k < 22) (r : ℕ) (out : List ℕ)
-        (q : first_sight (names_in g params) (tys_of bs) (expr (d - 1)) k s ≡ seen_as r out) where
-      pub clause_refused : 16 < r → Untyped ≡ typed_as
-          (type_clause (names_in g params) (tys_of bs) (clause (heads_of g) d 0 s))
-      clause_refused m = untyped (typed_none (names_in g params) (tys_of bs) (heads_of g) d s e (omega arith) u
-          (q ∙ seen_none r out m))
+    module _ (n : k ≡ 16 → ⊥) (l : 16 ≤ k) (u : k < 22) where
+      pub clause_refused : first_sight (names_in g params) (tys_of bs) (expr (d - 1)) k s ≡ seen_as None → None ≡
+          of_clause
+      unfolding seen_as
+      clause_refused q = untyped (typed_none (names_in g params) (tys_of bs) (heads_of g) d s e (omega arith) u q)
 
-      -- a is where the first clause part ends, t what the code found of it
-      module _ (m : r ≤ 16) {c a : ℕ} {t : Typed} (i : c ≡ first_clause k s) (j : a ≡ first_end k s c)
-          (f : t ≡ typed_as (type_clause (names_in g params) (tys_of (take r out))
-          (clause (heads_of g) (d - 1) 0 (part s c a)))) where
-        pub clause_wait : {b ps v : ℕ} {z : Typed} → k ≡ 17 → b ≡ byte s 4 → ps ≡ byte g 8 → BlameMask ps params b v
-            → z ≡ blamed_as v t → z ≡ typed_as (type_clause (names_in g params) (tys_of bs) (clause (heads_of g) d 0 s))
-        unfolding first_end
-        clause_wait {v = v} h p w y z =
-            let part_then = clause (heads_of g) (d - 1) 0 (part s c (length s)) in
-            let first = q ∙ seen_some r out m in
-            let bit : v ≡ mask_of (byte s 4 ∷ []) = bit_is g params s p w y
-            (blame_allowed (names_in g params) (tys_of bs) (expr (d - 1)) s (tys_of (take r out)) (rw h at first)) in
+      -- ys are the types that the first clause part sees, and a is where that part ends
+      module _ (v : ArrayVec ℕ) (q : first_sight (names_in g params) (tys_of bs) (expr (d - 1)) k s ≡ seen_as (Some v))
+          {ys : List ℕ} (y : ys ≡ v.items) {c a : ℕ} (i : c ≡ first_clause k s) (j : a ≡ first_end k s c) where
+        abbrev first_part : Option (List ℕ)
+        first_part = type_clause (names_in g params) (tys_of ys) (clause (heads_of g) (d - 1) 0 (part s c a))
+
+        abbrev second_part : Option (List ℕ)
+        second_part = type_clause (names_in g params) (tys_of bs) (clause (heads_of g) (d - 1) 0 (part s a (length s)))
+
+        sees : first_sight (names_in g params) (tys_of bs) (expr (d - 1)) k s ≡ some (tys_of ys)
+        unfolding seen_as
+        sees = q ∙ rw y
+
+        by_wait : k ≡ 17 → type_clause (names_in g params) (tys_of bs) (clause (heads_of g) d 0 s)
+            ≡ (first_part >>= λ ps. some (byte s 4 ∷ ps))
+        by_wait h =
             let end : a ≡ length s = j ∙ rw (eq-eqb k 17 h) in
-            let typed = typed_wait (names_in g params) (tys_of bs) (heads_of g) d s e h i
+            rw end (typed_wait (names_in g params) (tys_of bs) (heads_of g) d s e h i
             ∙ some_bind (first_sight (names_in g params) (tys_of bs) (expr (d - 1)) k s)
-            (after_first (names_in g params) part_then (byte s 4)) (tys_of (take r out)) first in
-            z ∙ rw (f, end, bit) (blamed_typed (byte s 4)
-            (type_clause (names_in g params) (tys_of (take r out)) part_then) ∙ ap typed_as (sym typed))
+            (after_first (names_in g params) (clause (heads_of g) (d - 1) 0 (part s c (length s))) (byte s 4))
+            (tys_of ys) sees)
 
-        pub clause_two : {u z : Typed} → (k ≡ 17 → ⊥)
-            → u ≡ typed_as (type_clause (names_in g params) (tys_of bs)
-            (clause (heads_of g) (d - 1) 0 (part s a (length s)))) → z ≡ joined_as k t u
-            → z ≡ typed_as (type_clause (names_in g params) (tys_of bs) (clause (heads_of g) d 0 s))
-        unfolding first_end
-        clause_two h w z =
-            let left = clause (heads_of g) (d - 1) 0 (part s c a) in
-            let right = clause (heads_of g) (d - 1) 0 (part s a (length s)) in
-            let first = q ∙ seen_some r out m in
+        by_two : (k ≡ 17 → ⊥) → type_clause (names_in g params) (tys_of bs) (clause (heads_of g) d 0 s)
+            ≡ both_sides k first_part second_part
+        by_two h =
             let end : a ≡ record_end s c = j ∙ rw (ne_eqb k 17 h) in
-            let typed = typed_two (names_in g params) (tys_of bs) (heads_of g) d s e (omega arith) u i end
+            typed_two (names_in g params) (tys_of bs) (heads_of g) d s e (omega arith) u i end
             ∙ some_bind (first_sight (names_in g params) (tys_of bs) (expr (d - 1)) k s)
-            (λ ts. both_sides k (type_clause (names_in g params) ts left)
-            (type_clause (names_in g params) (tys_of bs) right)) (tys_of (take r out)) first in
-            z ∙ rw (f, w) (joined_typed k (type_clause (names_in g params) (tys_of (take r out)) left)
-            (type_clause (names_in g params) (tys_of bs) right) (valid (tys_of (take r out)) left)
-            (valid (tys_of bs) right) ∙ ap typed_as (sym typed))
+            (λ ts. both_sides k (type_clause (names_in g params) ts (clause (heads_of g) (d - 1) 0 (part s c a)))
+            second_part) (tys_of ys) sees
 
-pub ruleset clauses = (clause_fulfilled, clause_instance, clause_high)
+        pub clause_first_none : None ≡ typed_as first_part → None ≡ of_clause
+        unfolding ◌>>=◌
+        clause_first_none f = pick (dec_le k 17)
+          where
+            pick : Dec (k ≤ 17) → None ≡ of_clause
+            pick (yes h) = untyped (by_wait (omega arith) ∙ rw (from_untyped first_part f))
+            pick (no h) = untyped (by_two (λ z. h (omega arith)) ∙ rw (from_untyped first_part f))
+
+        module _ {m : ℕ} (f : Some m ≡ typed_as first_part) where
+          pub clause_wait : {b ps w r : ℕ} → k ≡ 17 → b ≡ byte s 4 → ps ≡ byte g 8 → BlameMask ps params b w
+              → r ≡ bit_or w m → Some r ≡ of_clause
+          unfolding typed_as ◌>>=◌
+          clause_wait {w = w} h p z y x =
+              let bit : w ≡ mask_of (byte s 4 ∷ []) = bit_is g params s p z y
+              (blame_allowed (names_in g params) (tys_of bs) (expr (d - 1)) s (tys_of ys) (rw h at sees)) in
+              from_typed first_part f (λ ps o t. rw (by_wait h, o)
+              (ap Some (x ∙ rw (bit, t) (sym (mask_append (byte s 4 ∷ []) ps)))))
+
+          pub clause_second_none : (k ≡ 17 → ⊥) → None ≡ typed_as second_part → None ≡ of_clause
+          unfolding ◌>>=◌
+          clause_second_none h w = from_typed first_part f (λ ps o t.
+              untyped (by_two h ∙ rw (o, from_untyped second_part w)))
+
+          pub clause_two : {o : ℕ} {r : prelude.Option ℕ} → Lists g → params ≤ 4 → (k ≡ 17 → ⊥)
+              → Some o ≡ typed_as second_part → r ≡ sides_as k m o → r ≡ of_clause
+          clause_two x few h w z = from_typed first_part f (λ ps o t. from_typed second_part w (λ qs o₂ t₂.
+              let both : type_clause (names_in g params) (tys_of bs) (clause (heads_of g) d 0 s)
+              ≡ both_sides k (some ps) (some qs) = by_two h ∙ rw (o, o₂) in
+              z ∙ rw (t, t₂, both) (joined_typed k ps qs (valid x params few (tys_of ys) _ ps o)
+              (valid x params few (tys_of bs) _ qs o₂))))

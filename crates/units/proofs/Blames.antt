@@ -8,7 +8,10 @@ use native.Mathlib.Decide.{dec_le}
 use native.Mathlib.Nat.{le_of_suc-le-suc}
 use native.Mathlib.Numerals.{add-one}
 use native.Mathlib.Omega.{arith}
-use borrow.Author.Tests.{lt-ltb, le-ltb}
+use borrow.Author.Tests.{lt-ltb, le-ltb, ltb-true, ltb-false}
+use denote.Ref.{Bor}
+use Rattle.std.specs.Prelude.{Option as Maybe, Some, None, is_some, unwrap_or, IfSome, option_copied}
+use Rattle.std.proofs.lemmas.List.{get_or_read}
 use lib.Bits.{bit_or}
 use lib.Dec.{T, ltb, eqb, eqb→eq}
 use lib.ListN.{length, get_or, take}
@@ -69,6 +72,14 @@ module _ (params : List ℕ) (b : ℕ) where
 
   pub stands_none : 128 ≤ b → length params ≤ b - 128 → 0 ≡ stands_for params b
   stands_none l h = sym (stands_from none (by_byte false (le-ltb b 128 l) ∙ at_past params (b - 128) h))
+
+  -- what `get` finds of the parameters, or else 0
+  pub stands_got : 128 ≤ b → (o : Maybe (Bor ℕ)) → is_some o ≡ ltb (b - 128) (length params)
+      → IfSome o (λ x. x.now ≡ get_or params (b - 128) x.now) → unwrap_or (option_copied o) 0 ≡ stands_for params b
+  stands_got l None e h = stands_none l (ltb-false (b - 128) (length params) (sym e))
+  stands_got l (Some x) e h =
+      let i = ltb-true (b - 128) (length params) (sym e) in
+      get_or_read params (b - 128) x.now i h 0 ∙ stands_param l i
 
 -- ---- bits
 pub joined_bits : {a b r : ℕ} (ps qs : List ℕ) → a ≡ bits_of ps → b ≡ bits_of qs → r ≡ bit_or a b

@@ -1,56 +1,81 @@
 -- Cells read as numbers, parties and values.
 use mathlib.Core.Path.{◌≡◌, refl, sym, ap, ◌∙◌}
-use mathlib.Core.Bool.{true, false, ◌&&◌, and-true, and_assoc}
+use mathlib.Core.Bool.{Bool, true, false, cond, ◌&&◌, and-true, and_assoc}
 use mathlib.Core.List.{List, [], ◌∷◌, ◌++◌, append-nil, append_assoc}
 use mathlib.Core.Option.{Option, none, some}
 use Prim.Native.Nat.{ℕ, zero, suc, ◌+◌, ◌-◌, ◌^◌, ◌≤◌, ◌<◌}
 use native.Mathlib.Numerals.{add-one}
 use native.Mathlib.Omega.{arith}
 use borrow.Author.Tests.{lt-ltb, le-ltb, ne_eqb, ltb-true, ltb-false}
-use lib.Dec.{T, eqb, ltb}
+use lib.Dec.{eqb, ltb}
 use lib.IntN.{ℤ, pos, negsuc, nat_abs}
-use lib.ListN.{length, get_or, take, drop, set}
-use lib.Seq.{drop-cons, take-suc-set, drop-length}
+use lib.ListN.{length, get_or, drop, length-append}
+use lib.Seq.{drop-cons, drop-length}
 use lib.Bits.{bit_or, or_zero_l, or_add_and, and_le_r}
-use lib.Signed.{mag, lt_z, non_neg}
+use lib.Signed.{mag}
 use mir.Syntax.{w64}
-use mir.Val.{Fits, SFits, sel, of_z, to_z}
-use Rattle.arith.proofs.Ints.{seen, index_asked, index_given}
-use Rattle.arith.proofs.Linear.{not_negative}
+use mir.Val.{sel, of_z, to_z}
 use Rattle.csl.specs.Lists.{◌>>=◌, need, all}
+use Rattle.std.specs.Prelude.{Option as Maybe, Some, None, Result, Ok, Err, unsigned_abs}
+use Rattle.std.specs.Bool.{then_some}
+use Rattle.std.specs.Int.{FitsUnsignedBits}
+use Rattle.std.specs.Result.{OkIff, result_ok}
 use Rattle.laws.proofs.Bools.{by}
+use Rattle.laws.proofs.Clash.{impossible}
 use Rattle.csl.specs.Values.{as_nat}
 use Rattle.csl.specs.Table.{is_zero}
 use Rattle.units.specs.Cells.{number_below, parties_in}
 
--- ---- a number below end
-pub below_negative : (end : ℕ) (z : ℤ) → lt_z z (pos 0) ≡ true → (end ≡ number_below end z) × (end ≤ end)
+-- ---- a number below end, and what it says of the cell
+pub below_is : (end n : ℕ) (z : ℤ) → Some n ≡ number_below end z → (z ≡ pos n) × (n < end)
 unfolding number_below
-below_negative end (pos n) h = absurd (omega (arith, ltb-true n 0 h))
-below_negative end (negsuc n) h = (refl, omega arith)
+below_is end n (pos m) h = go (ltb m end) refl h
+  where
+    go : (b : Bool) → ltb m end ≡ b → Some n ≡ cond b (Some m) None → (pos m ≡ pos n) × (n < end)
+    go true e h = let same : n ≡ m = cc in (ap pos (sym same), omega (arith, ltb-true m end e))
+    go false e h = impossible cc
+below_is end n (negsuc m) h = impossible cc
 
-module _ {z : ℤ} (f : SFits w64 z) (h : lt_z (seen z) (pos 0) ≡ false) where
-  pub below_asked : T (non_neg (seen z)) × Fits w64 (nat_abs (seen z))
-  below_asked = index_asked f (not_negative f h)
-
-  pub below_small : (end : ℕ) → nat_abs (seen z) < end
-      → (nat_abs (seen z) ≡ number_below end z) × (nat_abs (seen z) ≤ end)
-  unfolding number_below
-  below_small end l = (omega arith ∙ ap (number_below end) (index_given f (not_negative f h)), omega arith)
-
-  pub below_large : (end : ℕ) → end ≤ nat_abs (seen z) → (end ≡ number_below end z) × (end ≤ end)
-  unfolding number_below
-  below_large end l = (omega arith ∙ ap (number_below end) (index_given f (not_negative f h)), omega arith)
-
--- what it says of the cell
-pub below_is : (end : ℕ) (z : ℤ) → number_below end z < end → z ≡ pos (number_below end z)
+pub below_not : (end n : ℕ) (z : ℤ) → None ≡ number_below end z → z ≡ pos n → end ≤ n
 unfolding number_below
-below_is end (pos n) h = ap pos (omega arith)
-below_is end (negsuc n) h = absurd (omega arith)
+below_not end n z h e = go (ltb n end) refl (rw e at h)
+  where
+    go : (b : Bool) → ltb n end ≡ b → None ≡ cond b (Some n) None → end ≤ n
+    go true e h = impossible cc
+    go false e h = omega (arith, ltb-false n end e)
 
-pub below_not : (end n : ℕ) (z : ℤ) → end ≤ number_below end z → z ≡ pos n → end ≤ n
+-- what `try_from` says of a cell
+module _ {E : Type 0} (z : ℤ) (t : Result ℕ E) (o : Maybe ℕ) (e : o ≡ result_ok t)
+    (h : OkIff t (FitsUnsignedBits 64 z) (unsigned_abs z))
+  where
+    pub not_natural : mag z < 2 ^ 63 → o ≡ None → (n : ℕ) → z ≡ pos n → ⊥
+    not_natural f g n same = go t (sym e ∙ g) (rw same at h)
+      where
+        go : (t : Result ℕ E) → result_ok t ≡ None → OkIff t (n < 2 ^ 64) n → ⊥
+        go (Ok x) g h = impossible cc
+        go (Err x) g h = h (let l : mag (pos n) < 2 ^ 63 = rw same at f in omega arith)
+
+    pub natural : (n : ℕ) → o ≡ Some n → z ≡ pos n
+    natural n g = go z t (sym e ∙ g) h
+      where
+        go : (z : ℤ) (t : Result ℕ E) → result_ok t ≡ Some n → OkIff t (FitsUnsignedBits 64 z) (unsigned_abs z)
+            → z ≡ pos n
+        go (pos m) (Ok x) g h = let l : m ≡ n = (let q = h.1 in cc) in ap pos l
+        go (negsuc m) (Ok x) g h = absurd h.0
+        go z (Err x) g h = impossible cc
+
+pub below_none : (end : ℕ) (z : ℤ) → ((n : ℕ) → z ≡ pos n → ⊥) → None ≡ number_below end z
 unfolding number_below
-below_not end n z h e = let g = rw e at h in omega arith
+below_none end (pos n) f = absurd (f n refl)
+below_none end (negsuc n) f = refl
+
+pub below_some : (end n : ℕ) (z : ℤ) → z ≡ pos n → then_some (ltb n end) n ≡ number_below end z
+unfolding number_below
+below_some end n z e = rw e (go (ltb n end))
+  where
+    go : (b : Bool) → then_some b n ≡ cond b (Some n) None
+    go true = refl
+    go false = refl
 
 -- ---- zeros
 -- a cell is zero if it has no ones, and so are two cells if they have none together
@@ -97,61 +122,57 @@ module _ (zs : List ℤ) where
       sym (f.1 ∙ rw (e, drop-length zs, and-true (is_zero (to_z w64 ones)), ← bits_none ones))
 
 -- ---- parties
-party_is : {r : ℕ} (ps : ℕ) (z : ℤ) (rest : List ℤ) → r ≡ number_below ps z → r ≤ ps → (r ≡ ps → ⊥)
+party_is : {r : ℕ} (ps : ℕ) (z : ℤ) (rest : List ℤ) → Some r ≡ number_below ps z
     → parties_in ps (z ∷ rest) ≡ (parties_in ps rest >>= λ ns. some (r ∷ ns))
-unfolding parties_in number_below as_nat need ◌>>=◌
-party_is {r} ps (pos n) rest e l h =
-    let same : n ≡ r = omega arith in
-    rw (same, lt-ltb r ps (omega arith)) refl
-party_is {r} ps (negsuc n) rest e l h = absurd (h e)
+unfolding parties_in as_nat need ◌>>=◌
+party_is {r} ps z rest e = let b = below_is ps r z e in rw (b.0, lt-ltb r ps b.1) refl
 
-party_not : {r : ℕ} (ps : ℕ) (z : ℤ) (rest : List ℤ) → r ≡ number_below ps z → r ≡ ps → parties_in ps (z ∷ rest) ≡ none
-unfolding parties_in number_below as_nat need ◌>>=◌
-party_not ps (pos n) rest e h = rw (le-ltb n ps (omega arith)) refl
-party_not ps (negsuc n) rest e h = refl
+party_not : (ps : ℕ) (z : ℤ) (rest : List ℤ) → None ≡ number_below ps z → parties_in ps (z ∷ rest) ≡ none
+unfolding parties_in as_nat need ◌>>=◌
+party_not ps (pos n) rest e = rw (le-ltb n ps (below_not ps n (pos n) e refl)) refl
+party_not ps (negsuc n) rest e = refl
 
 module _ (zs : List ℤ) (ps : ℕ) where
-  -- i cells are in out, and the rest follow
-  pub record Reads (out : List ℕ) (i : ℕ) : Type 0 where
+  -- i cells are the parties `own`, and the rest follow
+  pub record Reads (own : List ℕ) (i : ℕ) : Type 0 where
     pub bounded : i ≤ length zs
-    pub same : parties_in ps zs ≡ (parties_in ps (drop i zs) >>= λ ns. some (take i out ++ ns))
+    pub same : parties_in ps zs ≡ (parties_in ps (drop i zs) >>= λ ns. some (own ++ ns))
+    pub count : length own ≡ i
 
-  pub reads_first : (out : List ℕ) → Reads out 0
+  pub reads_first : Reads [] 0
   unfolding ◌>>=◌
-  reads_first out = record { bounded = omega arith; same = go (parties_in ps zs) }
+  reads_first = record { bounded = omega arith; same = go (parties_in ps zs); count = refl }
     where
       go : (o : Option (List ℕ)) → o ≡ (o >>= λ ns. some ([] ++ ns))
       go none = refl
       go (some ns) = refl
 
-  module _ {out : List ℕ} {i r : ℕ} (l : i < length zs) (e : r ≡ number_below ps (get_or zs i (pos 0)))
-      (h : Reads out i)
-    where
-      pub reads_more : r ≤ ps → (r ≡ ps → ⊥) → i < length out → Reads (set out i r) (i + 1)
-      unfolding ◌>>=◌
-      reads_more u f k = record {
-        bounded = omega arith;
-        same = h.same
-            ∙ rw (
-              drop-cons zs i (pos 0) l,
-              party_is ps (get_or zs i (pos 0)) (drop (suc i) zs) e u f,
-              add-one i,
-              take-suc-set out i r k,
-            ) (go (parties_in ps (drop (suc i) zs)));
-      }
-        where
-          go : (o : Option (List ℕ)) → ((o >>= λ ns. some (r ∷ ns)) >>= λ ns. some (take i out ++ ns)) ≡
-              (o >>= λ ns. some ((take i out ++ (r ∷ [])) ++ ns))
-          go none = refl
-          go (some ns) = ap some (sym (append_assoc (take i out) (r ∷ []) ns))
+  module _ {own : List ℕ} {i : ℕ} (l : i < length zs) (h : Reads own i) where
+    pub reads_more : {r : ℕ} → Some r ≡ number_below ps (get_or zs i (pos 0)) → Reads (own ++ (r ∷ [])) (i + 1)
+    unfolding ◌>>=◌
+    reads_more {r} e = record {
+      bounded = omega arith;
+      same = h.same
+          ∙ rw (
+            drop-cons zs i (pos 0) l,
+            party_is ps (get_or zs i (pos 0)) (drop (suc i) zs) e,
+            add-one i,
+          ) (go (parties_in ps (drop (suc i) zs)));
+      count = length-append own (r ∷ []) ∙ omega (arith, h.count);
+    }
+      where
+        go : (o : Option (List ℕ)) → ((o >>= λ ns. some (r ∷ ns)) >>= λ ns. some (own ++ ns)) ≡
+            (o >>= λ ns. some ((own ++ (r ∷ [])) ++ ns))
+        go none = refl
+        go (some ns) = ap some (sym (append_assoc own (r ∷ []) ns))
 
-      pub reads_not : r ≡ ps → parties_in ps zs ≡ none
-      unfolding ◌>>=◌
-      reads_not f = h.same
-          ∙ rw (drop-cons zs i (pos 0) l, party_not ps (get_or zs i (pos 0)) (drop (suc i) zs) e f) refl
+    pub reads_not : None ≡ number_below ps (get_or zs i (pos 0)) → parties_in ps zs ≡ none
+    unfolding ◌>>=◌
+    reads_not e = h.same
+        ∙ rw (drop-cons zs i (pos 0) l, party_not ps (get_or zs i (pos 0)) (drop (suc i) zs) e) refl
 
-  pub reads_last : {out : List ℕ} {i : ℕ} → length zs ≤ i → Reads out i → parties_in ps zs ≡ some (take (length zs) out)
+  pub reads_last : {own : List ℕ} {i : ℕ} → length zs ≤ i → Reads own i → parties_in ps zs ≡ some own
   unfolding ◌>>=◌ parties_in
-  reads_last {out} {i} l h =
+  reads_last {own} {i} l h =
       let e : i ≡ length zs = omega (arith, h.bounded) in
-      h.same ∙ rw (e, drop-length zs) (ap some (append-nil (take (length zs) out)))
+      h.same ∙ rw (e, drop-length zs) (ap some (append-nil own))

@@ -1,18 +1,17 @@
 -- Waiting units: what the code read of their cells, and csl's reader.
 use mathlib.Core.Path.{◌≡◌, refl, sym, ap, ap₂, subst, ◌∙◌}
-use mathlib.Core.Bool.{Bool, true, false, not, ◌&&◌}
+use mathlib.Core.Bool.{Bool, true, false, ◌&&◌}
 use mathlib.Core.List.{List, [], ◌∷◌}
 use mathlib.Core.Logic.{inl, inr}
-use mathlib.Core.Option.{none, some}
+use mathlib.Core.Option.{Option, none, some}
 use Prim.Native.Nat.{ℕ, zero, suc, ◌+◌, ◌-◌, ◌≤◌, ◌<◌}
 use native.Mathlib.Decide.{dec_le}
 use native.Mathlib.Nat.{le_of_suc-le-suc}
 use native.Mathlib.Omega.{arith}
-use borrow.Author.Tests.{not-false, not-true}
 use lib.Bits.{bit_or}
 use lib.Dec.{T, ltb, eqb, ltb→lt}
 use lib.IntN.{ℤ}
-use lib.ListN.{length, get_or, take, drop}
+use lib.ListN.{length, get_or}
 use Rattle.csl.specs.Lists.{all}
 use Rattle.csl.specs.Bytes.{byte, part, record_end}
 use Rattle.csl.specs.Parties.{member, bits_of, subset}
@@ -35,42 +34,58 @@ use Rattle.soundness.proofs.ReadBack.{found_placed}
 use Rattle.records.specs.TypedValues.{values_ok}
 use Rattle.csl.specs.Check.{mains_of, Accepted}
 use Rattle.places.proofs.Descents.{fairly, found_clause, found_typed}
-use Rattle.units.specs.declared.Waiting.TheVariants.{Damaged, Of}
+use Rattle.std.specs.Prelude.{Option as Maybe, Some, None}
+use Rattle.arrayvec.specs.ArrayVec.{ArrayVec}
+use Rattle.units.specs.declared.Waiting.{Waiting}
 use Rattle.units.specs.Blames.{blames_of, WholeIn, PartiesAre}
-use Rattle.units.specs.Cells.{parties_in}
-use Rattle.units.specs.Units.{cells_in, CellsShow, FoundThere, LocatedIs, recorded}
+use Rattle.units.specs.Cells.{parties_in, PartiesRead}
+use Rattle.units.specs.Units.{cells_in, CellsShow, CellsRead, FoundThere, LocatedIs, recorded}
 use Rattle.units.proofs.Blames.{typed_blames, stands_itself, stands_param, stands_none, whole_room}
 
 -- ---- what the code found in a unit's cells
-module _ {parties n : ℕ} (types : List ℕ) (zs : List ℤ) where
-  pub no_parties : parties_in parties (cells_in zs 2 (2 + n)) ≡ none → (params : List ℕ)
-      → CellsShow parties n (tys_of types) zs params → ⊥
+module _ (parties n : ℕ) (types : List ℕ) (zs : List ℤ) where
+  pub no_parties : parties_in parties (cells_in zs 2 (2 + n)) ≡ none → CellsRead parties n (tys_of types) zs None
+  unfolding CellsRead
   no_parties e params h = some_none e h.are_params
 
-  pub no_zeros : {b : Bool} → b ≡ all is_zero (cells_in zs (2 + n) 7) → not b ≡ true → (params : List ℕ)
-      → CellsShow parties n (tys_of types) zs params → ⊥
-  no_zeros {b} e f params h = true_not_false h.no_params (sym e ∙ not-true b f)
+  pub no_zeros : {b : Bool} → b ≡ all is_zero (cells_in zs (2 + n) 7) → b ≡ false
+      → CellsRead parties n (tys_of types) zs None
+  unfolding CellsRead
+  no_zeros {b} e f params h = true_not_false h.no_params (sym e ∙ f)
 
-  pub no_values_lem : {b : Bool} → b ≡ values_ok parties (tys_of types) (cells_in zs 7 23) → not b ≡ true
-      → (params : List ℕ) → CellsShow parties n (tys_of types) zs params → ⊥
-  no_values_lem {b} e f params h = true_not_false h.are_values (sym e ∙ not-true b f)
+  pub no_values_lem : {b : Bool} → b ≡ values_ok parties (tys_of types) (cells_in zs 7 23) → b ≡ false
+      → CellsRead parties n (tys_of types) zs None
+  unfolding CellsRead
+  no_values_lem {b} e f params h = true_not_false h.are_values (sym e ∙ f)
 
-  pub no_rest : {b : Bool} → b ≡ all is_zero (cells_in zs (7 + length types) 23) → b ≡ false → (params : List ℕ)
-      → CellsShow parties n (tys_of types) zs params → ⊥
+  pub no_rest : {b : Bool} → b ≡ all is_zero (cells_in zs (7 + length types) 23) → b ≡ false
+      → CellsRead parties n (tys_of types) zs None
+  unfolding CellsRead
   no_rest {b} e f params h = true_not_false h.no_values
       (ap (λ (y : ℕ). all is_zero (cells_in zs (7 + y) 23)) (types_length types) ∙ sym e ∙ f)
 
-  pub cells_show : {a b c : Bool} {params : List ℕ} → parties_in parties (cells_in zs 2 (2 + n)) ≡ some params
-      → a ≡ all is_zero (cells_in zs (2 + n) 7) → not a ≡ false
-      → b ≡ values_ok parties (tys_of types) (cells_in zs 7 23) → not b ≡ false
+  pub cells_show : {a b c : Bool} {own : ArrayVec ℕ} → parties_in parties (cells_in zs 2 (2 + n)) ≡ some own.items
+      → a ≡ all is_zero (cells_in zs (2 + n) 7) → a ≡ true
+      → b ≡ values_ok parties (tys_of types) (cells_in zs 7 23) → b ≡ true
       → c ≡ all is_zero (cells_in zs (7 + length types) 23) → c ≡ true
-      → CellsShow parties n (tys_of types) zs params
-  cells_show {a} {b} e f g h i j k = record {
+      → CellsRead parties n (tys_of types) zs (Some own)
+  unfolding CellsRead
+  cells_show {a} {b} {c} e f g h i j k = record {
     are_params = e;
-    no_params = sym f ∙ not-false a g;
-    are_values = sym h ∙ not-false b i;
+    no_params = sym f ∙ g;
+    are_values = sym h ∙ i;
     no_values = ap (λ (y : ℕ). all is_zero (cells_in zs (7 + y) 23)) (types_length types) ∙ sym j ∙ k;
   }
+
+-- the parties that it read
+pub own_none : (o : Option (List ℕ)) {r : Maybe (ArrayVec ℕ)} → PartiesRead o r → r ≡ None → o ≡ none
+unfolding PartiesRead
+own_none o h e = rw e at h
+
+pub own_some : (o : Option (List ℕ)) {r : Maybe (ArrayVec ℕ)} {own : ArrayVec ℕ} → PartiesRead o r → r ≡ Some own
+    → o ≡ some own.items
+unfolding PartiesRead
+own_some o h e = rw e at h
 
 -- ---- cells that are parties
 pub parties_nats : (ps : ℕ) (zs : List ℤ) (ns : List ℕ) → parties_in ps zs ≡ some ns → (as_nats zs ≡ some ns)
@@ -170,53 +185,55 @@ module _ {A : List ℕ} (acc : Accepted A) (place : ℕ) where
         )
 
 -- ---- a located unit: the code's answers
-module _ {A : List ℕ} {place n : ℕ} {types : List ℕ} (acc : Accepted A) (h : FoundThere A place n types) (zs : List ℤ)
+module _ {A : List ℕ} {place n : ℕ} {types : List ℕ} (acc : Accepted A) (t : FoundThere A place n types) (zs : List ℤ)
   where
     pub there_few : n ≤ 4
-    there_few = rw h.params at (found_few acc place h.found h.is)
+    there_few = rw t.params at (found_few acc place t.found t.is)
 
     pub there_whole : WholeIn A (part A place (record_end A place))
-    there_whole = found_whole acc place h.found h.is
+    there_whole = found_whole acc place t.found t.is
 
     pub there_room : place + 4 ≤ record_end A place
-    there_room = found_room acc place h.found h.is
+    there_room = found_room acc place t.found t.is
 
     -- `parties` is what was read of the party count
     module _ {parties : ℕ} (p : parties ≡ byte A 8) where
-      pub located_not : ((params : List ℕ) → CellsShow parties n (tys_of types) zs params → ⊥)
-          → LocatedIs A place n types zs Damaged
-      unfolding LocatedIs
-      located_not f params u = f params (rw p u.cells)
+      module _ {r : Maybe (ArrayVec ℕ)} (h : CellsRead parties n (tys_of types) zs r) where
+        pub located_not : r ≡ None → LocatedIs A place n types zs None
+        unfolding LocatedIs CellsRead
+        located_not g params u = (rw g at h) params (rw p u.cells)
 
-      module _ (own : List ℕ) {e bits mains : ℕ} {b : Bool} (cells : CellsShow parties n (tys_of types) zs (take n own))
-          (q : e ≡ record_end A place) (o : PartiesAre A (part A place e) (take (n - 0) (drop 0 own)) bits)
-          (m : mains ≡ bits_of (mains_of A)) (g : b ≡ eqb (bit_or bits mains) mains) where
-        same_own : take (n - 0) (drop 0 own) ≡ take n own
-        same_own = let z : n - 0 ≡ n = omega arith in rw z
+        module _ {own : ArrayVec ℕ} (g : r ≡ Some own) {e bits mains : ℕ} {b : Bool} (q : e ≡ record_end A place)
+            (o : PartiesAre A (part A place e) own.items bits) (m : mains ≡ bits_of (mains_of A))
+            (d : b ≡ eqb (bit_or bits mains) mains)
+          where
+            cells : CellsShow parties n (tys_of types) zs own.items
+            unfolding CellsRead
+            cells = rw g at h
 
-        bits_are : bits ≡ bits_of (stand_for (take n own) (recorded A place))
-        bits_are = (rw (q, same_own) at o).each 23 place
-            (let w = found_clause A place h.found acc h.is in rw w.0 at w.1)
+            bits_are : bits ≡ bits_of (stand_for own.items (recorded A place))
+            bits_are = (rw q at o).each 23 place (let w = found_clause A place t.found acc t.is in rw w.0 at w.1)
 
-        in_mains : b ≡ subset (stand_for (take n own) (recorded A place)) (mains_of A)
-        unfolding agreement_of
-        in_mains = g ∙ rw (m, bits_are) (within_subset (stand_for (take n own) (recorded A place)) (mains_of A)
-            (stand_small acc place h.found h.is (take n own)
-            (rw p at (parties_nats parties (cells_in zs 2 (2 + n)) (take n own) cells.are_params).1)))
+            in_mains : b ≡ subset (stand_for own.items (recorded A place)) (mains_of A)
+            unfolding agreement_of
+            in_mains = d ∙ rw (m, bits_are) (within_subset (stand_for own.items (recorded A place)) (mains_of A)
+                (stand_small acc place t.found t.is own.items
+                (rw p at (parties_nats parties (cells_in zs 2 (2 + n)) own.items cells.are_params).1)))
 
-        pub located_out : b ≡ false → LocatedIs A place n types zs Damaged
-        unfolding LocatedIs
-        located_out f params u =
-            let same : params ≡ take n own = some_inj (sym u.cells.are_params ∙ (rw p at cells.are_params)) in
-            true_not_false u.among (ap (λ (l : List ℕ). subset (stand_for l (recorded A place)) (mains_of A)) same
-            ∙ sym in_mains ∙ f)
+            pub located_out : b ≡ false → LocatedIs A place n types zs None
+            unfolding LocatedIs
+            located_out f params u =
+                let same : params ≡ own.items = some_inj (sym u.cells.are_params ∙ (rw p at cells.are_params)) in
+                true_not_false u.among (ap (λ (l : List ℕ). subset (stand_for l (recorded A place)) (mains_of A)) same
+                ∙ sym in_mains ∙ f)
 
-        pub located_in : b ≡ true → LocatedIs A place n types zs (Of bits n (length types))
-        unfolding LocatedIs
-        located_in f = record {
-          params = take n own;
-          has = record { cells = rw p at cells; among = sym in_mains ∙ f };
-          same = bits_are;
-          param_count = refl;
-          value_count = refl;
-        }
+            pub located_in : b ≡ true → {w : Waiting} → w.parties ≡ bits → w.params ≡ n
+                → w.count ≡ length types → LocatedIs A place n types zs (Some w)
+            unfolding LocatedIs
+            located_in f i j k = record {
+              params = own.items;
+              has = record { cells = rw p at cells; among = sym in_mains ∙ f };
+              same = i ∙ bits_are;
+              param_count = j;
+              value_count = k;
+            }

@@ -3,12 +3,11 @@ use mathlib.Core.Path.{◌≡◌, refl, sym, ap, ap₂, subst, ◌∙◌}
 use mathlib.Core.Bool.{true, ◌&&◌, true≢false}
 use mathlib.Core.List.{List, [], ◌∷◌}
 use mathlib.Core.Option.{Option, none, some}
-use Prim.Native.Nat.{ℕ, zero, suc, ◌+◌, ◌-◌, ◌^◌, ◌≤◌, ◌<◌}
+use Prim.Native.Nat.{ℕ, zero, suc, ◌+◌, ◌-◌, ◌≤◌, ◌<◌}
 use native.Mathlib.Omega.{arith}
 use lib.Dec.{T, leb, ltb, leb→le, le→leb}
 use lib.IntN.{ℤ, pos, negsuc}
 use lib.ListN.{length, get_or, take, drop, length-drop, length-take}
-use lib.Signed.{mag}
 use lib.Seq.{take-take, take_all, drop-drop}
 use Rattle.arith.proofs.Lists.{length_part, part_part}
 use Rattle.csl.specs.Lists.{◌>>=◌, all, at, split}
@@ -22,21 +21,24 @@ use Rattle.csl.specs.Typing.{type_clause, names_of}
 use Rattle.csl.specs.Values.{Val, as_nat, as_truth, value_of, values_of}
 use Rattle.csl.specs.Outcomes.{Sight, Sort, an_obligation, a_choice, Residue, unit, units}
 use Rattle.csl.specs.Places.{Found, clause_at}
-use Rattle.csl.specs.Table.{is_zero, is_sort, sort_number, as_nats, waiting_unit, stand_for, residue_parties}
+use Rattle.csl.specs.Table.{is_zero, is_sort, as_nats, waiting_unit, stand_for, residue_parties}
 use Rattle.laws.proofs.Options.{from_bind, from_need, some_bind, passes, some_inj, none_some, some_none}
 use Rattle.laws.proofs.Bools.{T-both, both_true, T→true, true→T, and_left, and_right}
 use Rattle.laws.proofs.Integers.{pos_inj}
 use Rattle.laws.proofs.Types.{types_length}
+use Rattle.std.specs.Prelude.{Option as Maybe, Some, None}
+use Rattle.laws.proofs.Clash.{impossible}
+use Rattle.kinds.specs.Kinds.{sort_in}
+use Rattle.kinds.specs.declared.WaitKind.{WaitKind}
+use Rattle.kinds.specs.declared.WaitKind.TheVariants.{Obligation, Choice}
 use Rattle.places.specs.declared.Located.{Located}
-use Rattle.places.specs.declared.Located.TheVariants.{Nothing, At}
 use Rattle.records.specs.TypedValues.{value_ok, values_ok}
-use Rattle.places.specs.Locate.{wait_number, FoundAt, Locates}
+use Rattle.places.specs.Locate.{FoundAt, Locates}
 use Rattle.csl.specs.Check.{mains_of, Accepted}
 use Rattle.units.specs.declared.Waiting.{Waiting}
-use Rattle.units.specs.declared.Waiting.TheVariants.{Damaged, Of}
 use Rattle.units.specs.Cells.{number_below}
 use Rattle.units.specs.Units.{cells_in, UnitHas, sight_numbers, UnitShows, recorded, FoundThere, LocatedIs}
-use Rattle.units.specs.Units.{WaitingIs, sort_of}
+use Rattle.units.specs.Units.{WaitingIs}
 use Rattle.units.proofs.Cells.{below_is, below_not}
 use Rattle.units.proofs.Units.{parties_nats, nats_parties, found_few, found_parties, stand_small}
 
@@ -300,149 +302,109 @@ module _ {A : List ℕ} (acc : Accepted A) (now : ℕ) (s : Sort) (zs : List ℤ
         one = refl;
       }
 
--- ---- sorts by number
-sorted_number : (s : Sort) (c : Clause) → T (is_sort s c) → wait_number c ≡ sort_number s
-unfolding is_sort wait_number sort_number
-sorted_number s fulfilled t = absurd t
-sorted_number an_obligation (obligation b w c) t = refl
-sorted_number a_choice (obligation b w c) t = absurd t
-sorted_number an_obligation (choice w c d) t = absurd t
-sorted_number a_choice (choice w c d) t = refl
-sorted_number s (if e c d) t = absurd t
-sorted_number s (join j c d) t = absurd t
-sorted_number s (instance k es bs) t = absurd t
-sorted_number s bad_clause t = absurd t
+-- ---- a waiting clause has one sort
+one_sort : (s t : Sort) (c : Clause) → T (is_sort s c) → T (is_sort t c) → s ≡ t
+unfolding is_sort
+one_sort an_obligation an_obligation c a b = refl
+one_sort a_choice a_choice c a b = refl
+one_sort an_obligation a_choice fulfilled a b = absurd a
+one_sort an_obligation a_choice (obligation x w t) a b = absurd b
+one_sort an_obligation a_choice (choice w t f) a b = absurd a
+one_sort an_obligation a_choice (if x t f) a b = absurd a
+one_sort an_obligation a_choice (join j t f) a b = absurd a
+one_sort an_obligation a_choice (instance k es bs) a b = absurd a
+one_sort an_obligation a_choice bad_clause a b = absurd a
+one_sort a_choice an_obligation fulfilled a b = absurd a
+one_sort a_choice an_obligation (obligation x w t) a b = absurd a
+one_sort a_choice an_obligation (choice w t f) a b = absurd b
+one_sort a_choice an_obligation (if x t f) a b = absurd a
+one_sort a_choice an_obligation (join j t f) a b = absurd a
+one_sort a_choice an_obligation (instance k es bs) a b = absurd a
+one_sort a_choice an_obligation bad_clause a b = absurd a
 
-not_nought : (s : Sort) → 0 ≡ sort_number s → ⊥
-unfolding sort_number
-not_nought an_obligation e = omega arith
-not_nought a_choice e = omega arith
-
-number_sorted : (s : Sort) (c : Clause) → wait_number c ≡ sort_number s → T (is_sort s c)
-unfolding is_sort wait_number sort_number
-number_sorted s fulfilled e = not_nought s e
-number_sorted an_obligation (obligation b w c) e = tt
-number_sorted a_choice (obligation b w c) e = absurd (omega arith)
-number_sorted an_obligation (choice w c d) e = absurd (omega arith)
-number_sorted a_choice (choice w c d) e = tt
-number_sorted s (if x c d) e = not_nought s e
-number_sorted s (join j c d) e = not_nought s e
-number_sorted s (instance k es bs) e = not_nought s e
-number_sorted s bad_clause e = not_nought s e
+same_wait : (v w : WaitKind) → sort_in v ≡ sort_in w → v ≡ w
+same_wait Obligation Obligation e = refl
+same_wait Choice Choice e = refl
+same_wait Obligation Choice e = impossible cc
+same_wait Choice Obligation e = impossible cc
 
 -- ---- what the code read
 pub option_none : {A : Type 0} (o : Option A) → ((x : A) → o ≡ some x → ⊥) → o ≡ none
 option_none none f = refl
 option_none (some x) f = absurd (f x refl)
 
-lt_of : (m n : ℕ) → m ≤ n → (m ≡ n → ⊥) → m < n
-lt_of m n l f = omega arith
-
-module _ {A : List ℕ} (acc : Accepted A) (now sort : ℕ) (zs : List ℤ) (l : length zs ≡ 23) where
-  damaged : (UnitFacts A now (sort_of sort) zs → ⊥) → WaitingIs A now (sort_of sort) zs Damaged
+module _ {A : List ℕ} (acc : Accepted A) (now : ℕ) (wait : WaitKind) (zs : List ℤ) (l : length zs ≡ 23) where
+  damaged : (UnitFacts A now (sort_in wait) zs → ⊥) → WaitingIs A now (sort_in wait) zs None
   unfolding WaitingIs
   damaged f = option_none
-      (waiting_unit (agreement_of A) (sort_of sort) zs >>= residue_parties (agreement_of A) (mains_of A) now)
-      (λ ps e. f (unit_facts acc now (sort_of sort) zs l ps e))
+      (waiting_unit (agreement_of A) (sort_in wait) zs >>= residue_parties (agreement_of A) (mains_of A) now)
+      (λ ps e. f (unit_facts acc now (sort_in wait) zs l ps e))
 
-  pub wait_negative : {place : ℕ} → mag (get_or zs 0 (pos 0)) < 2 ^ 63
-      → place ≡ number_below 9_223_372_036_854_775_808 (get_or zs 0 (pos 0)) → place ≡ 9_223_372_036_854_775_808
-      → WaitingIs A now (sort_of sort) zs Damaged
-  wait_negative {place} fits e f = damaged λ h.
-      let g = rw h.is_place at fits in
-      omega (arith, below_not 9_223_372_036_854_775_808 h.place (get_or zs 0 (pos 0)) (omega arith) h.is_place)
+  pub wait_negative : ((n : ℕ) → get_or zs 0 (pos 0) ≡ pos n → ⊥) → WaitingIs A now (sort_in wait) zs None
+  wait_negative f = damaged λ h. f h.place h.is_place
 
-  pub wait_late : {when : ℕ} → when ≡ number_below (now + 1) (get_or zs 1 (pos 0)) → now < when
-      → WaitingIs A now (sort_of sort) zs Damaged
-  wait_late e f = damaged λ h. omega (
-    arith,
-    below_not (now + 1) h.when (get_or zs 1 (pos 0)) (omega arith) h.is_when,
-    h.to,
-  )
+  pub wait_late : None ≡ number_below (now + 1) (get_or zs 1 (pos 0)) → WaitingIs A now (sort_in wait) zs None
+  wait_late e = damaged λ h. omega (arith, below_not (now + 1) h.when (get_or zs 1 (pos 0)) e h.is_when, h.to)
 
-  module _ {when : ℕ} (e : when ≡ number_below (now + 1) (get_or zs 1 (pos 0))) (f : when ≤ now) where
+  module _ {when : ℕ} (e : Some when ≡ number_below (now + 1) (get_or zs 1 (pos 0))) where
     is_when_lem : get_or zs 1 (pos 0) ≡ pos when
-    is_when_lem = below_is (now + 1) (get_or zs 1 (pos 0)) (omega arith) ∙ ap pos (sym e)
+    is_when_lem = (below_is (now + 1) when (get_or zs 1 (pos 0)) e).0
 
-    pub wait_before : {start : ℕ} → start ≡ le32 A 4 → when < start → WaitingIs A now (sort_of sort) zs Damaged
+    pub wait_before : {start : ℕ} → start ≡ le32 A 4 → when < start → WaitingIs A now (sort_in wait) zs None
     wait_before g k = damaged λ h. let same : h.when ≡ when = pos_inj (sym h.is_when ∙ is_when_lem) in
         omega (arith, h.from)
 
-    module _ {place : ℕ} (b : place ≡ number_below 9_223_372_036_854_775_808 (get_or zs 0 (pos 0)))
-        (u : place ≤ 9_223_372_036_854_775_808) (o : place ≡ 9_223_372_036_854_775_808 → ⊥) where
-      is_place_lem : get_or zs 0 (pos 0) ≡ pos place
-      is_place_lem =
-          let k : place < 9_223_372_036_854_775_808 = lt_of place 9_223_372_036_854_775_808 u o in
-          below_is 9_223_372_036_854_775_808 (get_or zs 0 (pos 0)) (rw (sym b) k) ∙ ap pos (sym b)
+    module _ {place : ℕ} (b : get_or zs 0 (pos 0) ≡ pos place) where
+      same_place : (x : UnitFacts A now (sort_in wait) zs) → x.place ≡ place
+      same_place x = pos_inj (sym x.is_place ∙ b)
 
-      same_place : (h : UnitFacts A now (sort_of sort) zs) → h.place ≡ place
-      same_place h = pos_inj (sym h.is_place ∙ is_place_lem)
-
-      pub wait_nowhere : {r : Located} (types : List ℕ) → Locates (clause_at (agreement_of A) place) types r
-          → r ≡ Nothing → WaitingIs A now (sort_of sort) zs Damaged
-      unfolding Locates
-      wait_nowhere types h g = damaged λ x. some_none (rw g at h) (rw (same_place x) at x.is_at)
-
-      module _ {r : Located} {k n c : ℕ} (types : List ℕ) (h : Locates (clause_at (agreement_of A) place) types r)
-          (g : r ≡ At k n c) where
-        there : FoundAt (clause_at (agreement_of A) place) types k n c
+      module _ (r : Maybe Located) (h : Locates (clause_at (agreement_of A) place) r) where
+        pub wait_nowhere : r ≡ None → WaitingIs A now (sort_in wait) zs None
         unfolding Locates
-        there = rw g at h
+        wait_nowhere g = damaged λ x. some_none (rw g at h) (rw (same_place x) at x.is_at)
 
-        pub wait_room : c ≤ 16
-        wait_room = there.few
+        module _ {f : Located} (g : r ≡ Some f) where
+          there : FoundAt (clause_at (agreement_of A) place) f.sight.items f.wait f.params
+          unfolding Locates
+          there = rw g at h
 
-        pub found_there : length types ≡ 16 → FoundThere A place n (take (c - 0) (drop 0 types))
-        found_there d =
-            let z : c - 0 ≡ c = omega arith in
-            rw z (record {
-              found = there.found;
-              is = there.is;
-              params = there.params;
-              sight = there.sight;
-              few = omega (arith, length-take c types, there.few);
-            })
+          pub found_there : FoundThere A place f.params f.sight.items
+          found_there = record { found = there.found; is = there.is; params = there.params; sight = there.sight }
 
-        same_found : (x : UnitFacts A now (sort_of sort) zs) → x.found ≡ there.found
-        same_found x = some_inj (sym (rw (same_place x) at x.is_at) ∙ there.is)
+          same_found : (x : UnitFacts A now (sort_in wait) zs) → x.found ≡ there.found
+          same_found x = some_inj (sym (rw (same_place x) at x.is_at) ∙ there.is)
 
-        pub wait_other : sort_number (sort_of sort) ≡ sort → (k ≡ sort → ⊥) → WaitingIs A now (sort_of sort) zs Damaged
-        wait_other q m = damaged λ x. m (sym there.kind
-            ∙ ap (λ (y : Found). wait_number y.clause) (sym (same_found x))
-            ∙ sorted_number (sort_of sort) x.found.clause x.sorted ∙ q)
+          pub wait_other : (f.wait ≡ wait → ⊥) → WaitingIs A now (sort_in wait) zs None
+          wait_other m = damaged λ x. m (same_wait f.wait wait (one_sort (sort_in f.wait) (sort_in wait)
+              there.found.clause there.sorted
+              (subst (λ (y : Found). T (is_sort (sort_in wait) y.clause)) (same_found x) x.sorted)))
 
-        module _ {start : ℕ} (a : start ≡ le32 A 4) (v : start ≤ when) (q : sort_number (sort_of sort) ≡ sort)
-            (m : k ≡ sort) (d : length types ≡ 16) where
-          abbrev Seen : List ℕ
-          Seen = take (c - 0) (drop 0 types)
-
-          sight_is : there.found.sight ≡ tys_of Seen
-          sight_is = let z : c - 0 ≡ c = omega arith in rw z there.sight
-
-          pub wait_located : (w : Waiting) → LocatedIs A place n Seen zs w → WaitingIs A now (sort_of sort) zs w
-          unfolding LocatedIs WaitingIs
-          wait_located Damaged y = damaged λ x.
-              let f = same_found x in
-              y x.params (subst (λ (p : ℕ). UnitHas A p n (tys_of Seen) zs x.params) (same_place x)
-              (rw (ap (λ (z : Found). z.params) f ∙ there.params, ap (λ (z : Found). z.sight) f ∙ sight_is) at
-              x.has))
-          wait_located (Of bits i j) y =
-              let x : UnitFacts A now (sort_of sort) zs = record {
-                place = place;
-                when = when;
-                found = there.found;
-                params = y.params;
-                is_place = is_place_lem;
-                is_when = is_when_lem;
-                is_at = there.is;
-                sorted = number_sorted (sort_of sort) there.found.clause (there.kind ∙ m ∙ sym q);
-                from = omega arith;
-                to = f;
-                has = rw (there.params, sight_is) y.has;
-              } in
-              let shows = unit_shows acc now (sort_of sort) zs l x in
-              rw (
-                y.same,
-                y.param_count ∙ sym there.params,
-                y.value_count ∙ sym (ap length sight_is ∙ types_length Seen),
-              ) shows
+          module _ {start : ℕ} (a : start ≡ le32 A 4) (v : start ≤ when) (m : f.wait ≡ wait) where
+            pub wait_located : (w : Maybe Waiting) → LocatedIs A place f.params f.sight.items zs w
+                → WaitingIs A now (sort_in wait) zs w
+            unfolding LocatedIs WaitingIs
+            wait_located None y = damaged λ x.
+                let q = same_found x in
+                y x.params (subst (λ (p : ℕ). UnitHas A p f.params (tys_of f.sight.items) zs x.params) (same_place x)
+                (rw (ap (λ (z : Found). z.params) q ∙ there.params, ap (λ (z : Found). z.sight) q ∙ there.sight) at
+                x.has))
+            wait_located (Some w) y =
+                let x : UnitFacts A now (sort_in wait) zs = record {
+                  place = place;
+                  when = when;
+                  found = there.found;
+                  params = y.params;
+                  is_place = b;
+                  is_when = is_when_lem;
+                  is_at = there.is;
+                  sorted = subst (λ (u : WaitKind). T (is_sort (sort_in u) there.found.clause)) m there.sorted;
+                  from = omega arith;
+                  to = omega (arith, (below_is (now + 1) when (get_or zs 1 (pos 0)) e).1);
+                  has = rw (there.params, there.sight) y.has;
+                } in
+                let shows = unit_shows acc now (sort_in wait) zs l x in
+                rw (
+                  y.same,
+                  y.param_count ∙ sym there.params,
+                  y.value_count ∙ sym (ap length there.sight ∙ types_length f.sight.items),
+                ) shows

@@ -1,28 +1,22 @@
 -- What a waiting unit's cells show.
-use Rattle.std.specs.Prelude.{◌≡◌, true, cond, List, [], ◌∷◌, ◌++◌, ℕ, ◌+◌, ◌-◌, ◌≤◌, ◌<◌, eqb, ℤ, length, take, drop}
+use Rattle.std.specs.Prelude.{◌≡◌, true, List, [], ◌∷◌, ◌++◌, ℕ, ◌+◌, ◌-◌, ◌<◌, ℤ, length, take, drop}
+use Rattle.std.specs.Prelude.{Option as Maybe, Some, None}
 use Rattle.std.proofs.Math.Option.{Option, none, some}
 use Rattle.csl.specs.Lists.{◌>>=◌, all}
 use Rattle.csl.specs.Parties.{member, bits_of, subset}
 use Rattle.csl.specs.Syntax.{Ty}
 use Rattle.csl.specs.Bytes.{byte, part, record_end}
 use Rattle.csl.specs.Decode.{tys_of, heads_of, agreement_of}
-use Rattle.csl.specs.Outcomes.{Sort, an_obligation, a_choice, Residue, unit, both, units}
+use Rattle.csl.specs.Outcomes.{Sort, Residue, unit, both, units}
 use Rattle.csl.specs.Places.{Found, clause_at}
 use Rattle.csl.specs.Table.{is_zero, waiting_unit, stand_for, residue_parties}
 use Rattle.records.specs.TypedValues.{values_ok}
-use Rattle.records.specs.Index.{Indexed}
 use Rattle.places.specs.Locate.{clause_in}
-use Rattle.csl.specs.Check.{Accepted, mains_of}
+use Rattle.csl.specs.Check.{mains_of}
 use Rattle.units.specs.Blames.{blames_of}
 use Rattle.units.specs.Cells.{parties_in}
+use Rattle.arrayvec.specs.ArrayVec.{ArrayVec}
 use Rattle.units.specs.declared.Waiting.{Waiting}
-use Rattle.units.specs.declared.Waiting.TheVariants.{Damaged, Of}
-
--- the agreement is indexed and accepted, and mains has the bits of its main clause's parties
-pub record Prepared (places a : List ℕ) (mains : ℕ) : Type 0 where
-  pub indexed : Indexed places a
-  pub is_accepted : Accepted a
-  pub are_mains : mains ≡ bits_of (mains_of a)
 
 -- the cells from a up to e: what `&cells[a..e]` is
 abbrev pub cells_in : List ℤ → ℕ → ℕ → List ℤ
@@ -34,6 +28,11 @@ pub record CellsShow (parties n : ℕ) (ts : List Ty) (zs : List ℤ) (params : 
   pub no_params : all is_zero (cells_in zs (2 + n) 7) ≡ true
   pub are_values : values_ok parties ts (cells_in zs 7 23) ≡ true
   pub no_values : all is_zero (cells_in zs (7 + length ts) 23) ≡ true
+
+-- what was read of them: the party parameters
+unfoldable pub CellsRead : ℕ → ℕ → List Ty → List ℤ → Maybe (ArrayVec ℕ) → Type 0
+CellsRead parties n ts zs None = (params : List ℕ) → CellsShow parties n ts zs params → ⊥
+CellsRead parties n ts zs (Some own) = CellsShow parties n ts zs own.items
 
 -- the blames of the clause recorded at a place
 abbrev pub recorded : List ℕ → ℕ → List ℕ
@@ -50,7 +49,6 @@ pub record FoundThere (a : List ℕ) (place n : ℕ) (types : List ℕ) : Type 0
   pub is : clause_at (agreement_of a) place ≡ some found
   pub params : found.params ≡ n
   pub sight : found.sight ≡ tys_of types
-  pub few : length types ≤ 16
 
 pub record HasBits (a : List ℕ) (place n : ℕ) (types : List ℕ) (zs : List ℤ) (bits m c : ℕ) : Type 0 where
   pub params : List ℕ
@@ -59,13 +57,9 @@ pub record HasBits (a : List ℕ) (place n : ℕ) (types : List ℕ) (zs : List 
   pub param_count : m ≡ n
   pub value_count : c ≡ length types
 
-unfoldable pub LocatedIs : List ℕ → ℕ → ℕ → List ℕ → List ℤ → Waiting → Type 0
-LocatedIs a place n types zs Damaged = (params : List ℕ) → UnitHas a place n (tys_of types) zs params → ⊥
-LocatedIs a place n types zs (Of bits m c) = HasBits a place n types zs bits m c
-
--- ---- csl's name for a waiting unit's kind, 17 or 18
-unfoldable pub sort_of : ℕ → Sort
-sort_of k = cond (eqb k 17) an_obligation a_choice
+unfoldable pub LocatedIs : List ℕ → ℕ → ℕ → List ℕ → List ℤ → Maybe Waiting → Type 0
+LocatedIs a place n types zs None = (params : List ℕ) → UnitHas a place n (tys_of types) zs params → ⊥
+LocatedIs a place n types zs (Some w) = HasBits a place n types zs w.parties w.params w.count
 
 -- ---- how many party parameters and values each unit has, in the order of the cells; at a join how many units its
 -- left side has, and 0
@@ -88,7 +82,7 @@ pub record UnitShows (a : List ℕ) (now : ℕ) (o : Option Residue) (bits n c :
   pub sights : sight_numbers residue ≡ n ∷ c ∷ []
   pub one : units residue ≡ 1
 
-unfoldable pub WaitingIs : List ℕ → ℕ → Sort → List ℤ → Waiting → Type 0
-WaitingIs a now s zs Damaged =
+unfoldable pub WaitingIs : List ℕ → ℕ → Sort → List ℤ → Maybe Waiting → Type 0
+WaitingIs a now s zs None =
     (waiting_unit (agreement_of a) s zs >>= residue_parties (agreement_of a) (mains_of a) now) ≡ none
-WaitingIs a now s zs (Of bits n c) = UnitShows a now (waiting_unit (agreement_of a) s zs) bits n c
+WaitingIs a now s zs (Some w) = UnitShows a now (waiting_unit (agreement_of a) s zs) w.parties w.params w.count

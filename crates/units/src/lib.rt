@@ -1,23 +1,24 @@
 // The units of a table: what their cells hold to, and the parties of a waiting unit.
 #![tactic(auto)]
 
-ghost use Rattle.std.specs.Prelude.{◌≡◌, true, false, List, ℕ, ◌+◌, ◌≤◌, ◌<◌, length, take};
-ghost use Rattle.std.proofs.Math.Option.{none, some};
+ghost use Rattle.std.specs.Prelude.{◌≡◌, List, ℕ, ◌+◌, ◌≤◌, ◌<◌, length};
 ghost use Rattle.csl.specs.Lists.{all};
 ghost use Rattle.csl.specs.Decode.{tys_of};
 ghost use Rattle.csl.specs.Bytes.{kind_number};
 ghost use Rattle.csl.specs.Parties.{bits_of};
-ghost use Rattle.csl.specs.Table.{is_zero, stands_for, stand_for, sort_number};
-ghost use Rattle.records.specs.Index.{Indexed};
-ghost use Rattle.units.specs.Cells.{number_below, parties_in};
+ghost use Rattle.csl.specs.Table.{is_zero, stands_for, stand_for};
+ghost use Rattle.kinds.specs.Kinds.{sort_in};
+ghost use Rattle.units.specs.Cells.{number_below, parties_in, PartiesRead};
 ghost use Rattle.units.specs.Blames.{WholeIn, PartiesAre};
-ghost use Rattle.units.specs.Units.{Prepared, CellsShow, FoundThere, LocatedIs, WaitingIs, sort_of};
+ghost use Rattle.units.specs.Units.{CellsRead, FoundThere, LocatedIs, WaitingIs};
 
-use octets::{byte, kind, record_end, unsigned32};
+use arrayvec::ArrayVec;
+use kinds::WaitKind;
+use octets::{byte, kind, record_end};
 use parties::{PARAMS_FROM, is_subset, party_bit, union};
-use places::{Located, locate};
+use places::{Accepted, Located, locate};
 use records::values::values_ok;
-use records::{IN_SIGHT, PARTIES_AT, START_AT, declared_bits, first_clause, param_count};
+use records::{Agreement, first_clause};
 
 // Behind a unit's sort stand its place and its time, then its party parameters, then its values: of these cells the
 // first parameter, the first value, and how many there are.
@@ -27,61 +28,47 @@ const FIRST_VALUE: usize = cells::FIRST_VALUE - 1;
 
 const CELLS: usize = cells::UNIT_CELLS - 1;
 
-// No place of an agreement is so far.
-const NO_PLACE: usize = 9_223_372_036_854_775_808;
+// A template has at most so many party parameters.
+const PARAMS: usize = 4;
 
 // What a waiting unit shows: its parties by bit, and how many party parameters and values it has.
-#[derive(Clone, Copy)]
-pub enum Waiting {
-    Damaged,
-    Of {
-        parties: usize,
-        params: usize,
-        count: usize,
-    },
+#[derive(Clone, Copy, Debug, PartialEq, Eq)]
+pub struct Waiting {
+    pub parties: usize,
+    pub params: usize,
+    pub count: usize,
 }
 
-// A cell as a number below `end`, or `end` where it is none.
-pub fn number_below(z: i64, end: usize) -> usize
-    ensures { (result ≡ number_below end z) × (result ≤ end) }
+// A cell as a number below `end`, where it is one.
+pub fn number_below(z: i64, end: usize) -> Option<usize>
+    ensures { result ≡ number_below end z }
 {
-    if z < 0 {
-        return end;
-    }
-    let n = z as usize;
-    if n < end { n } else { end }
+    let n = usize::try_from(z).ok()?;
+    (n < end).then_some(n)
 }
 
-// Every cell is zero: so is what they have of ones together. (No test in the loop: many cells are read at once.)
+// Every cell is zero: so is what they have of ones together. (No test in the loop, as `all` has one: many cells are
+// read at once.)
 pub fn zeros(cells: &[i64]) -> bool
     ensures { result ≡ all is_zero cells.now }
 {
-    let mut ones = 0i64;
-    let mut i = 0;
-    while i < cells.len() {
-        let x = cells[i];
-        ones = ones | x;
-        i += 1;
+    let mut ones = 0;
+    for x in cells {
+        ones |= *x;
     }
     ones == 0
 }
 
-// The cells are parties, which go to the front of `out`.
-fn party_cells(cells: &[i64], parties: usize, out: &mut [usize]) -> bool
-    requires { length cells.now ≤ length out.old }
-    ensures yes { result ≡ true → parties_in parties cells.now ≡ some (take (length cells.now) out.new) }
-    ensures no { result ≡ false → parties_in parties cells.now ≡ none }
+// The parties that the cells are, where each is one.
+fn party_cells(cells: &[i64], parties: usize) -> Option<ArrayVec<usize, PARAMS>>
+    requires { length cells.now ≤ 4 }
+    ensures { PartiesRead (parties_in parties cells.now) result }
 {
-    let mut i = 0;
-    while i < cells.len() {
-        let p = number_below(cells[i], parties);
-        if p == parties {
-            return false;
-        }
-        out[i] = p;
-        i += 1;
+    let mut own = ArrayVec::new();
+    for z in cells {
+        own.push(number_below(*z, parties)?);
     }
-    true
+    Some(own)
 }
 
 // The party that a blame byte stands for: itself, or a parameter's.
@@ -91,11 +78,7 @@ fn stands_for(b: usize, params: &[usize]) -> usize
     if b < PARAMS_FROM {
         return b;
     }
-    if b - PARAMS_FROM < params.len() {
-        params[b - PARAMS_FROM]
-    } else {
-        0
-    }
+    params.get(b - PARAMS_FROM).copied().unwrap_or(0)
 }
 
 // The parties of a run of blame bytes, by bit.
@@ -103,30 +86,26 @@ fn blame_bytes(s: &[u8], params: &[usize]) -> usize
     ensures { (result ≡ bits_of (stand_for params.now s.now)) × (result < 65_536) }
 {
     let mut bits = 0;
-    let mut i = 0;
-    while i < s.len() {
-        bits = union(bits, party_bit(stands_for(byte(s, i), params)));
-        i += 1;
+    for b in s {
+        bits = union(bits, party_bit(stands_for(usize::from(*b), params)));
     }
     bits
 }
 
 // An instance has its template's declared parties and those of its blames, which end it.
-fn instance_parties(agreement: &[u8], places: &[usize], s: &[u8], params: &[usize]) -> usize
-    requires { Indexed places.now agreement.now × WholeIn agreement.now s.now × (kind_number s.now ≡ 22) }
+fn instance_parties(agreement: &Agreement<'_>, s: &[u8], params: &[usize]) -> usize
+    requires { WholeIn agreement.now s.now × (kind_number s.now ≡ 22) }
     ensures { PartiesAre agreement.now s.now params.now result }
 {
     let k = byte(s, 4);
-    let n = s.len() - param_count(agreement, places, k);
-    union(
-        declared_bits(agreement, places, k),
-        blame_bytes(&s[n..], params),
-    )
+    let n = s.len() - agreement.param_count(k);
+    let own = blame_bytes(&s[n..], params);
+    union(agreement.declared_bits(k), own)
 }
 
 // The parties of a clause, by bit.
-fn clause_parties(agreement: &[u8], places: &[usize], s: &[u8], params: &[usize]) -> usize
-    requires { Indexed places.now agreement.now × WholeIn agreement.now s.now }
+fn clause_parties(agreement: &Agreement<'_>, s: &[u8], params: &[usize]) -> usize
+    requires { WholeIn agreement.now s.now }
     ensures { PartiesAre agreement.now s.now params.now result }
 {
     let k = kind(s);
@@ -134,104 +113,88 @@ fn clause_parties(agreement: &[u8], places: &[usize], s: &[u8], params: &[usize]
         17 => {
             let c = first_clause(s, k);
             let own = party_bit(stands_for(byte(s, 4), params));
-            union(own, clause_parties(agreement, places, &s[c..], params))
+            union(own, clause_parties(agreement, &s[c..], params))
         }
         18..=21 => {
             let c = first_clause(s, k);
             let f = record_end(s, c);
-            let left = clause_parties(agreement, places, &s[c..f], params);
-            union(left, clause_parties(agreement, places, &s[f..], params))
+            let left = clause_parties(agreement, &s[c..f], params);
+            union(left, clause_parties(agreement, &s[f..], params))
         }
-        22 => instance_parties(agreement, places, s, params),
+        22 => instance_parties(agreement, s, params),
         _ => 0,
     }
 }
 
-// The cells behind a unit's kind hold n parties, values of the types, and else zeros; the parties go to the front of
-// `own`.
-fn unit_cells(cells: &[i64], n: usize, types: &[u8], parties: usize, own: &mut [usize]) -> bool
-    requires { (length cells.now ≡ 23) × (n ≤ 4) × (length types.now ≤ 16) × (length own.old ≡ 4) }
-    ensures yes { result ≡ true → CellsShow parties n (tys_of types.now) cells.now (take n own.new) }
-    ensures no { result ≡ false → (params : List ℕ) → CellsShow parties n (tys_of types.now) cells.now params → ⊥ }
-{
-    if !party_cells(&cells[FIRST_PARAM..FIRST_PARAM + n], parties, own) {
-        return false;
-    }
-    if !zeros(&cells[FIRST_PARAM + n..FIRST_VALUE]) {
-        return false;
-    }
-    if !values_ok(types, &cells[FIRST_VALUE..CELLS], parties) {
-        return false;
-    }
-    zeros(&cells[FIRST_VALUE + types.len()..CELLS])
-}
-
-// A waiting unit whose clause was found: n party parameters, and the types in sight.
-fn located_unit(
-    agreement: &[u8],
-    places: &[usize],
-    mains: usize,
-    place: usize,
+// The cells behind a unit's kind hold n parties, values of the types, and else zeros: the parties.
+fn unit_cells(
+    cells: &[i64],
     n: usize,
     types: &[u8],
-    cells: &[i64],
-) -> Waiting
-    requires { Prepared places.now agreement.now mains × FoundThere agreement.now place n types.now × (length cells.now ≡ 23) }
-    ensures { LocatedIs agreement.now place n types.now cells.now result }
+    parties: usize,
+) -> Option<ArrayVec<usize, PARAMS>>
+    requires { (length cells.now ≡ 23) × (n ≤ 4) × (length types.now ≤ 16) }
+    ensures { CellsRead parties n (tys_of types.now) cells.now result }
 {
-    let mut own = [0usize; 4];
-    if !unit_cells(cells, n, types, byte(agreement, PARTIES_AT), &mut own) {
-        return Waiting::Damaged;
+    let own = party_cells(&cells[FIRST_PARAM..FIRST_PARAM + n], parties)?;
+    if !zeros(&cells[FIRST_PARAM + n..FIRST_VALUE]) {
+        return None;
     }
-    let e = record_end(agreement, place);
-    let bits = clause_parties(agreement, places, &agreement[place..e], &own[0..n]);
-    if is_subset(bits, mains) {
-        Waiting::Of {
-            parties: bits,
-            params: n,
-            count: types.len(),
-        }
-    } else {
-        Waiting::Damaged
+    if !values_ok(types, &cells[FIRST_VALUE..CELLS], parties) {
+        return None;
     }
+    if !zeros(&cells[FIRST_VALUE + types.len()..CELLS]) {
+        return None;
+    }
+    Some(own)
 }
 
-// The cells behind a waiting unit's kind, 17 or 18, at the last reading time.
-pub fn waiting_unit(
-    agreement: &[u8],
-    places: &[usize],
-    mains: usize,
-    time: usize,
-    kind: usize,
+// A waiting unit whose clause was found.
+fn located_unit(
+    accepted: &Accepted<'_>,
+    place: usize,
+    found: &Located,
     cells: &[i64],
-) -> Waiting
-    requires { Prepared places.now agreement.now mains × (time < 4_294_967_296) × (sort_number (sort_of kind) ≡ kind) × (length cells.now ≡ 23) }
-    ensures { WaitingIs agreement.now time (sort_of kind) cells.now result }
+) -> Option<Waiting>
+    requires long { length cells.now ≡ 23 }
+    requires there { FoundThere accepted.now place found.now.params found.now.sight.items }
+    ensures { LocatedIs accepted.now place found.now.params found.now.sight.items cells.now result }
 {
-    let place = number_below(cells[0], NO_PLACE);
-    if place == NO_PLACE {
-        return Waiting::Damaged;
+    let agreement = accepted.agreement();
+    let types = found.sight.as_slice();
+    let own = unit_cells(cells, found.params, types, agreement.parties())?;
+    let bytes = agreement.bytes();
+    let e = record_end(bytes, place);
+    let bits = clause_parties(agreement, &bytes[place..e], &own);
+    if !is_subset(bits, accepted.mains()) {
+        return None;
     }
-    let when = number_below(cells[1], time + 1);
-    if when > time {
-        return Waiting::Damaged;
+    Some(Waiting {
+        parties: bits,
+        params: found.params,
+        count: types.len(),
+    })
+}
+
+// The cells behind the kind of a waiting unit, at the last reading time.
+pub fn waiting_unit(
+    accepted: &Accepted<'_>,
+    time: usize,
+    wait: WaitKind,
+    cells: &[i64],
+) -> Option<Waiting>
+    requires { (time < 4_294_967_296) × (length cells.now ≡ 23) }
+    ensures { WaitingIs accepted.now time (sort_in wait) cells.now result }
+{
+    let agreement = accepted.agreement();
+    let place = usize::try_from(cells[0]).ok()?;
+    let when = number_below(cells[1], time + 1)?;
+    if when < agreement.start() {
+        return None;
     }
-    if when < unsigned32(agreement, START_AT) {
-        return Waiting::Damaged;
+    let found = locate(agreement, place)?;
+    if found.wait != wait {
+        return None;
     }
-    let mut types = [0u8; IN_SIGHT];
-    match locate(agreement, places, place, &mut types) {
-        Located::Nothing => Waiting::Damaged,
-        Located::At {
-            kind: k,
-            params,
-            count,
-        } => {
-            if k != kind {
-                return Waiting::Damaged;
-            }
-            let sight = &types[0..count];
-            located_unit(agreement, places, mains, place, params, sight, cells)
-        }
-    }
+    located_unit(accepted, place, &found, cells)
 }

@@ -1,24 +1,21 @@
 -- Laws of waits: their windows, what a reading makes of them, and the values in sight.
 use mathlib.Core.Path.{◌≡◌, refl, sym, ap, ap₂, ◌∙◌}
 use mathlib.Core.Bool.{Bool, true, false, cond, ◌&&◌}
-use mathlib.Core.List.{List, [], ◌∷◌, ◌++◌, append_assoc}
-use Prim.Native.Nat.{ℕ, suc, ◌+◌, ◌-◌, ◌^◌, ◌≤◌, ◌<◌, min}
+use mathlib.Core.List.{List, ◌++◌}
+use Prim.Native.Nat.{ℕ, ◌+◌, ◌-◌, ◌^◌, ◌≤◌, ◌<◌, min, max}
 use native.Mathlib.Omega.{arith}
 use native.Mathlib.Decide.{dec_le}
-use lib.IntN.{ℤ, pos, nat_abs, ◌+ℤ◌, ◌-ℤ◌}
-use lib.Dec.{T}
+use lib.IntN.{ℤ, pos, negsuc, nat_abs, ◌+ℤ◌, ◌-ℤ◌}
+use lib.Dec.{T, ltb}
 use lib.Signed.{mag, lt_z, non_neg}
-use lib.ListN.{length, get_or, take, drop, set, length-append, length-drop}
-use lib.Seq.{take_at, drop_at, drop-drop, take_all, set_at, take-append-le, drop-cons, append_snoc}
-use borrow.Author.Tests.{eq-eqb, ne_eqb}
-use borrow.Rule.Slice.PartMut.{put_mid}
+use lib.ListN.{length}
+use borrow.Author.Tests.{eq-eqb, ne_eqb, ltb-true, ltb-false}
 use mir.Syntax.{w64}
 use mir.Val.{Fits, SFits, to_z}
 use Rattle.laws.proofs.Timings.{timing_late, timing_early, timing_on_time}
 use Rattle.arith.specs.Near.{Near, far}
 use Rattle.arith.proofs.Ints.{seen, read, read! }
 use Rattle.arith.proofs.Numbers.{sizes, within_goal, held_fits, later_size}
-use Rattle.arith.proofs.Lists.{tail_put}
 use Rattle.csl.specs.Numbers.{Held, later_of}
 use Rattle.csl.specs.Bytes.{le16, part, record_end}
 use Rattle.csl.specs.Syntax.{Wait}
@@ -27,15 +24,13 @@ use Rattle.cells.specs.Evaluate.{eval_cells, is_true_cell}
 use Rattle.csl.specs.Rules as rules
 use Rattle.csl.specs.Rules.{timing}
 use Rattle.cells.specs.Reduce as cells
-use Rattle.cells.specs.Reduce.{following, first_of, last_of, window_of, takes, opens_later, then_values, fate}
+use Rattle.cells.specs.Reduce.{activating, forecasting, following, first_of, last_of, window_of, takes, opens_later}
+use Rattle.cells.specs.Reduce.{fate}
 use Rattle.residues.specs.Reduces.{farthest}
-use Rattle.waits.specs.Fates.{mode_at, WindowIs, FateIs, timing_is, condition_of}
+use Rattle.waits.specs.Fates.{WindowIs, FateIs, timing_is, condition_of}
 use Rattle.waits.specs.declared.Window.{Window}
-use Rattle.waits.specs.declared.Event.{Event}
-use Rattle.waits.specs.declared.Step.TheVariants.{Activate, Forecast, Follow}
 use Rattle.waits.specs.declared.Timing.{Timing}
 use Rattle.waits.specs.declared.Timing.TheVariants.{Early, OnTime, Late as tooLate}
-use Rattle.waits.specs.declared.Fate.{Fate}
 use Rattle.waits.specs.declared.Fate.TheVariants.{Waits, Late, Taken}
 use Rattle.residues.proofs.Cells.{cell_of_lem}
 
@@ -49,22 +44,22 @@ time_within n h = within_goal far (to_z w64 n) (omega (arith, time_size n h))
 -- ---- a window
 module _ (vs : List ℤ) (s : List ℕ) (i a d : ℕ) (h : a ≤ farthest) {b c : ℕ} (eb : b ≡ record_end s (i + 1))
     (ec : c ≡ record_end s b) where
-  pub first_is : {x r : ℤ} → (x ≡ eval_cells vs (expr d (part s b c))) × Held x → mag r < 2 ^ 63
-      → r ≡ to_z w64 a +ℤ seen x → (p : ℕ) → seen r ≡ first_of vs a (wait_at (expr d) p s i)
+  pub first_is : {r : ℤ} → mag r < 2 ^ 63 → r ≡ to_z w64 a +ℤ eval_cells vs (expr d (part s b c))
+      → (p : ℕ) → seen r ≡ first_of vs a (wait_at (expr d) p s i)
   unfolding first_of wait_at
-  first_is hx fr hr p = read! fr ∙ hr ∙ rw (cell_of_lem a h, read (held_fits hx.1), hx.0, ec, eb)
+  first_is fr hr p = read! fr ∙ hr ∙ rw (cell_of_lem a h, ec, eb)
 
-  pub window_is : {e : ℕ} → e ≡ record_end s c → {x y r q : ℤ} → (x ≡ eval_cells vs (expr d (part s b c))) × Held x
-      → (y ≡ eval_cells vs (expr d (part s c e))) × Held y
-      → mag r < 2 ^ 63 → (r ≡ to_z w64 a +ℤ seen x) × Near (nat_abs (to_z w64 a) + nat_abs (seen x)) r
-      → mag q < 2 ^ 63 → (q ≡ seen r +ℤ seen y) × Near (nat_abs (seen r) + nat_abs (seen y)) q
+  pub window_is : {e : ℕ} → e ≡ record_end s c → {r q : ℤ} → mag r < 2 ^ 63
+      → (r ≡ to_z w64 a +ℤ eval_cells vs (expr d (part s b c))) × Near (nat_abs (to_z w64 a) + 1_000_000_000) r
+      → mag q < 2 ^ 63
+      → (q ≡ seen r +ℤ eval_cells vs (expr d (part s c e))) × Near (nat_abs (seen r) + 1_000_000_000) q
       → (p : ℕ) → WindowIs vs a (wait_at (expr d) p s i) (record { first = seen r; last = seen q })
   unfolding last_of wait_at
-  window_is ee {r = r} {q = q} hx hy fr hr fq hq p =
-      let er = first_is hx fr hr.0 p in
+  window_is ee {r} {q} fr hr fq hq p =
+      let er = first_is fr hr.0 p in
       let eq : seen q ≡ seen r +ℤ eval_cells vs
       (expr d (part s (record_end s (record_end s (i + 1))) (record_end s (record_end s (record_end s (i + 1)))))) =
-      read! fq ∙ hq.0 ∙ rw (read (held_fits hy.1), hy.0, ee, ec, eb) in
+      read! fq ∙ hq.0 ∙ rw (ee, ec, eb) in
       record { first = er; last = eq ∙ rw er; near = omega (sizes, time_size a h) }
 
 -- ---- the window test, as the machine has it
@@ -161,63 +156,16 @@ module _ (vs rs : List ℤ) (a t k : ℕ) (w : Wait) {b : ℕ} (eb : b ≡ w.wan
     later_holds g {u} eu = eu ∙ sym (ap₂ (λ b c. b && is_true_cell (eval_cells (vs ++ rs) w.condition) && c)
         (eq-eqb w.wanted k (sym eb ∙ ek)) (first_seen g) ∙ and_true _)
 
--- ---- by the step
-module _ (e : Event) (vs rs : List ℤ) (a : ℕ) (w : Wait) where
-  pub becomes_waiting : e.step ≡ Activate → FateIs (mode_at e rs) vs a w Waits
+-- ---- what is not followed
+module _ (vs : List ℤ) (a : ℕ) (w : Wait) where
+  pub becomes_waiting : FateIs activating vs a w Waits
   unfolding FateIs fate
-  becomes_waiting h = rw h
+  becomes_waiting = refl
 
-  pub becomes_late : e.step ≡ Forecast → {r : Window} → WindowIs vs a w r → mag r.last < 2 ^ 63
-      → FateIs (mode_at e rs) vs a w (Late (seen r.last))
+  pub becomes_late : {r : Window} → WindowIs vs a w r → mag r.last < 2 ^ 63
+      → FateIs forecasting vs a w (Late (seen r.last))
   unfolding FateIs fate
-  becomes_late h x f = rw h (refl, read! f ∙ x.last, rw (read! f) x.near)
-
-  pub becomes_followed : e.step ≡ Follow → (f : Fate) → FateIs (following e.time e.tag rs) vs a w f
-      → FateIs (mode_at e rs) vs a w f
-  becomes_followed h f x = rw h x
-
--- ---- the values in sight
-module _ (vs rs c : List ℤ) where
-  pub sight_is : {k m : List ℤ} → length vs + length rs ≤ length c → k ≡ vs ++ drop (length vs) c → m ≡ rs
-      ++ drop (length rs) (take (length k - length vs) (drop (length vs) k))
-      → put_mid (length vs) (length k - length vs) k m ≡ (vs ++ rs) ++ drop (length vs + length rs) c
-  sight_is {k} {m} h ek em =
-      let lk : length k ≡ length c = ap length ek ∙ simp (length-append, length-drop) (omega arith) in
-      let dk : drop (length vs) k ≡ drop (length vs) c = ap (drop (length vs)) ek
-      ∙ drop_at vs (drop (length vs) c) (length vs) refl in
-      let tk : take (length vs) k ≡ vs = ap (take (length vs)) ek ∙ take_at vs (drop (length vs) c) (length vs) refl in
-      let e : m ≡ rs ++ drop (length vs + length rs) c =
-      em ∙ ap (λ l. rs ++ drop (length rs) l)
-      (take_all (length k - length vs) (drop (length vs) k) (simp length-drop (omega arith)) ∙ dk)
-      ∙ ap (λ l. rs ++ l) (drop-drop (length rs) (length vs) c) in
-      tail_put (length vs) k m (omega arith) ∙ ap (λ l. l ++ m) tk ∙ ap (λ l. vs ++ l) e
-      ∙ sym (append_assoc vs rs (drop (length vs + length rs) c))
-
-  -- n and l are what `sight` gave
-  module _ {n : ℕ} {l : List ℤ} (en : n ≡ length (vs ++ rs)) (el : l ≡ (vs ++ rs) ++ drop n c) where
-    pub sight_front : take n l ≡ vs ++ rs
-    sight_front = ap (take n) el ∙ take_at (vs ++ rs) (drop n c) n (sym en)
-
-    pub sight_long : n ≤ length c → n ≡ length (take n l)
-    sight_long h = en ∙ ap length (sym sight_front)
-
-    pub then_is : n < length c → {m : ℕ} {z y : ℤ} → m ≡ min (n + 1) 16 → z ≡ y
-        → take m (set l n z) ≡ then_values vs rs y
-    unfolding then_values
-    then_is h {m} {z} {y} em ez =
-        let f : set l n z ≡ (vs ++ rs) ++ z ∷ drop (suc n) c =
-        ap (λ k. set k n z) (el ∙ ap (λ k. (vs ++ rs) ++ k) (drop-cons c n (pos 0) h))
-        ∙ set_at (vs ++ rs) (get_or c n (pos 0)) (drop (suc n) c) z n (sym en) in
-        let g : set l n z ≡ ((vs ++ rs) ++ (z ∷ [])) ++ drop (suc n) c = f
-        ∙ sym (append_snoc (vs ++ rs) z (drop (suc n) c)) in
-        let lx : length ((vs ++ rs) ++ (z ∷ [])) ≡ n + 1 = length-append (vs ++ rs) (z ∷ []) ∙ omega (arith, en) in
-        ap (take m) g ∙ take-append-le m ((vs ++ rs) ++ (z ∷ [])) (drop (suc n) c) (omega arith)
-        ∙ by_size m ((vs ++ rs) ++ (z ∷ [])) em (dec_le (n + 1) 16) lx
-        ∙ ap (λ k. take 16 ((vs ++ rs) ++ (k ∷ []))) ez
-      where
-        by_size : (m : ℕ) (x : List ℤ) → m ≡ min (n + 1) 16 → Dec (n + 1 ≤ 16) → length x ≡ n + 1 → take m x ≡ take 16 x
-        by_size m x e (yes k) q = take_all m x (omega arith) ∙ sym (take_all 16 x (omega arith))
-        by_size m x e (no k) q = let f : m ≡ 16 = omega arith in rw f
+  becomes_late x f = (refl, read! f ∙ x.last, rw (read! f) x.near)
 
 -- ---- the condition
 pub clamped : (s : List ℕ) (i : ℕ) {a b : ℕ} → a ≡ min i (length s) → b ≡ record_end s i
@@ -245,9 +193,18 @@ minus_is t h f g e = read! g ∙ e ∙ rw (read f, cell_of_lem t h)
 
 -- ---- the later of a time and a last minute, as the machine has it
 module _ (a : ℕ) (h : a ≤ farthest) {last r : ℤ} (f : SFits w64 last) (g : mag r < 2 ^ 63)
-    (e : (n : ℕ) → to_z w64 a ≡ pos n → r ≡ pos (later_of n (seen last))) where
+    (e : r ≡ cond (lt_z (seen last) (to_z w64 a)) (to_z w64 a) (seen last)) where
   pub later_seen : seen r ≡ pos (later_of a last)
-  later_seen = read! g ∙ e a (cell_of_lem a h) ∙ rw (read f)
+  unfolding later_of
+  later_seen = read! g ∙ e ∙ rw (cell_of_lem a h, read f) (by_sign last)
+    where
+      by_order : (n : ℕ) (b : Bool) → ltb n a ≡ b → cond b (pos a) (pos n) ≡ pos (max a n)
+      by_order n true q = ap pos (omega (arith, ltb-true n a q))
+      by_order n false q = ap pos (omega (arith, ltb-false n a q))
+
+      by_sign : (z : ℤ) → cond (lt_z z (pos a)) (pos a) z ≡ pos (later_of a z)
+      by_sign (pos n) = by_order n (ltb n a) refl
+      by_sign (negsuc n) = refl
 
   module _ (w : Near (a + 2_000_000_000) last) where
     later_near : later_of a last ≤ a + 2_000_000_000

@@ -1,8 +1,8 @@
 -- What becomes of a wait; what the code says of a wait in the record s holds whatever the place of s is.
 use Rattle.std.specs.Prelude.{◌≡◌, List, ℕ, ◌+◌, ℤ, Bool}
 use Rattle.cells.specs.Reduce.{Mode, activating, forecasting, following, fate, waits, late, taken, first_of, last_of}
-use Rattle.waits.specs.declared.Step.{Step}
-use Rattle.waits.specs.declared.Step.TheVariants.{Activate, Forecast, Follow}
+use Rattle.readings.specs.declared.reading.Reading.{Reading}
+use Rattle.waits.specs.declared.Event.TheVariants.{Activate, Forecast, Follow}
 use Rattle.csl.specs.Syntax.{Wait}
 use Rattle.csl.specs.Decode.{expr, wait_at}
 use Rattle.csl.specs.Rules as rules
@@ -21,15 +21,15 @@ timing_is Early = rules.early
 timing_is OnTime = rules.on_time
 timing_is tooLate = rules.late
 
--- the mode that a step is, with the reading's time, type and values
-abbrev pub mode_of : Step → ℕ → ℕ → List ℤ → Mode
-mode_of Activate t k rs = activating
-mode_of Forecast t k rs = forecasting
-mode_of Follow t k rs = following t k rs
+-- the mode of a clause that follows a reading
+abbrev pub mode_of : Reading → Mode
+mode_of r = following r.time r.tag r.values.items
 
 -- ---- waits; what the code says of a wait in the record s holds whatever the place of s is
-abbrev pub mode_at : Event → List ℤ → Mode
-mode_at e rs = mode_of e.step e.time e.tag rs
+abbrev pub mode_at : Event → Mode
+mode_at Activate = activating
+mode_at Forecast = forecasting
+mode_at (Follow r) = mode_of r.now
 
 unfoldable pub condition_of : List ℕ → ℕ → ℕ → List ℤ → Bool
 condition_of s i d vs = is_true_cell (eval_cells vs (wait_at (expr d) 0 s i).condition)

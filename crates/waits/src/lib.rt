@@ -1,48 +1,42 @@
 // What becomes of a wait: its window, its `where`, and what a reading or time alone makes of it.
 #![tactic(auto)]
 
-ghost use Rattle.std.specs.Prelude.{◌≡◌, ◌++◌, ℕ, ◌+◌, ◌-◌, ◌≤◌, ℤ, pos, ◌-ℤ◌, length, take, drop};
+ghost use Rattle.std.specs.Prelude.{◌≡◌, ◌++◌, ℕ, ◌+◌, ◌-◌, ◌≤◌, ℤ, pos, nat_abs, ◌+ℤ◌, ◌-ℤ◌, length, take, drop};
 ghost use Rattle.csl.specs.Decode.{expr, wait_at};
 ghost use Rattle.arith.specs.Near.{Near};
 ghost use Rattle.csl.specs.Rules.{timing};
+ghost use Rattle.cells.specs.Evaluate.{eval_cells};
 ghost use Rattle.cells.specs.Reduce.{first_of, following, opens_later, then_values};
 ghost use Rattle.residues.specs.Reduces.{farthest};
-ghost use Rattle.waits.specs.Fates.{mode_at, FateIs, WindowIs, timing_is, condition_of};
+ghost use Rattle.waits.specs.Fates.{mode_of, mode_at, FateIs, WindowIs, timing_is, condition_of};
 
-use arith::{exact_difference, exact_sum, lesser};
+use arith::{exact_difference, exact_sum};
+use arrayvec::ArrayVec;
 use evaluation::{eval, is_true};
 use octets::{byte, record_end};
+use readings::Reading;
 use records::IN_SIGHT;
-use residues::copy;
 
-// Room for the values in sight and a reading's, or for an instance's values and its parties behind 16 of them.
+// Room for the values in sight, a reading's, and one more.
 pub const SIGHT_CELLS: usize = 24;
 
-// What a clause does that is activated: it waits, it follows a reading, or it tells its breach.
+// What a clause does: it is activated and waits, it tells its breach, or it follows a reading.
 #[derive(Clone, Copy)]
-pub enum Step {
+pub enum Event<'a> {
     Activate,
     Forecast,
-    Follow,
-}
-
-// A step, and for a reading that is followed its time and its type's number, the tag.
-#[derive(Clone, Copy)]
-pub struct Event {
-    pub step: Step,
-    pub time: usize,
-    pub tag: usize,
+    Follow(&'a Reading),
 }
 
 // The first and the last minute of a wait.
-#[derive(Clone, Copy)]
+#[derive(Clone, Copy, Debug, PartialEq, Eq)]
 struct Window {
     first: i64,
     last: i64,
 }
 
 // How a time stands to a window. One that ends before it begins is late, never early.
-#[derive(Clone, Copy)]
+#[derive(Clone, Copy, Debug, PartialEq, Eq)]
 enum Timing {
     Early,
     OnTime,
@@ -50,11 +44,20 @@ enum Timing {
 }
 
 // What becomes of a wait, with its last minute.
-#[derive(Clone, Copy)]
+#[derive(Clone, Copy, Debug, PartialEq, Eq)]
 pub enum Fate {
     Waits,
     Late(i64),
     Taken(i64),
+}
+
+// The minute that comes as long after another as an expression says.
+fn minutes_after(from: i64, span: &[u8], values: &[i64], depth: usize) -> i64
+    requires { Near (farthest + 1_000_000_000) from }
+    ensures { (result ≡ from +ℤ eval_cells values.now (expr depth span.now))
+        × Near (nat_abs from + 1_000_000_000) result }
+{
+    exact_sum(from, eval(span, values, depth))
 }
 
 // The window of the wait at i in the record s.
@@ -65,38 +68,31 @@ fn window_at(s: &[u8], i: usize, values: &[i64], a: usize, depth: usize) -> Wind
     let b = record_end(s, i + 1);
     let c = record_end(s, b);
     let e = record_end(s, c);
-    let after = eval(&s[b..c], values, depth);
-    let within = eval(&s[c..e], values, depth);
-    let first = exact_sum(a as i64, after);
-    let last = exact_sum(first, within);
-    Window {
-        first: first,
-        last: last,
-    }
+    let first = minutes_after(a as i64, &s[b..c], values, depth);
+    let last = minutes_after(first, &s[c..e], values, depth);
+    Window { first, last }
 }
 
-// The values in sight and the reading's go to the front of cells.
-fn sight(values: &[i64], reading: &[i64], cells: &mut [i64]) -> usize
-    requires { (length values.now ≤ 16) × (length reading.now ≤ 4) × (length cells.old ≡ 24) }
-    ensures { (result ≡ length (values.now ++ reading.now)) × (result ≤ 20)
-        × (cells.new ≡ (values.now ++ reading.now) ++ drop result cells.old) }
+// The values in sight and the reading's.
+fn sight(values: &[i64], reading: &Reading) -> ArrayVec<i64, SIGHT_CELLS>
+    requires { length values.now ≤ 16 }
+    ensures { (result.items ≡ values.now ++ reading.now.values.items) × (length result.items ≤ 20) }
 {
-    let n = values.len();
-    copy(cells, values);
-    copy(&mut cells[n..], reading);
-    n + reading.len()
+    let mut all = ArrayVec::new();
+    all.try_extend_from_slice(values).unwrap();
+    all.try_extend_from_slice(&reading.values).unwrap();
+    all
 }
 
 // `where` of the wait at i in the record s.
-fn holds(s: &[u8], i: usize, values: &[i64], reading: &[i64], depth: usize) -> bool
-    requires { (i ≤ 5) × (length values.now ≤ 16) × (length reading.now ≤ 4) }
-    ensures { result ≡ condition_of s.now i depth (values.now ++ reading.now) }
+fn holds(s: &[u8], i: usize, values: &[i64], reading: &Reading, depth: usize) -> bool
+    requires { (i ≤ 5) × (length values.now ≤ 16) }
+    ensures { result ≡ condition_of s.now i depth (values.now ++ reading.now.values.items) }
 {
-    let mut cells = [0i64; SIGHT_CELLS];
-    let n = sight(values, reading, &mut cells);
-    let a = lesser(i + 1, s.len());
+    let all = sight(values, reading);
+    let a = (i + 1).min(s.len());
     let b = record_end(s, i + 1);
-    let x = eval(&s[a..b], &cells[..n], depth);
+    let x = eval(&s[a..b], &all, depth);
     is_true(x)
 }
 
@@ -106,39 +102,27 @@ fn timing_of(w: Window, time: usize) -> Timing
     ensures { timing_is result ≡ timing (record { first = w.first; last = w.last }) time }
 {
     let t = time as i64;
-    let last = w.last;
-    if last < t {
+    if w.last < t {
         return Timing::Late;
     }
-    let first = w.first;
-    if t < first {
+    if t < w.first {
         return Timing::Early;
     }
     Timing::OnTime
 }
 
 // What a reading makes of the wait at i in the record s.
-fn follow(
-    time: usize,
-    tag: usize,
-    s: &[u8],
-    i: usize,
-    values: &[i64],
-    reading: &[i64],
-    a: usize,
-    depth: usize,
-) -> Fate
-    requires { (time ≤ farthest) × (i ≤ 5) × (a ≤ farthest) × (length values.now ≤ 16) × (length reading.now ≤ 4) }
-    ensures { (p : ℕ) → FateIs (following time tag reading.now) values.now a
-        (wait_at (expr depth) p s.now i) result }
+fn follow(reading: &Reading, s: &[u8], i: usize, values: &[i64], a: usize, depth: usize) -> Fate
+    requires { (i ≤ 5) × (a ≤ farthest) × (length values.now ≤ 16) }
+    ensures { (p : ℕ) → FateIs (mode_of reading.now) values.now a (wait_at (expr depth) p s.now i) result }
 {
     let w = window_at(s, i, values, a, depth);
     let last = w.last;
-    match timing_of(w, time) {
+    match timing_of(w, reading.time) {
         Timing::Late => Fate::Late(last),
         Timing::Early => Fate::Waits,
         Timing::OnTime => {
-            if byte(s, i) != tag {
+            if byte(s, i) != reading.tag {
                 return Fate::Waits;
             }
             if holds(s, i, values, reading, depth) {
@@ -156,74 +140,58 @@ fn first_at(s: &[u8], i: usize, values: &[i64], a: usize, depth: usize) -> i64
 {
     let b = record_end(s, i + 1);
     let c = record_end(s, b);
-    let after = eval(&s[b..c], values, depth);
-    exact_sum(a as i64, after)
+    minutes_after(a as i64, &s[b..c], values, depth)
 }
 
 // The wait at i in the record s wants the reading, its `where` is true, and its first minute is later. Only then is
 // `where` asked.
 pub fn opens_later(
-    event: Event,
+    reading: &Reading,
     s: &[u8],
     i: usize,
     values: &[i64],
-    reading: &[i64],
     a: usize,
     depth: usize,
 ) -> bool
-    requires { (event.time ≤ farthest) × (i ≤ 5) × (a ≤ farthest) × (length values.now ≤ 16) × (length reading.now ≤ 4) }
+    requires { (i ≤ 5) × (a ≤ farthest) × (length values.now ≤ 16) }
     ensures { (p : ℕ) → result ≡ opens_later values.now a (wait_at (expr depth) p s.now i)
-        event.time event.tag reading.now }
+        reading.now.time reading.now.tag reading.now.values.items }
 {
-    if byte(s, i) != event.tag {
+    if byte(s, i) != reading.tag {
         return false;
     }
     let first = first_at(s, i, values, a, depth);
-    let at = event.time as i64;
+    let at = reading.time as i64;
     if at < first {
         return holds(s, i, values, reading, depth);
     }
     false
 }
 
-pub fn becomes(
-    event: Event,
-    s: &[u8],
-    i: usize,
-    values: &[i64],
-    reading: &[i64],
-    a: usize,
-    depth: usize,
-) -> Fate
-    requires { (event.time ≤ farthest) × (i ≤ 5) × (a ≤ farthest) × (length values.now ≤ 16) × (length reading.now ≤ 4) }
-    ensures { (p : ℕ) → FateIs (mode_at event reading.now) values.now a (wait_at (expr depth) p s.now i) result }
+// What becomes of the wait at i in the record s.
+pub fn becomes(event: Event<'_>, s: &[u8], i: usize, values: &[i64], a: usize, depth: usize) -> Fate
+    requires { (i ≤ 5) × (a ≤ farthest) × (length values.now ≤ 16) }
+    ensures { (p : ℕ) → FateIs (mode_at event.entry) values.now a (wait_at (expr depth) p s.now i) result }
 {
-    let step = event.step;
-    match step {
-        Step::Activate => Fate::Waits,
-        Step::Forecast => {
+    match event {
+        Event::Activate => Fate::Waits,
+        Event::Forecast => {
             let w = window_at(s, i, values, a, depth);
-            let last = w.last;
-            Fate::Late(last)
+            Fate::Late(w.last)
         }
-        Step::Follow => follow(event.time, event.tag, s, i, values, reading, a, depth),
+        Event::Follow(reading) => follow(reading, s, i, values, a, depth),
     }
 }
 
 // The values in sight of a `then`, at most 16: those in sight, the reading's, and the minutes that were left.
-pub fn then_values(
-    values: &[i64],
-    reading: &[i64],
-    last: i64,
-    time: usize,
-    cells: &mut [i64],
-) -> usize
-    requires { (length values.now ≤ 16) × (length reading.now ≤ 4) × (length cells.old ≡ 24)
-        × (time ≤ farthest) × Near (farthest + 2_000_000_000) last }
-    ensures { (take result cells.new ≡ then_values values.now reading.now (last -ℤ pos time)) × (result ≤ 16) }
+pub fn then_values(values: &[i64], reading: &Reading, last: i64) -> ArrayVec<i64, SIGHT_CELLS>
+    requires { (length values.now ≤ 16) × Near (farthest + 2_000_000_000) last }
+    ensures { (result.items ≡ then_values values.now reading.now.values.items (last -ℤ pos reading.now.time))
+        × (length result.items ≤ 16) }
 {
-    let left = exact_difference(last, time as i64);
-    let n = sight(values, reading, cells);
-    cells[n] = left;
-    lesser(n + 1, IN_SIGHT)
+    let left = exact_difference(last, reading.time as i64);
+    let mut all = sight(values, reading);
+    all.push(left);
+    all.truncate(IN_SIGHT);
+    all
 }

@@ -3,23 +3,22 @@ use mathlib.Core.Path.{◌≡◌, refl, sym, ap, ap₂, ◌∙◌}
 use mathlib.Core.Bool.{Bool, true, false, cond, false≢true, ◌||◌}
 use mathlib.Core.List.{List}
 use mathlib.Core.Option.{Option, none, some}
-use Prim.Native.Nat.{ℕ, zero, suc, ◌+◌, ◌-◌, ◌*◌, ◌≤◌, ◌<◌}
+use Prim.Native.Nat.{ℕ, zero, suc, ◌+◌, ◌-◌, ◌*◌, ◌<◌}
 use native.Mathlib.Omega.{arith}
 use borrow.Author.Tests.{ltb-true, ltb-false, ne_eqb}
 use lib.Dec.{eqb, ltb}
 use lib.IntN.{ℤ, pos}
 use lib.ListN.{length, get_or, take, drop}
 use lib.Seq.{drop-drop}
-use Rattle.csl.specs.Bytes.{byte, part, record_end}
+use Rattle.csl.specs.Bytes.{byte, part}
 use Rattle.csl.specs.Lists.{at}
 use Rattle.csl.specs.Syntax.{Clause, Head, and, or, fulfilled, bad_clause, instance}
 use Rattle.csl.specs.Decode.{ClauseKind, fulfilled_kind, if_kind, join_kind, instance_kind, no_clause, clause_kind}
-use Rattle.csl.specs.Decode.{arguments, clause, clause_body, expr, heads_of, instance_of, records_end}
+use Rattle.csl.specs.Decode.{arguments, clause, clause_body, expr, instance_of, records_end}
 use Rattle.csl.specs.Outcomes.{Residue, unit, both, units}
 use Rattle.laws.proofs.Bools.{by_test}
 use Rattle.cells.specs.Across.{nat_of, clause_opens_later, unit_opens_later, some_open_later}
 use Rattle.walk.specs.Tree.{TreeOf, Front}
-use Rattle.walk.proofs.WaitingUnits.{cell_at, cells_at}
 
 -- ---- a clause of another kind than 17 and 18 waits for nothing
 module _ (t k : ℕ) (rs vs : List ℤ) (a : ℕ) where
@@ -59,19 +58,6 @@ module _ (t k : ℕ) (rs vs : List ℤ) (a : ℕ) where
     unfolding clause_kind
     other_kind n f g = rw (ne_eqb n 17 f, ne_eqb n 18 g)
         (sym (by_kinds (eqb n 16) (eqb n 19) (eqb n 20) (eqb n 21) (eqb n 22)))
-
--- ---- the first unit, from the table's cells
-pub later_at_lem : (t k : ℕ) (rs : List ℤ) (s : List ℕ) (values : ℕ) (table : List ℤ) → values ≤ 16
-    → unit_opens_later t k rs s values (take 24 table) ≡ clause_opens_later t k rs
-    (clause (heads_of s) 23 (nat_of (get_or table 1 (pos 0)))
-    (part s (nat_of (get_or table 1 (pos 0))) (record_end s (nat_of (get_or table 1 (pos 0))))))
-    (take (8 + values - 8) (drop 8 table)) (nat_of (get_or table 2 (pos 0)))
-unfolding unit_opens_later
-later_at_lem t k rs s values table h = rw (
-  cell_at table 1 (omega arith),
-  cell_at table 2 (omega arith),
-  cells_at table 8 values (omega arith),
-) refl
 
 -- ---- every unit of a tree stands at the front of what is left
 module _ {A : Type 0} where

@@ -150,4 +150,9 @@ pub tree_only : {xs : List cells.Reckoned} {x : cells.Reckoned} → xs ≡ x ∷
 unfolding first_of
 tree_only e = rw e refl
 
--- what `&l[k..]` is
+-- where the right side of a join begins
+pub twice : (k : ℕ) → 2 * (1 + k) ≡ 2 + 2 * k
+twice k = omega arith
+
+pub cells_of : (k : ℕ) → 24 * (1 + k) ≡ 24 + 24 * k
+cells_of k = omega arith

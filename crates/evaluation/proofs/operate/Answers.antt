@@ -1,37 +1,51 @@
--- One kind, one operator; the arithmetic ones are left for `arithmetic`.
-use mathlib.Core.Path.{◌∙◌, ap}
-use Rattle.arith.proofs.Conds.{keys}
-use Rattle.csl.specs.Syntax.{conj, less, equal, arithmetic}
+-- One kind, one operator.
+use mathlib.Core.Path.{◌∙◌, ap, sym}
 use Rattle.records.specs.Kinds.{op_of, arithmetic_of}
-use Rattle.cells.specs.Evaluate.{apply_cells, truth_cell}
-use Rattle.evaluation.proofs.Evaluates.{as_op}
+use Rattle.cells.specs.Evaluate.{apply_cells, is_true_cell, truth_cell}
+use lib.IntN.{pos}
+use native.Mathlib.Omega.{arith}
+use Rattle.arith.proofs.Conds.{on_told, off_told}
+use Rattle.arith.proofs.Ints.{read}
+use Rattle.arith.proofs.Numbers.{held_fits}
+use Rattle.arith.proofs.Ranges.{equal_is}
+use Rattle.evaluation.proofs.Evaluates.{other_op}
 use Rattle.evaluation.proofs.operate.Goals as goal
+use Rattle.evaluation.proofs.operate.Goals.{then-holds, else-holds}
 
-pub returns-in-41 : goal.returns-in-41
-unfolding op_of
-returns-in-41 c =
-    let k = c.args.kind in as_op c.args.x c.args.y c.ranges.x c.ranges.y
-    {o = conj} {o' = op_of k} c.conjunction.type_inv c.conjunction.ensures (search keys depth 9)
+pub returns-in-37 : goal.returns-in-37
+unfolding op_of arithmetic_of apply_cells
+returns-in-37 c = rw c.in-37.is c.add.ensures
+
+pub returns-in-38 : goal.returns-in-38
+unfolding op_of arithmetic_of apply_cells
+returns-in-38 c = rw c.in-38.is c.sub.ensures
+
+pub returns-in-39 : goal.returns-in-39
+unfolding op_of arithmetic_of apply_cells
+returns-in-39 c = rw c.in-39.is c.mul.ensures
+
+pub returns-after-holds : goal.returns-after-holds
+unfolding op_of arithmetic_of apply_cells truth_cell
+returns-after-holds c = rw c.in-41.is (elim c.if-holds.branch [
+  | then-holds w ↦ on_told (is_true_cell c.args.x) (truth_cell (is_true_cell c.args.y)) (pos 0) c.holds.ensures
+      w.if-holds.true (c.truth.ensures ∙ ap truth_cell (w.truth-is ∙ w.holds-then-holds.ensures))
+  | else-holds w ↦ off_told (is_true_cell c.args.x) (truth_cell (is_true_cell c.args.y)) (pos 0) c.holds.ensures
+      w.if-holds.false (c.truth.ensures ∙ ap truth_cell (w.truth-is ∙ w.if-holds.false))
+])
 
 pub returns-in-42 : goal.returns-in-42
-unfolding op_of apply_cells
+unfolding op_of arithmetic_of apply_cells
 returns-in-42 c =
-    let k = c.args.kind in as_op c.args.x c.args.y c.ranges.x
-    c.ranges.y {o = less} {o' = op_of k} c.truth_cell.type_inv
-    (c.truth_cell.ensures.0 ∙ ap truth_cell c.less.ensures, c.truth_cell.ensures.1)
-    (search keys depth 9)
+    let x = c.get.ensures in let y = c.get-in-42.ensures in
+    rw c.in-42.is (rw (read (held_fits x.1), read (held_fits y.1), x.0, y.0) at c.truth-in-42.ensures)
 
 pub returns-in-43 : goal.returns-in-43
-unfolding op_of apply_cells
-returns-in-43 c =
-    let k = c.args.kind in as_op c.args.x c.args.y c.ranges.x
-    c.ranges.y {o = equal} {o' = op_of k} c.truth_cell-in-43.type_inv
-    (c.truth_cell-in-43.ensures.0 ∙ ap truth_cell c.equal.ensures, c.truth_cell-in-43.ensures.1)
-    (search keys depth 9)
+unfolding op_of arithmetic_of apply_cells
+returns-in-43 c = rw c.in-43.is (c.truth-in-43.ensures ∙ ap truth_cell (c.eq.ensures ∙ equal_is c.args.x c.args.y))
 
 pub returns-in_default : goal.returns-in_default
-unfolding op_of apply_cells
+unfolding apply_cells
 returns-in_default c =
-    let k = c.args.kind in as_op c.args.x c.args.y c.ranges.x c.ranges.y
-    {o = arithmetic (arithmetic_of c.args.kind)} {o' = op_of k} c.arithmetic.type_inv c.arithmetic.ensures
-    (search keys depth 9)
+    let other = other_op c.args.kind (λ e. omega arith) (λ e. omega arith) (λ e. omega arith)
+    (λ e. omega arith) (λ e. omega arith) (λ e. omega arith) in
+    c.div.ensures ∙ ap (λ o. apply_cells o c.args.x c.args.y) (sym other)

@@ -5,8 +5,8 @@ use Rattle.formed.proofs.instance_formed.Goals as goal
 pub returns-then-s-lt5 : goal.returns-then-s-lt5
 returns-then-s-lt5 c = search instances
 
-pub returns-then-k-byte : goal.returns-then-k-byte
-returns-then-k-byte c = search instances
+pub returns-then-k-template_count : goal.returns-then-k-template_count
+returns-then-k-template_count c = search instances
 
 pub returns : goal.returns
 returns c = search instances

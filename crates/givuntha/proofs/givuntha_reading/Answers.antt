@@ -1,11 +1,14 @@
 -- `givuntha_reading` gives the number, the mark and the cost of `reading`'s answer.
+use mathlib.Core.Path.{◌≡◌, refl}
+use mathlib.Core.Bool.{Bool, true, false}
+use mir.Val.{bool_byte}
 use Rattle.csl.specs.Early.{mark_of}
 use Rattle.givuntha.proofs.givuntha_reading.Goals as goal
 
-pub returns-then-mark : goal.returns-then-mark
+marked : (early : Bool) → mark_of early ≡ bool_byte early
 unfolding mark_of
-returns-then-mark c = rw c.if-mark.true at c.in-Accepted.ensures
+marked true = refl
+marked false = refl
 
-pub returns-else-mark : goal.returns-else-mark
-unfolding mark_of
-returns-else-mark c = rw c.if-mark.false at c.in-Accepted.ensures
+pub returns-in-Ok : goal.returns-in-Ok
+returns-in-Ok c = rw c.from.ensures (rw (marked c.in-Ok.taken.early) at c.in-Ok.ensures)

@@ -1,18 +1,18 @@
 -- The start is a step that activates the main clause, at the start time.
 use native.Mathlib.Omega.{arith}
-use Rattle.monitor.proofs.Begins.{begin_due, begin_no, begin_yes}
+use Rattle.monitor.proofs.Begins.{begin_due, begun}
 use Rattle.monitor.proofs.begin.Goals as goal
 
 pub advance-requires : goal.advance-requires
-advance-requires c =
-    begin_due c.requires.0.1 c.requires.1 _ _ (omega arith) c.unsigned32.ensures.1 (omega arith)
+advance-requires c = rw c.agreement-agreement.ensures.0
+    (begin_due c.requires.0 c.requires.1 _ (omega arith) c.start.ensures.1)
 
-pub returns-in-TooMany : goal.returns-in-TooMany
-returns-in-TooMany c =
-    begin_no c.requires.0.1 c.requires.1 _ _ c.advance.ensures
-    c.unsigned32.ensures.0 c.in-TooMany.is
+pub returns-in-Ok : goal.returns-in-Ok
+returns-in-Ok c =
+    begun c.requires.0 c.requires.1 _ (rw c.agreement-agreement.ensures.0 at c.in-Ok.ensures)
+    (rw c.agreement-agreement.ensures.0 at c.start.ensures.0)
 
-pub returns-in-Wrote : goal.returns-in-Wrote
-returns-in-Wrote c =
-    begin_yes c.requires.0.1 c.requires.1 _ _ c.advance.ensures
-    c.unsigned32.ensures.0 c.in-Wrote.is
+pub returns-in-Err : goal.returns-in-Err
+returns-in-Err c =
+    begun c.requires.0 c.requires.1 _ (rw c.agreement-agreement.ensures.0 at c.in-Err.ensures)
+    (rw c.agreement-agreement.ensures.0 at c.start.ensures.0)

@@ -1,11 +1,14 @@
 -- What is lent is refused, or the run that it shows reads on.
-use borrow.Author.Rules.{rules}
-use Rattle.monitor.proofs.Opens.{opens_no, opens_yes}
+use Rattle.std.proofs.lemmas.Result.{err_from_is_err_and}
 use Rattle.monitor.proofs.reading.Goals as goal
 
-pub read_on-requires : goal.read_on-requires
-read_on-requires c = search (opens_yes, rules)
+pub returns-in_err-run : goal.returns-in_err-run
+returns-in_err-run c =
+    let p = err_from_is_err_and c.from_residual.result c.from_residual.ensures.1 in
+    rw (p.1, p.2) (c.in_err-run.ensures.reading _)
 
-pub returns-in-Refused : goal.returns-in-Refused
-returns-in-Refused c =
-    (opens_no _ _ _ _ c.open_run.ensures c.in-Refused.is).reading _
+pub read_on-requires : goal.read_on-requires
+read_on-requires c = let run = c.in_ok-run.ensures in rw run.0 run.1
+
+pub returns : goal.returns
+returns c = rw c.in_ok-run.ensures.0 at c.read_on.ensures

@@ -3,14 +3,10 @@ use native.Mathlib.Omega.{arith}
 use Rattle.csl.specs.Bytes.{record_end}
 use Rattle.octets.proofs.record_end.Goals as goal
 
+pub returns : goal.returns
+unfolding record_end
+returns c = (omega arith, omega arith, omega arith)
+
 pub returns-then-a-s : goal.returns-then-a-s
 unfolding record_end
 returns-then-a-s c = (omega arith, omega arith, omega arith)
-
-pub returns-then-e-s : goal.returns-then-e-s
-unfolding record_end
-returns-then-e-s c = (omega arith, omega arith, omega arith)
-
-pub returns-else-e-s : goal.returns-else-e-s
-unfolding record_end
-returns-else-e-s c = (omega arith, omega arith, omega arith)

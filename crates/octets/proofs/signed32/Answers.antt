@@ -1,15 +1,16 @@
--- Below 2^31 the number is itself; from there on 2^32 is taken away, as two's complement has it.
+-- The bits of 32 with a sign are two's complement.
+use mathlib.Core.Path.{◌∙◌}
+use mir.Syntax.{w32}
+use mir.ValLaws.{to_z-of_z}
 use Rattle.csl.specs.Bytes.{signed32}
-use Rattle.octets.proofs.Bytes.{low, high_asked, high_given}
+use Rattle.arith.proofs.Ints.{read! }
+use Rattle.octets.proofs.Bytes.{signed_is}
 use Rattle.octets.proofs.signed32.Goals as goal
 
-pub overflow_sub-result : goal.overflow_sub-result
-overflow_sub-result c = let w = c.unsigned32-v.ensures in high_asked w.0 c.if-v-lt2147483648.false w.1
-
-pub returns-then-v-lt2147483648 : goal.returns-then-v-lt2147483648
+pub returns : goal.returns
 unfolding signed32
-returns-then-v-lt2147483648 c = low c.unsigned32-v.ensures.0 c.if-v-lt2147483648.true
-
-pub returns-else-v-lt2147483648 : goal.returns-else-v-lt2147483648
-unfolding signed32
-returns-else-v-lt2147483648 c = let w = c.unsigned32-v.ensures in high_given w.0 c.if-v-lt2147483648.false w.1
+returns c =
+    let v = c.unsigned32-v.ensures in
+    read! c.from.type_inv ∙ c.from.ensures
+    ∙ to_z-of_z w32 c.cast_signed.result (record { sfits = c.cast_signed.type_inv }) ∙ c.cast_signed.ensures
+    ∙ signed_is v.0 v.1

@@ -9,33 +9,27 @@ unfolding StepAt
 returns-then-place-base c =
     record {
       each = λ d t. (
-        obligation_here c.args.place c.args.count c.args.types.now t
-            (sym c.requires.is_obligation) refl c.if-place-base.true,
+        obligation_here c.args.place c.args.sight.now.items t (sym c.requires.is_obligation) refl
+            c.if-place-base.true,
         refl,
       );
     }
 
 pub first_clause-c-requires : goal.first_clause-c-requires
-first_clause-c-requires c = typed_room c.requires.indexed.1.typed
+first_clause-c-requires c = typed_room c.requires.stands.typed
 
-pub then_sight-n-requires : goal.then_sight-n-requires
-then_sight-n-requires c =
-    let stands = c.requires.indexed.1 in (
-      c.requires.indexed.0,
-      record {
-        room = stands.room;
-        few = stands.few;
-        sees = rw c.byte.ensures.0 (obligation_sees c.args.place c.args.count
-            c.args.types.now stands.typed.at (sym c.requires.is_obligation) refl);
-      },
-    )
+pub then_sight-requires : goal.then_sight-requires
+then_sight-requires c =
+    record {
+      sees = rw c.byte.ensures.0 (obligation_sees c.args.place c.args.sight.now.items c.requires.stands.typed.at
+          (sym c.requires.is_obligation) refl);
+    }
 
 pub returns : goal.returns
 unfolding StepAt
 returns c =
-    let then-sight = c.then_sight-n in
     record {
-      each = λ d t. obligation_into c.args.place c.args.count c.args.types.now t
-          (sym c.requires.is_obligation) then-sight.new.types refl c.if-place-base.false
-          c.first_clause-c.ensures.0 c.byte.ensures.0 then-sight.ensures;
+      each = λ d t. obligation_into c.args.place c.args.sight.now.items t
+          (sym c.requires.is_obligation) c.then_sight.new.sight.items refl c.if-place-base.false
+          c.first_clause-c.ensures.0 c.byte.ensures.0 c.then_sight.ensures;
     }

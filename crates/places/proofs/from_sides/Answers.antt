@@ -7,16 +7,14 @@ pub returns-then-place-base : goal.returns-then-place-base
 unfolding StepAt
 returns-then-place-base c =
     λ a types. record {
-      each = λ d t. sides_left c.args.place c.args.count types t c.requires.1
-          c.first_clause-c.ensures.0 c.record_end-f.ensures.0 c.requires.4 c.requires.2
-          c.requires.3 c.if-place-base.true;
+      each = λ d t. sides_left c.args.place types t c.requires.1 c.first_clause-c.ensures.0 c.record_end-f.ensures.0
+          c.requires.2 c.requires.3 c.if-place-base.true;
     }
 
 pub returns : goal.returns
 unfolding StepAt
 returns c =
     λ a types. record {
-      each = λ d t. sides_right c.args.place c.args.count types t c.requires.1
-          c.first_clause-c.ensures.0 c.record_end-f.ensures.0 c.requires.4 c.requires.2
-          c.requires.3 c.if-place-base.false;
+      each = λ d t. sides_right c.args.place types t c.requires.1 c.first_clause-c.ensures.0 c.record_end-f.ensures.0
+          c.requires.2 c.requires.3 c.if-place-base.false;
     }

@@ -1,35 +1,34 @@
 -- The body of an accepted template is typed under its values, so the descent finds what the definition finds.
-use Rattle.places.proofs.Descents.{values_room, values_are, body_typed, template_located}
-use Rattle.arith.proofs.Lists.{length_part}
+use mathlib.Core.Path.{◌≡◌, ap, ◌∙◌}
 use native.Mathlib.Omega.{arith}
+use Rattle.csl.specs.Decode.{tys_of}
+use Rattle.records.specs.Index.{head_at}
+use Rattle.places.proofs.Descents.{made, body_stands, body_found, finds_none, finds_some}
 use Rattle.places.proofs.in_template.Goals as goal
+use Rattle.places.proofs.in_template.Goals.{After-sight-1}
 
-pub slice_bounds-append-end : goal.slice_bounds-append-end
-slice_bounds-append-end c =
-    omega (arith, values_room c.requires.0 c.requires.1 c.template_place-a.ensures.0 c.value_count-n.ensures.0)
+-- the sight at the template's body has its values
+sight_is : (c : After-sight-1) → tys_of c.unwrap-sight.result.items ≡ (head_at c.args.agreement.now c.args.k).values
+sight_is c =
+    ap tys_of (rw c.unwrap-sight.ensures at c.try_from.ensures).0 ∙ c.value_types-types.ensures.0.typed
+
+pub unwrap-sight-requires : goal.unwrap-sight-requires
+unwrap-sight-requires c = made _ _ c.try_from.ensures (omega (arith, c.value_types-types.ensures.0.few))
 
 pub descend-requires : goal.descend-requires
 descend-requires c =
-    let body = c.body_span-body.ensures in
-    let values = values_are c.requires.0 c.requires.1 c.template_place-a.ensures.0
-    c.value_count-n.ensures.0 c.args.types.now c.append.new.out c.append.ensures in (
-      c.requires.0,
-      record {
-        room = omega (arith, c.requires.3, c.append.auto.out);
-        few = omega arith;
-        typed = record { depth = 22; at = body_typed c.requires.1 body c.requires.2 values };
-        fits = omega (
-          arith,
-          body.ordered,
-          body.inside,
-          length_part c.args.agreement.now c.body_span-body.result.from c.body_span-body.result.to body.inside,
-        );
-      },
-    )
+    body_stands c.requires.1 c.requires.0 c.body_span-body.ensures.0 c.body-s.ensures.0
+    (sight_is (goal.at.descend-requires c).After-sight-1)
+
+pub returns-in_err-wait : goal.returns-in_err-wait
+returns-in_err-wait c =
+    rw c.from_residual.ensures (finds_none _ _ _
+    (body_found c.requires.1 c.requires.0 c.body_span-body.ensures.0 c.body-s.ensures.0
+    (sight_is (goal.at.returns-in_err-wait c).After-sight-1) c.descend.ensures) c.in_err-wait.was)
 
 pub returns : goal.returns
 returns c =
-    let values = values_are c.requires.0 c.requires.1 c.template_place-a.ensures.0
-    c.value_count-n.ensures.0 c.args.types.now c.append.new.out c.append.ensures in
-    template_located c.requires.1 c.body_span-body.ensures c.append.new.out
-    c.requires.2 c.param_count-params.ensures.0 values c.descend.ensures
+    let n = c.param_count.result in
+    finds_some _ (record { wait = c.in_ok-wait.wait; params = n; sight = c.descend.new.sight })
+    (body_found c.requires.1 c.requires.0 c.body_span-body.ensures.0 c.body-s.ensures.0
+    (sight_is (goal.at.returns c).After-sight-1) c.descend.ensures) c.param_count.ensures.0 c.in_ok-wait.was

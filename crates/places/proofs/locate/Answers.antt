@@ -1,73 +1,56 @@
 -- Records follow each other, so the first one that ends behind the place holds it, or none does.
-use mathlib.Core.Path.{refl, ap, ◌∙◌}
-use Rattle.places.proofs.Descents.{left_first, left_more, left_here, left_none, main_typed, main_located}
-use Rattle.arith.proofs.Lists.{length_part}
-use lib.ListN.{length}
+use mathlib.Core.Path.{refl}
 use native.Mathlib.Omega.{arith}
+use Rattle.places.proofs.Descents.{main_stands, main_found, finds_none, finds_some}
+use Rattle.std.proofs.Common.{rules, tests}
+use Rattle.std.proofs.lemmas.Iterator.{YieldsList-from_range, first_from_find}
+use Prim.Native.Nat.{◌≤◌, ◌<◌}
+use Rattle.csl.specs.Bytes.{record_end}
+use Rattle.records.specs.Index.{template_place}
+use Rattle.places.proofs.Descents.{FirstBehind, none_behind, one_behind}
 use Rattle.places.proofs.locate.Goals as goal
+use Rattle.places.proofs.locate.Goals.{After-find}
 
 pub descend-requires : goal.descend-requires
 descend-requires c =
-    let m = c.main_place-m in
-    let A = c.args.agreement.now in (
-      c.requires.0,
-      record {
-        room = c.requires.2;
-        few = omega arith;
-        typed = record {
-          depth = 23;
-          at = main_typed c.requires.0 c.args.place c.args.types.now c.requires.1 m.ensures.0;
-        };
-        fits = omega (arith, length_part A m.result (length A) (omega arith), m.ensures);
-      },
-    )
+    main_stands c.main.ensures.1 c.args.place c.requires c.main_place-m.ensures.0 c.main.ensures.0 c.new-sight.ensures
+
+pub returns-in_err-wait : goal.returns-in_err-wait
+returns-in_err-wait c =
+    rw c.from_residual.ensures (finds_none _ _ _ (main_found c.main.ensures.1 c.args.place c.requires
+    c.main_place-m.ensures.0 c.main.ensures.0 c.new-sight.ensures c.if-m-place.true c.descend.ensures)
+    c.in_err-wait.was)
 
 pub returns-then-m-place : goal.returns-then-m-place
 returns-then-m-place c =
-    main_located c.requires.0 c.args.place c.requires.1 c.main_place-m.ensures.0 c.if-m-place.true c.descend.ensures
+    finds_some _ (record { wait = c.in_ok-wait.wait; params = 0; sight = c.descend.new.sight })
+    (main_found c.main.ensures.1 c.args.place c.requires c.main_place-m.ensures.0 c.main.ensures.0
+    c.new-sight.ensures c.if-m-place.true c.descend.ensures) refl c.in_ok-wait.was
 
-pub loop-k-init : goal.loop-k-init
-loop-k-init c = (
-  refl,
-  c.byte-k-end.ensures.0,
-  left_first c.requires.0 c.args.place c.main_place-m.ensures.0 c.if-m-place.false,
-)
+-- the first template that ends behind the place
+first_is : (c : After-find) → FirstBehind c.args.agreement.now c.args.place c.template_count-n.result c.find.result
+first_is c =
+    let n = c.template_count-n.result in
+    let A = c.args.agreement.now in
+    rw c.bytes-bytes.ensures.0 at (first_from_find _ _ c.find.result
+    (λ k. c.args.place < record_end c.bytes-bytes.result.now (template_place A k))
+    (λ k. record_end c.bytes-bytes.result.now (template_place A k) ≤ c.args.place) c.find.ensures.ran
+    (YieldsList-from_range 0 n n refl (omega arith)) (λ x q k. search (rules, tests)) (λ x q k. search (rules, tests)))
 
-pub template_place-a-requires : goal.template_place-a-requires
-template_place-a-requires c = (c.requires.0, omega (arith, c.loop-k.invariant.1, c.loop-k-test.true))
+pub returns-in_err-k : goal.returns-in_err-k
+returns-in_err-k c =
+    rw c.from_residual-in_err-k.ensures (none_behind c.template_count-n.ensures.2 c.args.place
+    c.main_place-m.ensures.0 c.if-m-place.false c.template_count-n.ensures.0 _
+    (first_is (goal.at.returns-in_err-k c).After-find) c.in_err-k.was)
 
 pub in_template-requires : goal.in_template-requires
-in_template-requires c =
-    let loop = c.loop-k in (
-      c.requires.0,
-      omega (arith, loop.invariant.1, c.loop-k-test.true),
-      c.requires.1,
-      rw loop.invariant.0 c.requires.2,
-    )
-
-pub shape_of-types-then-place-record_end : goal.shape_of-types-then-place-record_end
-shape_of-types-then-place-record_end c = c.in_template.auto.types ∙ ap length c.loop-k.invariant.0
-
-pub returns-then-place-record_end : goal.returns-then-place-record_end
-returns-then-place-record_end c =
-    let loop = c.loop-k in
-    left_here c.requires.0 c.args.place _ _ (omega (arith, loop.invariant.1, c.loop-k-test.true))
-    c.template_place-a.ensures.0 c.record_end.ensures.0
-    c.if-place-record_end.true loop.invariant.2 c.in_template.ensures
-
-pub loop-k-preserved : goal.loop-k-preserved
-loop-k-preserved c =
-    let loop = c.loop-k in (
-      loop.invariant.0,
-      loop.invariant.1,
-      left_more c.requires.0 c.args.place (omega (arith, loop.invariant.1, c.loop-k-test.true))
-          c.template_place-a.ensures.0 c.record_end.ensures.0 c.if-place-record_end.false loop.invariant.2,
-    )
-
-pub shape_of-types : goal.shape_of-types
-shape_of-types c = ap length c.loop-k.invariant.0
+in_template-requires c = (
+  (one_behind c.template_count-n.ensures.2 c.args.place c.main_place-m.ensures.0 c.if-m-place.false
+      c.template_count-n.ensures.0 _ (first_is (goal.at.in_template-requires c).After-find) c.in_ok-k.was).0,
+  c.requires,
+)
 
 pub returns : goal.returns
 returns c =
-    let loop = c.loop-k in
-    left_none c.requires.0 c.args.place _ (omega (arith, loop.invariant.1, c.loop-k-test.false)) loop.invariant.2
+    (one_behind c.template_count-n.ensures.2 c.args.place c.main_place-m.ensures.0 c.if-m-place.false
+    c.template_count-n.ensures.0 _ (first_is (goal.at.returns c).After-find) c.in_ok-k.was).1 _ c.in_template.ensures

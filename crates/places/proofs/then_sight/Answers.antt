@@ -1,76 +1,30 @@
 -- In a typed clause the wanted type is there and what `then` sees is at most 16.
 use native.Mathlib.Omega.{arith}
-use Rattle.places.proofs.Sights.{named, values_room, sight_room, part_room, sight_is}
+use Rattle.places.proofs.Sights.{named, sight_room, sight_is}
 use Rattle.places.proofs.then_sight.Goals as goal
 
 pub overflow_sub-wanted : goal.overflow_sub-wanted
-overflow_sub-wanted c = omega (arith, named c.args.types.now c.args.count c.requires)
+overflow_sub-wanted c = omega (arith, named c.args.sight.now.items c.requires)
 
-pub reading_place-a-requires : goal.reading_place-a-requires
-reading_place-a-requires c = (c.requires.0, (named c.args.types.now c.args.count c.requires).1)
+pub reading_types-types-requires : goal.reading_types-types-requires
+reading_types-types-requires c = (named c.args.sight.now.items c.requires).1
 
-pub overflow_sub-n : goal.overflow_sub-n
-overflow_sub-n c =
-    let v = values_room c.args.types.now c.args.count c.requires c.reading_place-a.ensures.0 c.record_end-e.ensures.0 in
-    omega arith
+pub unwrap-requires : goal.unwrap-requires
+unwrap-requires c =
+    c.try_extend_from_slice.ensures.variant.1
+    (omega (arith, sight_room c.args.sight.now.items c.requires c.reading_types-types.ensures.0))
 
-pub overflow_sub-n-2 : goal.overflow_sub-n-2
-overflow_sub-n-2 c =
-    let v = values_room c.args.types.now c.args.count c.requires c.reading_place-a.ensures.0 c.record_end-e.ensures.0 in
-    omega arith
-
-pub overflow_add-n : goal.overflow_add-n
-overflow_add-n c =
-    omega (
-      arith,
-      sight_room c.args.types.now c.args.count c.requires c.reading_place-a.ensures.0 c.record_end-e.ensures.0,
-    )
-
-pub overflow_add-a : goal.overflow_add-a
-overflow_add-a c =
-    let v = values_room c.args.types.now c.args.count c.requires c.reading_place-a.ensures.0 c.record_end-e.ensures.0 in
-    omega arith
-
-pub slice_bounds-append-count : goal.slice_bounds-append-count
-slice_bounds-append-count c =
-    let v = values_room c.args.types.now c.args.count c.requires c.reading_place-a.ensures.0 c.record_end-e.ensures.0 in
-    omega arith
-
-pub slice_bounds-append-start : goal.slice_bounds-append-start
-slice_bounds-append-start c =
-    let v = values_room c.args.types.now c.args.count c.requires c.reading_place-a.ensures.0 c.record_end-e.ensures.0 in
-    omega arith
-
-pub slice_bounds-append-end : goal.slice_bounds-append-end
-slice_bounds-append-end c =
-    let v = values_room c.args.types.now c.args.count c.requires c.reading_place-a.ensures.0 c.record_end-e.ensures.0 in
-    omega arith
-
-pub append-requires : goal.append-requires
-append-requires c =
-    let record-end = c.record_end-e in
-    omega (
-      arith,
-      sight_room c.args.types.now c.args.count c.requires c.reading_place-a.ensures.0 record-end.ensures.0,
-      part_room c.args.types.now c.args.count c.requires c.reading_place-a.ensures.0 record-end.ensures.0,
-    )
-
-pub bounds-types-n : goal.bounds-types-n
-bounds-types-n c =
-    let v = sight_room c.args.types.now c.args.count c.requires c.reading_place-a.ensures.0 c.record_end-e.ensures.0 in
-    omega arith
-
-pub overflow_add-result : goal.overflow_add-result
-overflow_add-result c =
-    let v = sight_room c.args.types.now c.args.count c.requires c.reading_place-a.ensures.0 c.record_end-e.ensures.0 in
-    omega arith
+pub push-requires : goal.push-requires
+push-requires c = (
+  omega arith,
+  omega (
+    arith,
+    sight_room c.args.sight.now.items c.requires c.reading_types-types.ensures.0,
+    rw c.unwrap.ensures at c.try_extend_from_slice.ensures.len,
+  ),
+)
 
 pub returns : goal.returns
 returns c =
-    let append = c.append in
-    let reading-place = c.reading_place-a in (
-      sight_room c.args.types.now c.args.count c.requires reading-place.ensures.0 c.record_end-e.ensures.0,
-      sight_is c.args.types.now c.args.count
-          c.requires reading-place.ensures.0 c.record_end-e.ensures.0 append.new.out
-          (omega (arith, append.auto.out, c.requires.1.room)) append.ensures,
-    )
+    sight_is c.args.sight.now.items c.requires c.reading_types-types.ensures.0
+    (rw c.unwrap.ensures at c.try_extend_from_slice.ensures.ok) (rw c.from.ensures at c.push.ensures.items)

@@ -1,27 +1,18 @@
--- At each turn the first i numbers are stored, and a is where the next begins.
-use mathlib.Core.Path.{◌≡◌, refl, ◌∙◌}
+-- After i turns the first i numbers are there, and the next stands behind them.
+use mathlib.Core.Path.{refl, ◌∙◌}
 use native.Mathlib.Omega.{arith}
-use lib.ListN.{length-set}
-use Rattle.csl.specs.Run.{numbers_from}
-use Rattle.arith.proofs.Ints.{seen, read! }
-use Rattle.readings.proofs.Reading.{numbers_more}
+use Rattle.arith.proofs.Ints.{read! }
+use Rattle.readings.proofs.Raw.{numbers_none, numbers_room, numbers_more}
 use Rattle.readings.proofs.read_numbers.Goals as goal
 
 pub loop-i-init : goal.loop-i-init
-unfolding numbers_from
-loop-i-init c = (omega arith, c.requires.1, omega arith, refl)
+loop-i-init c = c.new-values.ensures ∙ numbers_none c.args.bytes.now
+
+pub push-requires : goal.push-requires
+push-requires c = omega (arith, numbers_room c.loop-i.i c.args.bytes.now c.loop-i.invariant)
 
 pub loop-i-preserved : goal.loop-i-preserved
 loop-i-preserved c =
-    let l = c.loop-i in let s = c.args.reading.now in let z = c.signed32.result in (
-      omega arith,
-      length-set l.values l.i (seen z) ∙ l.invariant.1,
-      omega arith,
-      numbers_more s l.values
-          l.i l.invariant.3 l.invariant.2 (read! {z = z} c.signed32.type_inv ∙ c.signed32.ensures) (omega arith),
-    )
-
-pub returns : goal.returns
-returns c =
-    let l = c.loop-i in let b = c.args in let all : l.i ≡ b.n = omega arith in
-    record { room = l.invariant.1; read = rw all at l.invariant.3 }
+    let z = c.signed32.result in
+    c.push.ensures.items ∙ numbers_more c.args.bytes.now c.loop-i.i c.loop-i.invariant refl
+    (read! {z = z} c.signed32.type_inv ∙ c.signed32.ensures)

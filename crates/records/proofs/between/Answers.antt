@@ -1,11 +1,8 @@
--- Both tests together are the definition's.
-use Rattle.records.proofs.Listed.{range_on, range_off}
+-- The range has both its ends, as the definition has.
+use Rattle.std.proofs.Common.{rules, tests}
+use Rattle.csl.specs.Decode.{between}
 use Rattle.records.proofs.between.Goals as goal
 
-pub returns-then-low-n : goal.returns-then-low-n
-returns-then-low-n c =
-    range_on c.args.low c.args.high c.args.n c.if-low-n.true
-
-pub returns-else-low-n : goal.returns-else-low-n
-returns-else-low-n c =
-    range_off c.args.low c.args.high c.args.n c.if-low-n.false
+pub returns : goal.returns
+unfolding between
+returns c = let e = c.new.ensures in rw (c.contains.ensures.value, e.start, e.end, e.exhausted) (search (rules, tests))

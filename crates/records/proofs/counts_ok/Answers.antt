@@ -1,12 +1,8 @@
 -- Each test refuses what the definition refuses, and the last of them is the definition's last part.
 use mathlib.Core.Bool.{not}
 use mathlib.Core.Path.{ap}
-use Rattle.records.proofs.Listed.{counted_no_kind, counted_no_parties, counted_no_readings, counted_last}
+use Rattle.records.proofs.Listed.{counted_no_parties, counted_no_readings, counted_last}
 use Rattle.records.proofs.counts_ok.Goals as goal
-
-pub returns-then-kind-ne1 : goal.returns-then-kind-ne1
-returns-then-kind-ne1 c =
-    counted_no_kind c.args.agreement.now c.kind.ensures c.if-kind-ne1.true
 
 pub returns-then-not-between : goal.returns-then-not-between
 returns-then-not-between c =

@@ -30,7 +30,9 @@ returns-then-piece-head_size c =
 
 pub returns-then-not-types_ok : goal.returns-then-not-types_ok
 returns-then-not-types_ok c =
-    let q = c.args.piece.now in let n = c.byte-n.ensures.0 in template_no q λ h. untold
+    let q = c.args.piece.now in
+    let n = c.byte-n.ensures.0 in
+    template_no q λ h. untold
     (c.types_ok.ensures ∙ ap (λ i. all is_type (part q 5 (5 + i))) n) (ap not c.if-not-types_ok.true) h.types
 
 pub returns : goal.returns

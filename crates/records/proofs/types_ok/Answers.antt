@@ -1,33 +1,15 @@
--- All types before i are allowed, so those from i on decide.
-use mathlib.Core.Bool.{not}
-use mathlib.Core.Path.{ap}
-use mathlib.Core.Path.{refl}
-use native.Mathlib.Omega.{arith}
-use Rattle.records.proofs.Listed.{types_no, types_more, types_end}
+-- The chain asks of each byte what the definition asks.
+use mathlib.Core.Path.{◌∙◌}
+use Rattle.std.proofs.Common.{rules, tests}
+use Rattle.std.proofs.lemmas.Iterator.{YieldsList-from_slice}
+use Rattle.std.proofs.lemmas.Iterator.Search.{all_from_yields_List}
+use Rattle.csl.specs.Decode.{is_type, between}
+use Rattle.records.proofs.Listed.{all_is}
 use Rattle.records.proofs.types_ok.Goals as goal
 
-pub loop-i-init : goal.loop-i-init
-loop-i-init c = (omega arith, refl)
-
-pub returns-then-not-between : goal.returns-then-not-between
-returns-then-not-between c =
-    types_no c.args.types.now
-    c.loop-i.i c.loop-i.invariant.1 c.loop-i-test.true c.byte.ensures.0
-    c.between.ensures (ap not c.if-not-between.true)
-
-pub overflow_add-i : goal.overflow_add-i
-overflow_add-i c = omega arith
-
-pub loop-i-smaller : goal.loop-i-smaller
-loop-i-smaller c = omega arith
-
-pub loop-i-preserved : goal.loop-i-preserved
-loop-i-preserved c = (
-  omega arith,
-  types_more c.args.types.now c.loop-i.i c.loop-i.invariant.1
-      c.loop-i-test.true c.byte.ensures.0 c.between.ensures (ap not c.if-not-between.false),
-)
-
 pub returns : goal.returns
+unfolding is_type between
 returns c =
-    types_end c.args.types.now c.loop-i.i c.loop-i.invariant.1 c.loop-i-test.false
+    all_from_yields_List is_type c.all.new.self _ c.all.result c.all.ensures.ran
+    (YieldsList-from_slice c.args.types.now cc) (λ x b q k. search (rules, tests))
+    ∙ all_is is_type c.args.types.now

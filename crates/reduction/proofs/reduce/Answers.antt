@@ -4,16 +4,13 @@ use Rattle.reduction.proofs.Advances.{units_due, reckoned_main, reckoned_units}
 use Rattle.reduction.proofs.reduce.Goals as goal
 
 pub returns-in-Activate : goal.returns-in-Activate
-returns-in-Activate c =
-    reckoned_main c.requires.0 _ _ c.in-Activate.is c.activate_main.ensures
+returns-in-Activate c = reckoned_main c.requires.0.1 _ _ c.in-Activate.is c.activate_main.ensures
 
 pub across-requires : goal.across-requires
-across-requires c =
-    let due = c.requires.0 in record {
-      indexed = (due.indexed, due.few, omega (arith, due.soon), c.requires.1, omega (arith, due.short));
-      tree = units_due due c.in_default.not-Activate;
-    }
+across-requires c = record {
+  room = (c.requires.1, omega (arith, c.requires.0.1.short));
+  tree = units_due c.requires.0.1 c.in_default.not-Activate;
+}
 
 pub returns : goal.returns
-returns c =
-    reckoned_units c.requires.0 _ _ c.in_default.not-Activate c.across.ensures
+returns c = reckoned_units c.requires.0.1 _ _ c.in_default.not-Activate c.across.ensures

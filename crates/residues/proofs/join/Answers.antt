@@ -1,12 +1,8 @@
--- Kind 20 is `and`, and kind 21 is `or`.
-use Rattle.residues.proofs.Reduces.{as_join, join_first, join_second}
+-- The kind says how the sides are joined.
 use Rattle.residues.proofs.join.Goals as goal
 
-pub returns-then-kind-eq-AND : goal.returns-then-kind-eq-AND
-returns-then-kind-eq-AND c =
-    rw c.same.ensures (as_join (join_first c.if-kind-eq-AND.true) c.join_both.ensures)
+pub returns-in-And : goal.returns-in-And
+returns-in-And c = rw c.in-And.is c.join_both.ensures
 
-pub returns : goal.returns
-returns c =
-    rw c.same-2.ensures (as_join (join_second c.args.kind c.if-kind-eq-AND.false)
-    c.join_either.ensures)
+pub returns-in-Or : goal.returns-in-Or
+returns-in-Or c = rw c.in-Or.is c.join_either.ensures

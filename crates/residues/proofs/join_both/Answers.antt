@@ -1,45 +1,32 @@
--- The nine pairs of outcomes, one by one: fulfilled vanishes, a breach decides, two residues are joined.
-use Rattle.csl.specs.Syntax.{and}
-use Rattle.residues.proofs.Reduces.{counted, both_done, both_breach_done, both_breaches, both_breach_running}
-use Rattle.residues.proofs.Reduces.{both_running_done, both_running_breach, both_running, as_join, join_of_both}
+-- The pairs of outcomes, one by one: fulfilled vanishes, a breach decides, two residues are joined.
+use Rattle.residues.proofs.Reduces.{both_done, both_beside_done, both_breaches, both_breach_running}
+use Rattle.residues.proofs.Reduces.{both_running_breach, both_running}
 use borrow.Author.Rules.{rules}
 use Rattle.residues.proofs.join_both.Goals as goal
 
-pub put_join-requires : goal.put_join-requires
-put_join-requires c = (
-  search rules,
-  search rules,
-  counted c.in-Running.is c.requires.0,
-  counted
-      c.in-Running-r-2.is c.requires.1,
-  c.requires.2,
-)
+pub returns-in-Done-default : goal.returns-in-Done-default
+returns-in-Done-default c = both_done c.args.out.now c.in-Done-default.is-0
 
-pub returns-in-Done : goal.returns-in-Done
-returns-in-Done c = both_done c.args.out.now c.in-Done.is
+pub returns-in_default-Done : goal.returns-in_default-Done
+returns-in_default-Done c = both_beside_done c.args.out.now c.in_default-Done.is-1
 
-pub returns-in-Done-r : goal.returns-in-Done-r
-returns-in-Done-r c =
-    both_breach_done c.args.out.now c.in-Breach.is c.in-Done-r.is
+pub returns-in_default-Done-2 : goal.returns-in_default-Done-2
+returns-in_default-Done-2 c = both_beside_done c.args.out.now c.in_default-Done.is-1
 
-pub returns-in-Breach-r : goal.returns-in-Breach-r
-returns-in-Breach-r c =
-    both_breaches c.args.out.now c.in-Breach.is c.in-Breach-r.is
+pub returns-in-Breach-Breach : goal.returns-in-Breach-Breach
+returns-in-Breach-Breach c =
+    both_breaches c.args.out.now c.in-Breach-Breach.is-0 c.in-Breach-Breach.is-1
     (search rules) (search rules) c.earlier_breach.ensures
 
-pub returns-in-Running-r : goal.returns-in-Running-r
-returns-in-Running-r c =
-    both_breach_running c.args.out.now c.in-Breach.is c.in-Running-r.is
+pub returns-in-Breach-Running : goal.returns-in-Breach-Running
+returns-in-Breach-Running c =
+    both_breach_running c.args.out.now c.in-Breach-Running.is-0 c.in-Breach-Running.is-1
 
-pub returns-in-Done-r-2 : goal.returns-in-Done-r-2
-returns-in-Done-r-2 c =
-    both_running_done c.args.out.now c.in-Running.is c.in-Done-r-2.is
+pub returns-in-Running-Breach : goal.returns-in-Running-Breach
+returns-in-Running-Breach c =
+    both_running_breach c.args.out.now c.in-Running-Breach.is-0 c.in-Running-Breach.is-1
 
-pub returns-in-Breach-r-2 : goal.returns-in-Breach-r-2
-returns-in-Breach-r-2 c =
-    both_running_breach c.args.out.now c.in-Running.is c.in-Breach-r-2.is
-
-pub returns-in-Running-r-2 : goal.returns-in-Running-r-2
-returns-in-Running-r-2 c =
-    both_running c.args.out.now c.in-Running.is c.in-Running-r-2.is
-    (as_join {k = and} (join_of_both) c.put_join.ensures)
+pub returns-in-Running-Running : goal.returns-in-Running-Running
+returns-in-Running-Running c =
+    both_running c.args.out.now c.in-Running-Running.is-0 c.in-Running-Running.is-1
+    c.put_join.ensures

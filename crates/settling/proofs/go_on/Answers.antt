@@ -3,7 +3,7 @@
 use native.Mathlib.Omega.{arith}
 use Rattle.arith.proofs.Ints.{read, read! }
 use Rattle.residues.proofs.Cells.{cell_of_lem}
-use Rattle.settling.proofs.Units.{gone_altered, gone_on_lem}
+use Rattle.settling.proofs.Units.{gone_altered, headed_lem}
 use Rattle.settling.proofs.go_on.Goals as goal
 
 pub returns : goal.returns
@@ -13,10 +13,11 @@ returns c =
     let n = c.args.n in
     let long = c.requires.0 in
     let told = c.put_units-altered.ensures.1 in (
-      gone_on_lem c.args.used n r t long c.requires.1 c.requires.2 c.requires.3 _ _ c.put_units-altered.ensures.0
-          c.fill.ensures told (read c.ranges.time) c.last_moved-moved.ensures (cell_of_lem n (omega arith))
+      headed_lem c.args.used n r t long c.requires.1 c.requires.2 c.requires.3 _ _ c.put_units-altered.ensures.0
+          (c.fill.ensures.after (λ y e. e)) told (read c.ranges.time) c.last_moved-moved.ensures
+          (cell_of_lem n (omega arith))
           (rw (read c.ranges.time, read! {z = c.last_moved-moved.result} c.last_moved-moved.type_inv) at
-          c.copy.ensures),
+          c.copy_from_slice.ensures.after),
       gone_altered c.args.used n r t long c.requires.1 c.requires.2 c.requires.3 _ _ c.put_units-altered.ensures.0
-          c.fill.ensures told,
+          (c.fill.ensures.after (λ y e. e)) told,
     )

@@ -12,7 +12,7 @@ use Rattle.settling.proofs.Units.{altered_more, altered_none, altered_in}
 use Rattle.settling.proofs.put_units.Goals as goal
 
 pub loop-k-init : goal.loop-k-init
-loop-k-init c = (omega arith, refl, refl, altered_none c.args.known)
+loop-k-init c = (refl, refl, altered_none c.args.known)
 
 pub put_unit-altered-requires : goal.put_unit-altered-requires
 put_unit-altered-requires c = (search (length-take, length-drop, rules), search (length-take, length-drop, rules))
@@ -23,20 +23,20 @@ loop-k-preserved c =
     let r = c.args.residue.now in
     let u = c.args.units.now in
     let next : 24 * l.k + 24 ≡ 24 * (l.k + 1) = omega arith in
-    let is = copy_part r u (24 * l.k) (24 * l.k + 24) (omega arith) (omega arith) l.invariant.2
+    let is = copy_part r u (24 * l.k) (24 * l.k + 24) (omega arith) (omega arith) l.invariant.1
     c.put_unit-altered.ensures.0 ∙ ap (λ j. take j r ++ drop j u) next in
     let long : length (take (24 * (l.k + 1)) r ++ drop (24 * (l.k + 1)) u) ≡ length u = simp
     (length-append, length-take, length-drop) (omega arith) in
     let altered = altered_more (24 * l.k) (24 * l.k + 24) r u c.args.known (omega arith) (omega arith)
-    (omega arith) l.invariant.2 l.invariant.3 c.put_unit-altered.ensures.1
+    (omega arith) l.invariant.1 l.invariant.2 c.put_unit-altered.ensures.1
     ∙ ap (λ j. altered_in c.args.known (take j r) (take j u)) next in
-    (omega arith, ap length is ∙ long, is, altered)
+    (ap length is ∙ long, is, altered)
 
 pub returns : goal.returns
 returns c =
     let loop = c.loop-k in
     let r = c.args.residue.now in
     let all : loop.k ≡ c.args.n = omega arith in (
-      loop.invariant.2 ∙ copied_all r c.args.units.now {i = 24 * loop.k} (omega arith),
-      rw (all, take_all (24 * c.args.n) r (omega arith)) at loop.invariant.3,
+      loop.invariant.1 ∙ copied_all r c.args.units.now {i = 24 * loop.k} (omega arith),
+      rw (all, take_all (24 * c.args.n) r (omega arith)) at loop.invariant.2,
     )

@@ -1,14 +1,11 @@
 use mathlib.Core.Path.{◌≡◌}
 use mathlib.Core.List.{◌++◌}
-use Prim.Native.Nat.{◌-◌, ◌*◌, ◌≤◌}
+use Prim.Native.Nat.{◌*◌}
 use lib.ListN.{length, take, drop}
 use Rattle.settling.proofs.Units.{altered_in}
 use Rattle.settling.proofs.put_units.Given as goal
 
 abbrev pub invariant-loop-k : goal.invariant-loop-k
-invariant-loop-k l = (l.k ≤ l.n) × (length l.units ≡ length l.initial.units)
+invariant-loop-k l = (length l.units ≡ length l.initial.units)
     × (l.units ≡ take (24 * l.k) l.residue ++ drop (24 * l.k) l.initial.units)
     × (l.altered ≡ altered_in l.known (take (24 * l.k) l.residue) (take (24 * l.k) l.initial.units))
-
-abbrev pub decreases-loop-k : goal.decreases-loop-k
-decreases-loop-k l = l.n - l.k

@@ -2,8 +2,8 @@
 use Rattle.state.proofs.Trees.{join_and, join_or}
 use Rattle.state.proofs.join_ok.Goals as goal
 
-pub returns-then-kind-eq20 : goal.returns-then-kind-eq20
-returns-then-kind-eq20 c = join_and c.if-kind-eq20.true
+pub returns-in-And : goal.returns-in-And
+returns-in-And c = rw c.in-And.is join_and
 
-pub returns-else-kind-eq20 : goal.returns-else-kind-eq20
-returns-else-kind-eq20 c = join_or c.if-kind-eq20.false c.member_count.ensures.1
+pub returns-in-Or : goal.returns-in-Or
+returns-in-Or c = rw c.in-Or.is (join_or c.member_count.ensures.1)

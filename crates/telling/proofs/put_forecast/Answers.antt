@@ -4,22 +4,26 @@ use Rattle.monitor.specs.Answers.{forecast_answer}
 use Rattle.lines.specs.Text.{fields}
 use Rattle.lines.specs.Lines.{forecast_fields}
 use Rattle.lines.proofs.Puts.{then, same_put}
+use Rattle.telling.proofs.Says.{foretold_ahead}
 use Rattle.telling.proofs.put_forecast.Goals as goal
 
-pub returns-in-Breach-clause-puts : goal.returns-in-Breach-clause-puts
+pub returns-in-Ok-Some-clause-puts : goal.returns-in-Ok-Some-clause-puts
 unfolding fields forecast_fields
-returns-in-Breach-clause-puts c =
-    same_put (ap (λ f. fields (forecast_fields (forecast_answer f))) (sym c.in-Breach.is))
-    (then c.put_next-a.ensures.puts (then c.put_next-b.ensures.puts c.put_bytes.ensures))
+returns-in-Ok-Some-clause-puts c =
+    let ahead = rw c.in-Ok-Some.is at c.in-Ok-Some.field-0-is in
+    same_put (ap fields (foretold_ahead c.args.foretold c.in-Ok-Some.is ahead))
+    (then (rw (c.in-Ok-Some.is, ahead) at c.put_next-a.ensures.puts)
+    (then (rw (c.in-Ok-Some.is, ahead) at c.put_next-b.ensures.puts) c.put_bytes.ensures))
 
-pub returns-in-Nothing-clause-puts : goal.returns-in-Nothing-clause-puts
+pub returns-in-Ok-None-clause-puts : goal.returns-in-Ok-None-clause-puts
 unfolding fields forecast_fields
-returns-in-Nothing-clause-puts c =
-    same_put (ap (λ f. fields (forecast_fields (forecast_answer f))) (sym c.in-Nothing.is))
-    c.put_bytes-in-Nothing.ensures
+returns-in-Ok-None-clause-puts c =
+    let ahead = rw c.in-Ok-None.is at c.in-Ok-None.field-0-is in
+    same_put (ap fields (foretold_ahead c.args.foretold c.in-Ok-None.is ahead))
+    c.put_bytes-in-Ok-None.ensures
 
-pub returns-in-Refused-clause-puts : goal.returns-in-Refused-clause-puts
+pub returns-in-Err-clause-puts : goal.returns-in-Err-clause-puts
 unfolding fields forecast_fields
-returns-in-Refused-clause-puts c =
-    same_put (ap (λ f. fields (forecast_fields (forecast_answer f))) (sym c.in-Refused.is))
-    c.put_bytes-in-Refused.ensures
+returns-in-Err-clause-puts c =
+    same_put (ap (λ f. fields (forecast_fields (forecast_answer f))) (sym c.in-Err.is))
+    c.put_bytes-in-Err.ensures

@@ -1,22 +1,23 @@
 -- Each kind's first clause sees what its typing rule says, or there is nothing to see where the tests before it fail.
-use Rattle.typing.proofs.Sights.{firsts}
 use borrow.Author.Rules.{rules}
+use Rattle.typing.proofs.Sights.{firsts}
 use Rattle.typing.proofs.first_sight.Goals as goal
+use Rattle.typing.proofs.first_sight.Goals.{in_default-via-in-19+else-not-part_typed, in_default-via-in_default-1}
 
-pub returns-then-blame_mask-eq0 : goal.returns-then-blame_mask-eq0
-returns-then-blame_mask-eq0 c = search (firsts, rules)
+pub returns-in-17 : goal.returns-in-17
+returns-in-17 c = search (firsts, rules)
 
-pub returns-then-part_type-ne2 : goal.returns-then-part_type-ne2
-returns-then-part_type-ne2 c = search (firsts, rules)
-
-pub returns-else-blame_mask-eq0 : goal.returns-else-blame_mask-eq0
-returns-else-blame_mask-eq0 c = search (firsts, rules)
+pub returns-in-17-2 : goal.returns-in-17-2
+returns-in-17-2 c = search (firsts, rules)
 
 pub returns-in-18 : goal.returns-in-18
 returns-in-18 c = search (firsts, rules)
 
-pub returns-else-part_type-ne2 : goal.returns-else-part_type-ne2
-returns-else-part_type-ne2 c = search (firsts, rules)
+pub returns-in-19 : goal.returns-in-19
+returns-in-19 c = search (firsts, rules)
 
 pub returns-in_default : goal.returns-in_default
-returns-in_default c = search (firsts, rules)
+returns-in_default c = elim c.in_default.branch [
+  | in_default-via-in-19+else-not-part_typed w ↦ search (firsts, rules)
+  | in_default-via-in_default-1 w ↦ search (firsts, rules)
+]

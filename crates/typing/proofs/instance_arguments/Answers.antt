@@ -1,10 +1,9 @@
 -- The arguments are held to the value types of the template's own head.
-use Rattle.typing.proofs.Instances.{values_end, arguments_template}
-use borrow.Author.Rules.{rules}
+use Rattle.csl.specs.Decode.{expr, tys_of}
+use Rattle.typing.proofs.Instances.{arguments_template}
 use Rattle.typing.proofs.instance_arguments.Goals as goal
 
-pub slice_bounds-arguments_end-end : goal.slice_bounds-arguments_end-end
-slice_bounds-arguments_end-end c = search (values_end, rules)
-
 pub returns : goal.returns
-returns c = search (arguments_template, rules)
+returns c =
+    arguments_template c.value_types.ensures.0 (tys_of c.args.types.now) (expr c.args.depth) c.args.s.now
+    c.parties.ensures.0 c.arguments_end.ensures

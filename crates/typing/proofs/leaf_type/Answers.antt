@@ -12,8 +12,8 @@ returns-in-33 c = search (leaves, rules)
 pub returns-in-34 : goal.returns-in-34
 returns-in-34 c = search (leaves, rules)
 
-pub returns-then-s-eq5 : goal.returns-then-s-eq5
-returns-then-s-eq5 c = search (leaves, rules)
+pub returns-in_default : goal.returns-in_default
+returns-in_default c = search (leaves, rules)
 
-pub returns-else-s-eq5 : goal.returns-else-s-eq5
-returns-else-s-eq5 c = search (leaves, rules)
+pub returns-in_default-2 : goal.returns-in_default-2
+returns-in_default-2 c = search (leaves, rules)

@@ -1,13 +1,19 @@
 -- Only a truth can be negated.
-use borrow.Author.Rules.{rules}
-use Rattle.arith.proofs.Conds.{keys}
+use mathlib.Core.Path.{◌≡◌, refl, ◌∙◌}
+use Rattle.std.specs.Bool.{then_some}
+use Rattle.csl.specs.Typing.{same_ty}
+use Rattle.kinds.specs.declared.«Type».{«Type»}
+use Rattle.kinds.specs.declared.«Type».TheVariants.{Number, Truth, Party}
+use Rattle.kinds.specs.contracts.«Type».{the_type}
+use denote.Enum.Bare.{sameb}
 use Rattle.typing.specs.Types.{not_type}
 use Rattle.typing.proofs.negated.Goals as goal
 
-pub returns-then-t-eq2 : goal.returns-then-t-eq2
-unfolding not_type
-returns-then-t-eq2 c = search (keys, rules) depth 9
+by_type : (t : «Type») → then_some (sameb the_type t Truth) t ≡ not_type t
+unfolding same_ty
+by_type Number = refl
+by_type Truth = refl
+by_type Party = refl
 
-pub returns-else-t-eq2 : goal.returns-else-t-eq2
-unfolding not_type
-returns-else-t-eq2 c = search (keys, rules) depth 9
+pub returns : goal.returns
+returns c = c.then_some.ensures ∙ rw c.eq.ensures (by_type c.args.t)

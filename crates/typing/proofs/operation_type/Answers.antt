@@ -1,23 +1,12 @@
 -- Both operands have the type that the operator wants, or there is no type.
-use Rattle.arith.proofs.Conds.{keys}
-use Rattle.typing.specs.Types.{operation_type}
-use borrow.Author.Rules.{rules}
+use Rattle.typing.proofs.Exprs.{operation_off, operation_on}
 use Rattle.typing.proofs.operation_type.Goals as goal
-
-pub returns-then-left-eq0 : goal.returns-then-left-eq0
-unfolding operation_type
-returns-then-left-eq0 c = search (keys, rules) depth 9
-
-pub returns-then-left-wanted : goal.returns-then-left-wanted
-unfolding operation_type
-returns-then-left-wanted c = (rw (← c.operand_type-wanted.ensures) (search keys depth 9), search rules)
-
-pub returns-then-right-wanted : goal.returns-then-right-wanted
-unfolding operation_type
-returns-then-right-wanted c =
-    (rw (← c.operand_type-wanted.ensures) (search keys depth 9), search rules)
+use Rattle.typing.proofs.operation_type.Goals.{then-eq, else-eq}
 
 pub returns : goal.returns
-unfolding operation_type
-returns c =
-    (rw (← c.operand_type-wanted.ensures) (search keys depth 9), search rules)
+returns c = elim c.if-eq.branch [
+  | then-eq w ↦ operation_on c.args.kind c.args.left c.args.right c.operand_type-wanted.ensures c.result_type.ensures
+      c.eq.ensures w.if-eq.true w.eq-then-eq.ensures w.then_some-is c.then_some.ensures
+  | else-eq w ↦ operation_off c.args.kind c.args.left c.args.right c.operand_type-wanted.ensures c.result_type.ensures
+      c.eq.ensures w.if-eq.false w.then_some-is c.then_some.ensures
+]

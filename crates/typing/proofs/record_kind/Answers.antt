@@ -1,17 +1,13 @@
--- Where there is no record or no depth, kind 0 stands for that, as in the definition.
+-- A record, and depth left: what the definition asks.
+use borrow.Author.Rules.{rules}
 use Rattle.arith.proofs.Conds.{keys}
 use Rattle.typing.specs.Types.{record_kind}
-use borrow.Author.Rules.{rules}
 use Rattle.typing.proofs.record_kind.Goals as goal
+use Rattle.typing.proofs.record_kind.Goals.{then-depth-gt0, else-depth-gt0}
 
-pub returns-then-depth-eq0 : goal.returns-then-depth-eq0
+pub returns : goal.returns
 unfolding record_kind
-returns-then-depth-eq0 c = search (keys, rules) depth 9
-
-pub returns-then-is_record : goal.returns-then-is_record
-unfolding record_kind
-returns-then-is_record c = search (keys, rules) depth 9
-
-pub returns-else-is_record : goal.returns-else-is_record
-unfolding record_kind
-returns-else-is_record c = search (keys, rules) depth 9
+returns c = elim c.if-depth-gt0.branch [
+  | then-depth-gt0 w ↦ search (keys, rules)
+  | else-depth-gt0 w ↦ search (keys, rules)
+]

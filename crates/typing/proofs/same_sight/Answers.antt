@@ -1,7 +1,9 @@
 -- What is copied is what was in sight.
-use Rattle.typing.proofs.Sights.{same_seen}
-use borrow.Author.Rules.{rules}
+use Rattle.std.proofs.lemmas.Grind.{common_steps}
+use native.Mathlib.Omega.{arith}
+use Rattle.typing.specs.Clauses.{seen_as}
 use Rattle.typing.proofs.same_sight.Goals as goal
 
 pub returns : goal.returns
-returns c = search (same_seen, rules)
+unfolding seen_as
+returns c = grind (arith, common_steps)

@@ -1,10 +1,14 @@
 -- A value in sight has its byte's type; where none is, there is no type.
+use mathlib.Core.Path.{ap, ◌∙◌}
+use Rattle.csl.specs.Decode.{ty_of}
 use Rattle.typing.proofs.Exprs.{sight_in, sight_out}
-use borrow.Author.Rules.{rules}
 use Rattle.typing.proofs.sight_type.Goals as goal
 
-pub returns-then-i-types : goal.returns-then-i-types
-returns-then-i-types c = search (sight_in, sight_out, rules)
+pub returns-in_err-byte : goal.returns-in_err-byte
+returns-in_err-byte c =
+    c.from_residual.ensures ∙ sight_out c.args.types.now c.args.i c.in_err-byte.ensures.lookup.3
 
-pub returns-else-i-types : goal.returns-else-i-types
-returns-else-i-types c = search (sight_in, sight_out, rules)
+pub returns : goal.returns
+returns c =
+    let l = c.in_ok-byte.ensures.lookup.3 in
+    sight_in c.args.types.now c.args.i l.0 (c.type_of.ensures ∙ ap ty_of (l.1 0))

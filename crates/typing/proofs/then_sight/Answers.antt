@@ -1,22 +1,21 @@
--- The wanted type's record stands where the index says, and its values' types end it.
-use Rattle.typing.proofs.Sights.{then_zero, then_past, reading_start, reading_few, then_reading}
-use borrow.Author.Rules.{rules}
+-- The wanted type's bytes are the reading's, and join those in sight.
+use Rattle.csl.specs.Decode.{tys_of, agreement_of}
+use Rattle.typing.proofs.Sights.{then_zero, then_past, then_reading}
 use Rattle.typing.proofs.then_sight.Goals as goal
+use Rattle.typing.proofs.then_sight.Goals.{then-wanted-eq0-via-then-wanted-eq0}
+use Rattle.typing.proofs.then_sight.Goals.{then-wanted-eq0-via-else-wanted-eq0+then-wanted-reading_count}
 
-pub returns-then-wanted-eq0 : goal.returns-then-wanted-eq0
-returns-then-wanted-eq0 c = search (then_zero, rules)
+pub returns-then-wanted-eq0-clause-seen : goal.returns-then-wanted-eq0-clause-seen
+returns-then-wanted-eq0-clause-seen c = elim c.then-wanted-eq0.branch [
+  | then-wanted-eq0-via-then-wanted-eq0 w ↦
+      then_zero (agreement_of c.args.agreement.now).readings (tys_of c.args.types.now) c.args.wanted
+      w.if-wanted-eq0.true
+  | then-wanted-eq0-via-else-wanted-eq0+then-wanted-reading_count w ↦
+      then_past c.args.agreement.now (tys_of c.args.types.now) c.args.wanted w.reading_count.ensures.0
+      w.if-wanted-reading_count.true
+]
 
-pub returns-then-wanted-byte : goal.returns-then-wanted-byte
-returns-then-wanted-byte c = search (then_past, rules)
-
-pub slice_bounds-join_sight-count : goal.slice_bounds-join_sight-count
-slice_bounds-join_sight-count c = search (reading_start, rules)
-
-pub slice_bounds-join_sight-start : goal.slice_bounds-join_sight-start
-slice_bounds-join_sight-start c = search (reading_start, rules)
-
-pub join_sight-requires : goal.join_sight-requires
-join_sight-requires c = search (reading_few, rules)
-
-pub returns : goal.returns
-returns c = search (then_reading, rules)
+pub returns-clause-seen : goal.returns-clause-seen
+returns-clause-seen c =
+    then_reading c.args.agreement.now c.args.types.now c.if-wanted-eq0.false c.reading_types.ensures.0
+    c.join_sight.ensures

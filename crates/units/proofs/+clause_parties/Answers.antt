@@ -8,27 +8,27 @@ use native.Mathlib.Omega.{arith}
 use Rattle.units.proofs.+clause_parties.Goals as goal
 
 pub first_clause-c-requires : goal.first_clause-c-requires
-first_clause-c-requires t c = whole_room c.requires.1
+first_clause-c-requires t c = whole_room c.requires
 
 pub clause_parties-requires : goal.clause_parties-requires
 clause_parties-requires t c = (
   omega (
     arith,
-    whole_room c.requires.1,
+    whole_room c.requires,
     c.first_clause-c.ensures,
     length_part c.args.s.now c.first_clause-c.result (length c.args.s.now) (omega arith),
   ),
-  (c.requires.0, then_in_lem c.requires.1 c.kind-k.ensures c.in-17.is c.first_clause-c.ensures.0),
+  then_in_lem c.requires c.kind-k.ensures c.in-17.is c.first_clause-c.ensures.0,
 )
 
 pub union-requires : goal.union-requires
 union-requires t c = (omega (arith, c.party_bit-own.ensures.1), omega (arith, c.clause_parties.ensures.small))
 
 pub instance_parties-requires : goal.instance_parties-requires
-instance_parties-requires t c = (c.requires.0, c.requires.1, sym c.kind-k.ensures ∙ c.in-22.is)
+instance_parties-requires t c = (c.requires, sym c.kind-k.ensures ∙ c.in-22.is)
 
 pub first_clause-c-requires-in-18-to-21 : goal.first_clause-c-requires-in-18-to-21
-first_clause-c-requires-in-18-to-21 t c = whole_room c.requires.1
+first_clause-c-requires-in-18-to-21 t c = whole_room c.requires
 
 pub clause_parties-left-requires : goal.clause_parties-left-requires
 clause_parties-left-requires t c =
@@ -37,16 +37,13 @@ clause_parties-left-requires t c =
     let z = f.result in (
       omega (
         arith,
-        whole_room c.requires.1,
+        whole_room c.requires,
         c.first_clause-c-in-18-to-21.ensures,
         f.ensures,
         length_part c.args.s.now x z f.ensures.1,
       ),
-      (
-        c.requires.0,
-        (sides_in c.requires.1 c.kind-k.ensures (omega arith) (omega arith)
-            c.first_clause-c-in-18-to-21.ensures.0 f.ensures.0).0,
-      ),
+      (sides_in c.requires c.kind-k.ensures (omega arith) (omega arith)
+          c.first_clause-c-in-18-to-21.ensures.0 f.ensures.0).0,
     )
 
 pub clause_parties-requires-in-18-to-21 : goal.clause_parties-requires-in-18-to-21
@@ -55,16 +52,13 @@ clause_parties-requires-in-18-to-21 t c =
     let n = length c.args.s.now in (
       omega (
         arith,
-        whole_room c.requires.1,
+        whole_room c.requires,
         c.first_clause-c-in-18-to-21.ensures,
         c.record_end-f.ensures,
         length_part c.args.s.now z n (omega arith),
       ),
-      (
-        c.requires.0,
-        (sides_in c.requires.1 c.kind-k.ensures (omega arith) (omega arith)
-            c.first_clause-c-in-18-to-21.ensures.0 c.record_end-f.ensures.0).1,
-      ),
+      (sides_in c.requires c.kind-k.ensures (omega arith) (omega arith)
+          c.first_clause-c-in-18-to-21.ensures.0 c.record_end-f.ensures.0).1,
     )
 
 pub union-requires-in-18-to-21 : goal.union-requires-in-18-to-21
@@ -75,17 +69,17 @@ union-requires-in-18-to-21 t c = (
 
 pub returns-in-17 : goal.returns-in-17
 returns-in-17 t c =
-    then_parties c.requires.1 c.kind-k.ensures c.in-17.is c.first_clause-c.ensures.0
+    then_parties c.requires c.kind-k.ensures c.in-17.is c.first_clause-c.ensures.0
     c.byte.ensures.0 c.stands_for.ensures c.party_bit-own.ensures.0 c.clause_parties.ensures c.union.ensures.0
 
 pub returns-in-18-to-21 : goal.returns-in-18-to-21
 returns-in-18-to-21 t c =
-    sides_parties c.requires.1 c.kind-k.ensures (omega arith) (omega arith) c.first_clause-c-in-18-to-21.ensures.0
+    sides_parties c.requires c.kind-k.ensures (omega arith) (omega arith) c.first_clause-c-in-18-to-21.ensures.0
     c.record_end-f.ensures.0 c.clause_parties-left.ensures
     c.clause_parties-in-18-to-21.ensures c.union-in-18-to-21.ensures.0
 
 pub returns-in_default : goal.returns-in_default
-returns-in_default t c = low_parties c.requires.1 c.kind-k.ensures (omega arith) (λ e. omega arith)
+returns-in_default t c = low_parties c.requires c.kind-k.ensures (omega arith) (λ e. omega arith)
 
 pub returns-in_default-2 : goal.returns-in_default-2
-returns-in_default-2 t c = high_parties c.requires.1 c.kind-k.ensures (omega arith) (λ e. omega arith)
+returns-in_default-2 t c = high_parties c.requires c.kind-k.ensures (omega arith) (λ e. omega arith)

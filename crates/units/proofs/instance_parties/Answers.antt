@@ -4,15 +4,15 @@ use native.Mathlib.Omega.{arith}
 use Rattle.units.proofs.instance_parties.Goals as goal
 
 pub param_count-requires : goal.param_count-requires
-param_count-requires c = (c.requires.0, named_known c.requires.1 c.requires.2 c.byte-k.ensures.0)
+param_count-requires c = named_known c.requires.0 c.requires.1 c.byte-k.ensures.0
 
 pub overflow_sub-n : goal.overflow_sub-n
-overflow_sub-n c = omega (arith, named_room c.requires.1 c.requires.2 c.byte-k.ensures.0 c.param_count.ensures.0)
+overflow_sub-n c = omega (arith, named_room c.requires.0 c.requires.1 c.byte-k.ensures.0 c.param_count.ensures.0)
 
 pub declared_bits-requires : goal.declared_bits-requires
-declared_bits-requires c = (c.requires.0, named_known c.requires.1 c.requires.2 c.byte-k.ensures.0)
+declared_bits-requires c = named_known c.requires.0 c.requires.1 c.byte-k.ensures.0
 
 pub returns : goal.returns
 returns c =
-    named_parties c.requires.1 c.requires.2 c.byte-k.ensures.0 c.param_count.ensures.0 c.declared_bits.ensures
-    c.blame_bytes.ensures.0 c.union.ensures.0
+    named_parties c.requires.0 c.requires.1 c.byte-k.ensures.0 c.param_count.ensures.0
+    (c.declared_bits.ensures.0, c.declared_bits.ensures.1) c.blame_bytes-own.ensures.0 c.union.ensures.0

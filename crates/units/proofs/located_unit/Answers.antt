@@ -1,57 +1,74 @@
 -- The cells hold to what is in sight at the place, and the parties are then compared with the main clause's.
-use Rattle.units.proofs.Units.{there_few, there_whole, there_room, located_not, located_in, located_out}
+use lib.ListN.{length}
+use mathlib.Core.Path.{◌≡◌, refl, ap}
 use native.Mathlib.Omega.{arith}
-use mathlib.Core.Path.{refl}
+use Rattle.csl.specs.Bytes.{byte, record_end, part}
+use Rattle.csl.specs.Decode.{tys_of}
+use Rattle.units.specs.Units.{CellsRead}
+use Rattle.units.specs.Blames.{PartiesAre}
+use Rattle.units.proofs.Units.{there_few, there_whole, there_room, located_not, located_in, located_out}
 use Rattle.units.proofs.located_unit.Goals as goal
+use Rattle.units.proofs.located_unit.Goals.{After-unit_cells, After-clause_parties-bits}
+
+-- what was read of the cells, of the agreement's parties
+parties_are : (c : After-unit_cells) → c.parties.result ≡ byte c.args.accepted.now 8
+parties_are c = rw c.agreement-agreement.ensures.0 at c.parties.ensures.0
+
+cells_read : (c : After-unit_cells) → CellsRead c.parties.result c.args.found.now.params
+    (tys_of c.args.found.now.sight.items) c.args.cells.now c.unit_cells.result
+cells_read c = rw c.as_slice-types.ensures.value at c.unit_cells.ensures
+
+-- and of its clause
+end_is : (c : After-clause_parties-bits) → c.record_end-e.result ≡ record_end c.args.accepted.now c.args.place
+end_is c = rw (c.bytes-bytes.ensures.0, c.agreement-agreement.ensures.0) at c.record_end-e.ensures.0
+
+bits_are : (c : After-clause_parties-bits) → PartiesAre c.args.accepted.now
+    (part c.args.accepted.now c.args.place c.record_end-e.result) c.in_ok-own.own.items c.clause_parties-bits.result
+bits_are c =
+    rw (c.deref.ensures.0, c.bytes-bytes.ensures.0, c.agreement-agreement.ensures.0) at c.clause_parties-bits.ensures
 
 pub unit_cells-requires : goal.unit_cells-requires
 unit_cells-requires c = (
-  c.requires.2,
-  there_few c.requires.0.is_accepted c.requires.1 c.args.cells.now,
-  c.requires.1.few,
-  refl,
+  c.requires.long,
+  there_few c.agreement-agreement.ensures.1 c.requires.there c.args.cells.now,
+  omega (arith, c.as_slice-types.ensures.fits),
 )
 
-pub returns-then-not-unit_cells : goal.returns-then-not-unit_cells
-returns-then-not-unit_cells c =
-    let unit_cells = c.unit_cells in
-    located_not c.requires.0.is_accepted c.requires.1 c.args.cells.now
-    c.byte.ensures.0 (unit_cells.ensures.no c.if-not-unit_cells.true)
+pub returns-in_err-own : goal.returns-in_err-own
+returns-in_err-own c =
+    let t = (goal.at.returns-in_err-own c).After-unit_cells in
+    rw c.from_residual.ensures (located_not c.agreement-agreement.ensures.1 c.requires.there
+    c.args.cells.now (parties_are t) (cells_read t) c.in_err-own.was)
 
 pub slice_bounds-clause_parties-count : goal.slice_bounds-clause_parties-count
-slice_bounds-clause_parties-count c = omega (
-  arith,
-  there_room c.requires.0.is_accepted c.requires.1 c.args.cells.now,
-  c.record_end-e.ensures,
-)
+slice_bounds-clause_parties-count c =
+    let r = there_room c.agreement-agreement.ensures.1 c.requires.there c.args.cells.now in
+    let e = rw (c.bytes-bytes.ensures.0, c.agreement-agreement.ensures.0) at c.record_end-e.ensures in
+    omega (arith, r, e)
 
 pub slice_bounds-clause_parties-start : goal.slice_bounds-clause_parties-start
-slice_bounds-clause_parties-start c = omega (
-  arith,
-  there_room c.requires.0.is_accepted c.requires.1 c.args.cells.now,
-  c.record_end-e.ensures,
-)
-
-pub slice_bounds-clause_parties-end-2 : goal.slice_bounds-clause_parties-end-2
-slice_bounds-clause_parties-end-2 c =
-    omega (arith, there_few c.requires.0.is_accepted c.requires.1 c.args.cells.now, c.unit_cells.auto.own)
+slice_bounds-clause_parties-start c =
+    let r = there_room c.agreement-agreement.ensures.1 c.requires.there c.args.cells.now in
+    let e = rw (c.bytes-bytes.ensures.0, c.agreement-agreement.ensures.0) at c.record_end-e.ensures in
+    omega (arith, r, e)
 
 pub clause_parties-bits-requires : goal.clause_parties-bits-requires
-clause_parties-bits-requires c = (
-  c.requires.0.indexed,
-  rw c.record_end-e.ensures.0 (there_whole c.requires.0.is_accepted c.requires.1 c.args.cells.now),
-)
+clause_parties-bits-requires c =
+    rw (c.record_end-e.ensures.0, c.bytes-bytes.ensures.0, c.agreement-agreement.ensures.0)
+    (there_whole c.agreement-agreement.ensures.1 c.requires.there c.args.cells.now)
 
-pub returns-then-is_subset : goal.returns-then-is_subset
-returns-then-is_subset c =
-    located_in c.requires.0.is_accepted c.requires.1 c.args.cells.now c.byte.ensures.0 c.unit_cells.new.own
-    (c.unit_cells.ensures.yes c.if-not-unit_cells.false)
-    c.record_end-e.ensures.0 c.clause_parties-bits.ensures c.requires.0.are_mains
-    c.is_subset.ensures c.if-is_subset.true
+pub returns-then-not-is_subset : goal.returns-then-not-is_subset
+returns-then-not-is_subset c =
+    let t = (goal.at.returns-then-not-is_subset c).After-unit_cells in
+    let u = (goal.at.returns-then-not-is_subset c).After-clause_parties-bits in
+    located_out c.agreement-agreement.ensures.1 c.requires.there c.args.cells.now
+    (parties_are t) (cells_read t) c.in_ok-own.was (end_is u) (bits_are u) c.mains.ensures.0
+    c.is_subset.ensures c.if-not-is_subset.true
 
-pub returns-else-is_subset : goal.returns-else-is_subset
-returns-else-is_subset c =
-    located_out c.requires.0.is_accepted c.requires.1 c.args.cells.now c.byte.ensures.0 c.unit_cells.new.own
-    (c.unit_cells.ensures.yes c.if-not-unit_cells.false)
-    c.record_end-e.ensures.0 c.clause_parties-bits.ensures c.requires.0.are_mains
-    c.is_subset.ensures c.if-is_subset.false
+pub returns : goal.returns
+returns c =
+    let t = (goal.at.returns c).After-unit_cells in
+    let u = (goal.at.returns c).After-clause_parties-bits in
+    located_in c.agreement-agreement.ensures.1 c.requires.there c.args.cells.now
+    (parties_are t) (cells_read t) c.in_ok-own.was (end_is u) (bits_are u) c.mains.ensures.0
+    c.is_subset.ensures c.if-not-is_subset.false refl refl (ap length c.as_slice-types.ensures.value)

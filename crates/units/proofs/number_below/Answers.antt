@@ -1,16 +1,15 @@
--- A negative cell and one that is too large give the end; any other is itself.
-use Rattle.units.proofs.Cells.{below_negative, below_asked, below_small, below_large}
+-- A negative cell and one that is too large are none; any other is itself.
+use mathlib.Core.Path.{◌∙◌}
+use Rattle.units.proofs.Cells.{not_natural, natural, below_none, below_some}
 use Rattle.arith.proofs.Ints.{read}
 use Rattle.units.proofs.number_below.Goals as goal
 
-pub returns-then-z-lt0 : goal.returns-then-z-lt0
-returns-then-z-lt0 c = below_negative c.args.end c.args.z (rw (read c.ranges.z) at c.if-z-lt0.true)
+pub returns-in_err-n : goal.returns-in_err-n
+returns-in_err-n c = c.from_residual.ensures ∙ below_none c.args.end c.args.z
+    (not_natural c.args.z c.try_from.result c.ok.result c.ok.ensures.value (rw (read c.ranges.z) at c.try_from.ensures)
+    c.ranges.z.sfits c.in_err-n.was)
 
-pub overflow_cast-n : goal.overflow_cast-n
-overflow_cast-n c = below_asked c.ranges.z c.if-z-lt0.false
-
-pub returns-then-n-end : goal.returns-then-n-end
-returns-then-n-end c = below_small c.ranges.z c.if-z-lt0.false c.args.end c.if-n-end.true
-
-pub returns-else-n-end : goal.returns-else-n-end
-returns-else-n-end c = below_large c.ranges.z c.if-z-lt0.false c.args.end c.if-n-end.false
+pub returns : goal.returns
+returns c = c.then_some.ensures ∙ below_some c.args.end c.in_ok-n.n c.args.z
+    (natural c.args.z c.try_from.result c.ok.result c.ok.ensures.value (rw (read c.ranges.z) at c.try_from.ensures)
+    c.in_ok-n.n c.in_ok-n.was)

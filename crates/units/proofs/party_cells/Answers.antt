@@ -1,38 +1,25 @@
--- At each turn the first i cells are parties, and stand at the front of `out`.
+-- At each turn the first cells are parties, and stand in `own`.
+use mathlib.Core.Path.{sym, ap, ◌∙◌}
 use Rattle.units.proofs.Cells.{reads_first, reads_more, reads_not, reads_last}
-use Rattle.units.specs.Cells.{number_below}
+use Rattle.units.specs.Cells.{number_below, PartiesRead}
 use Rattle.arith.proofs.Ints.{read! }
-use lib.ListN.{length-set}
-use native.Mathlib.Omega.{arith}
-use mathlib.Core.Path.{refl, ap, ◌∙◌}
-use mathlib.Core.Bool.{true≢false, false≢true}
 use borrow.Author.Rules.{rules}
 use Rattle.units.proofs.party_cells.Goals as goal
 
-pub loop-i-init : goal.loop-i-init
-loop-i-init c = (refl, reads_first c.args.cells.now c.args.parties c.args.out.now)
+pub loop-z-init : goal.loop-z-init
+loop-z-init c = rw c.new-own.ensures (reads_first c.args.cells.now c.args.parties)
 
-pub returns-then-p-parties : goal.returns-then-p-parties
-returns-then-p-parties c = record {
-  yes = λ e. absurd (false≢true e);
-  no = λ e. reads_not c.args.cells.now c.args.parties c.loop-i-test.true
-      (c.number_below-p.ensures.0 ∙ ap (number_below c.args.parties) (read! (search rules)))
-      c.loop-i.invariant.1 c.if-p-parties.true;
-}
+pub returns-in_err-number_below : goal.returns-in_err-number_below
+unfolding PartiesRead
+returns-in_err-number_below c = rw c.from_residual.ensures (reads_not c.args.cells.now c.args.parties
+    c.loop-z-test.true c.loop-z.invariant
+    (sym c.in_err-number_below.was ∙ c.number_below.ensures ∙ ap (number_below c.args.parties) (read! (search rules))))
 
-pub loop-i-preserved : goal.loop-i-preserved
-loop-i-preserved c =
-    let p = c.number_below-p in
-    let loop = c.loop-i in (
-      simp length-set loop.invariant.0,
-      reads_more c.args.cells.now c.args.parties c.loop-i-test.true
-          (p.ensures.0 ∙ ap (number_below c.args.parties) (read! (search rules)))
-          loop.invariant.1 p.ensures.1 c.if-p-parties.false
-          (omega (arith, loop.invariant.0, c.requires, c.loop-i-test.true)),
-    )
+pub loop-z-preserved : goal.loop-z-preserved
+loop-z-preserved c = rw c.push.ensures.items (reads_more c.args.cells.now c.args.parties
+    c.loop-z-test.true c.loop-z.invariant
+    (sym c.in_ok-number_below.was ∙ c.number_below.ensures ∙ ap (number_below c.args.parties) (read! (search rules))))
 
 pub returns : goal.returns
-returns c = record {
-  yes = λ e. reads_last c.args.cells.now c.args.parties c.loop-i-test.false c.loop-i.invariant.1;
-  no = λ e. absurd (true≢false e);
-}
+unfolding PartiesRead
+returns c = reads_last c.args.cells.now c.args.parties c.loop-z-test.false c.loop-z.invariant

@@ -1,4 +1,4 @@
--- All cells before i are zero exactly where the ones seen so far are none.
+-- All cells before the one at hand are zero exactly where the ones seen so far are none.
 use borrow.Author.Rules.{rules}
 use mathlib.Core.Path.{refl}
 use native.Mathlib.Omega.{arith}
@@ -6,16 +6,16 @@ use Rattle.csl.specs.Table.{is_zero}
 use Rattle.units.proofs.Cells.{zeros_more, zeros_last}
 use Rattle.units.proofs.zeros.Goals as goal
 
-pub loop-i-init : goal.loop-i-init
+pub loop-x-init : goal.loop-x-init
 unfolding is_zero
-loop-i-init c = (omega arith, refl)
+loop-x-init c = (omega arith, refl)
 
-pub loop-i-preserved : goal.loop-i-preserved
-loop-i-preserved c =
-    let loop = c.loop-i in
-    zeros_more c.args.cells.now loop.ones-bits c.loop-i-test.true (search rules) loop.invariant
+pub loop-x-preserved : goal.loop-x-preserved
+loop-x-preserved c =
+    let loop = c.loop-x in
+    zeros_more c.args.cells.now loop.ones-bits c.loop-x-test.true (search rules) loop.invariant
 
 pub returns : goal.returns
 returns c =
-    let loop = c.loop-i in
-    zeros_last c.args.cells.now loop.ones-bits c.loop-i-test.false loop.invariant
+    let loop = c.loop-x in
+    zeros_last c.args.cells.now loop.ones-bits c.loop-x-test.false loop.invariant

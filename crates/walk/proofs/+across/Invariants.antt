@@ -1,4 +1,4 @@
 use Rattle.walk.proofs.+across.Given as goal
 
 abbrev pub decreases-across : goal.decreases-across
-decreases-across l = l.n
+decreases-across l = l.units.count

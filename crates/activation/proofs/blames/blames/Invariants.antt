@@ -1,13 +1,8 @@
 use mathlib.Core.Path.{◌≡◌}
-use mathlib.Core.List.{◌++◌}
-use Prim.Native.Nat.{◌≤◌, ◌-◌}
-use lib.ListN.{length, take, drop}
+use lib.ListN.{length, take}
 use Rattle.cells.specs.Reduce.{blamed_cells}
 use Rattle.activation.proofs.blames.blames.Given as goal
 
-abbrev pub invariant-loop-i : goal.invariant-loop-i
-invariant-loop-i l = (l.i ≤ length l.bytes) × (length l.cells ≡ length l.initial.cells)
-    × (blamed_cells l.params l.bytes ≡ take l.i l.cells ++ blamed_cells l.params (drop l.i l.bytes))
-
-abbrev pub decreases-loop-i : goal.decreases-loop-i
-decreases-loop-i l = length l.bytes - l.i
+abbrev pub invariant-loop-b : goal.invariant-loop-b
+invariant-loop-b g l = (l.cells.items ≡ blamed_cells l.params (take l.b-index l.bytes))
+    × (length l.cells.items ≡ l.b-index)

@@ -1,36 +1,26 @@
 -- The template lies below the bound and the bytes are used up exactly, so its values and parties are those of the
 -- instance.
 use Rattle.activation.proofs.Walks.{instance_past, instance_bad, instance_is}
-use native.Mathlib.Omega.{arith}
-use mathlib.Core.Path.{refl}
-use Prim.Native.Nat.{◌-◌}
-use lib.ListN.{length}
-use borrow.Rule.Slice.PartMut.{put_mid}
 use Rattle.activation.proofs.instances.instance.Goals as goal
 
-pub returns-then-k-below : goal.returns-then-k-below
-returns-then-k-below c =
-    λ e rs place a d. instance_past e rs
-    c.args.agreement.now c.args.below c.args.s.now place c.args.params.now
-    c.args.values.now a d c.args.depth c.args.cells.now c.byte-k.ensures.0
-    c.if-k-below.true
+pub returns-then-template-clause : goal.returns-then-template-clause
+returns-then-template-clause c =
+    let h = c.args.clause.now in
+    λ e. instance_past e h.agreement.now h.site.below h.bytes.now h.site.place h.params.now h.values.now h.site.a
+    h.site.depth c.byte-template.ensures.0 c.if-template-clause.true
 
-pub returns-then-at-m : goal.returns-then-at-m
-returns-then-at-m c =
-    λ e rs place a d. instance_bad e rs c.args.agreement.now c.args.below c.args.s.now place
-    c.args.params.now c.args.values.now a d c.args.depth
-    c.arguments-at.new.cells c.requires.0 c.requires.1 c.byte-k.ensures.0
-    c.if-k-below.false c.value_count-n.ensures.1
-    c.arguments-at.ensures.0 c.param_count-m.ensures.0 c.if-at-m.true
+pub returns-then-parties-param_count : goal.returns-then-parties-param_count
+returns-then-parties-param_count c =
+    let h = c.args.clause.now in
+    λ e. instance_bad e h.agreement.now h.site.below h.bytes.now h.site.place h.params.now h.values.now h.site.a
+    h.site.depth c.value_count.ensures.3 h.few c.requires c.byte-template.ensures.0
+    c.if-template-clause.false c.value_count.ensures.1 c.arguments_end-parties.ensures.0 c.param_count.ensures.0
+    c.if-parties-param_count.true
 
 pub returns : goal.returns
 returns c =
-    let blames = c.blames in
-    let g = c.arguments-at.new.cells in
-    let w = blames.new.cells in
-    λ e rs place a d. instance_is e rs c.args.agreement.now c.args.below c.args.s.now place
-    c.args.params.now c.args.values.now a d c.args.depth (put_mid 16 (length g - 16) g w)
-    c.requires.0 c.requires.1 c.byte-k.ensures.0 c.if-k-below.false
-    c.value_count-n.ensures.1 c.arguments-at.ensures.0
-    c.param_count-m.ensures.0 c.if-at-m.false g w (omega arith) (omega arith) refl
-    c.arguments-at.ensures.1 blames.ensures
+    let h = c.args.clause.now in
+    λ e. instance_is e h.agreement.now h.site.below h.bytes.now h.site.place h.params.now h.values.now h.site.a
+    h.site.depth c.value_count.ensures.3 h.few c.requires c.byte-template.ensures.0
+    c.if-template-clause.false c.value_count.ensures.1 c.arguments_end-parties.ensures.0 c.param_count.ensures.0
+    c.param_count.ensures.1 c.if-parties-param_count.false

@@ -4,10 +4,10 @@ use Rattle.activation.proofs.leads.moved.Goals as goal
 
 pub overflow_cast-result : goal.overflow_cast-result
 overflow_cast-result c =
-    moved_asked c.args.a c.requires.0 c.ranges.last c.later-t.type_inv c.later-t.ensures.0
+    moved_asked c.args.a c.requires.0 c.ranges.last c.max.type_inv c.max.ensures.value
     c.requires.1
 
 pub returns : goal.returns
 returns c =
-    moved_is c.args.a c.requires.0 c.ranges.last c.later-t.type_inv c.later-t.ensures.0
+    moved_is c.args.a c.requires.0 c.ranges.last c.max.type_inv c.max.ensures.value
     c.requires.1

@@ -1,18 +1,17 @@
 -- A join that is fulfilled at once adds nothing further; any other adds what its sides add.
+use mathlib.Core.Path.{refl}
+use native.Mathlib.Omega.{arith}
+use Rattle.kinds.specs.Kinds.{join_in}
 use Rattle.residues.proofs.Counts.{join_once, join_later}
-use Rattle.laws.specs.Joins.{join_of}
 use Rattle.residues.proofs.tallies.join_tallies.Goals as goal
-
-pub returns-then-once : goal.returns-then-once
-returns-then-once c =
-    record {
-      is = λ x y h k. join_once (join_of c.args.kind) h k c.both_at_once-once.ensures
-          c.lesser-activated.ensures.0 c.if-once.true;
-    }
+use Rattle.residues.proofs.tallies.join_tallies.Goals.{then-once, else-once}
 
 pub returns : goal.returns
-returns c =
-    record {
-      is = λ x y h k. join_later (join_of c.args.kind) h k c.both_at_once-once.ensures
-          c.lesser-activated.ensures.0 c.if-once.false c.lesser-further.ensures.0;
-    }
+returns c = record {
+  is = λ x y h k. elim c.if-once.branch [
+    | then-once w ↦ join_once (join_in c.args.kind) h k _ c.both_at_once-once.ensures refl
+        (omega (arith, c.min-activated.ensures)) w.if-once.true w.result-is
+    | else-once w ↦ join_later (join_in c.args.kind) h k _ c.both_at_once-once.ensures refl
+        (omega (arith, c.min-activated.ensures)) w.if-once.false (omega (arith, w.result-is, c.min-further.ensures))
+  ];
+}

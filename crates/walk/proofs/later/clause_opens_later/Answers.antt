@@ -10,30 +10,29 @@ use Rattle.walk.proofs.later.clause_opens_later.Goals as goal
 pub returns-then-not-is_record : goal.returns-then-not-is_record
 unfolding clause_opens_later
 returns-then-not-is_record c =
-    λ hs p. clause_none (opening c.args.event.time c.args.event.tag c.args.rs.now c.args.vs.now
-    c.args.a) hs 23 p c.args.s.now (λ e. omega arith) c.is_record.ensures
-    c.if-not-is_record.true refl
+    let r = c.args.reading.now in
+    λ hs p. clause_none (opening r.time r.tag r.values.items c.args.vs.now c.args.a) hs 23 p c.args.s.now
+    (λ e. omega arith) c.is_record.ensures c.if-not-is_record.true refl
 
 pub returns-in-17 : goal.returns-in-17
 unfolding clause_opens_later clause_body
 returns-in-17 c =
-    λ hs p. clause_at_lem (opening c.args.event.time c.args.event.tag c.args.rs.now c.args.vs.now
-    c.args.a) hs 23 p c.args.s.now (λ e. omega arith) c.is_record.ensures
-    c.if-not-is_record.false c.kind.ensures
+    let r = c.args.reading.now in
+    λ hs p. clause_at_lem (opening r.time r.tag r.values.items c.args.vs.now c.args.a) hs 23 p c.args.s.now
+    (λ e. omega arith) c.is_record.ensures c.if-not-is_record.false c.kind.ensures
     (rw (kind_obligation c.in-17.is) (c.opens_later.ensures p))
 
 pub returns-in-18 : goal.returns-in-18
 unfolding clause_opens_later clause_body
 returns-in-18 c =
-    λ hs p. clause_at_lem (opening c.args.event.time c.args.event.tag c.args.rs.now c.args.vs.now
-    c.args.a) hs 23 p c.args.s.now (λ e. omega arith) c.is_record.ensures
-    c.if-not-is_record.false c.kind.ensures
+    let r = c.args.reading.now in
+    λ hs p. clause_at_lem (opening r.time r.tag r.values.items c.args.vs.now c.args.a) hs 23 p c.args.s.now
+    (λ e. omega arith) c.is_record.ensures c.if-not-is_record.false c.kind.ensures
     (rw (kind_choice c.in-18.is) (c.opens_later-in-18.ensures p))
 
 pub returns-in_default : goal.returns-in_default
 returns-in_default c =
-    λ hs p. clause_at_lem (opening c.args.event.time c.args.event.tag c.args.rs.now c.args.vs.now
-    c.args.a) hs 23 p c.args.s.now (λ e. omega arith) c.is_record.ensures
-    c.if-not-is_record.false c.kind.ensures
-    (other_kind c.args.event.time c.args.event.tag c.args.rs.now c.args.vs.now c.args.a hs p
-    c.args.s.now _ (omega arith) (omega arith))
+    let r = c.args.reading.now in
+    λ hs p. clause_at_lem (opening r.time r.tag r.values.items c.args.vs.now c.args.a) hs 23 p c.args.s.now
+    (λ e. omega arith) c.is_record.ensures c.if-not-is_record.false c.kind.ensures
+    (other_kind r.time r.tag r.values.items c.args.vs.now c.args.a hs p c.args.s.now _ (omega arith) (omega arith))

@@ -1,0 +1,4 @@
+use Rattle.evaluation.proofs.+number.Given as goal
+
+abbrev pub decreases-number : goal.decreases-number
+decreases-number l = l.depth

@@ -1,0 +1,116 @@
+-- Laws for a reading's bytes: when they are a reading, and its numbers as they are stored.
+use mathlib.Core.Path.{◌≡◌, refl, sym, ap, ◌∙◌}
+use mathlib.Core.Bool.{Bool, true, false, ◌&&◌}
+use mathlib.Core.List.{List, [], ◌∷◌, ◌++◌}
+use mathlib.Core.Option.{none}
+use Prim.Native.Nat.{ℕ, zero, suc, ◌+◌, ◌-◌, ◌*◌, ◌/◌, ◌%◌, ◌≤◌, ◌<◌}
+use native.Mathlib.Numerals.{add-one, unary_clauses}
+use native.Mathlib.Omega.{arith}
+use borrow.Author.Tests.{le-leb, eq-eqb}
+use lib.Dec.{leb, eqb, leb→le, eqb→eq}
+use lib.IntN.{ℤ}
+use lib.ListN.{length}
+use Rattle.csl.specs.Bytes.{byte, le32, signed32, is_record, kind_number}
+use Rattle.csl.specs.Decode.{between}
+use Rattle.csl.specs.Run as run
+use Rattle.csl.specs.Run.{raw_reading, numbers_from}
+use Rattle.laws.proofs.Bools.{both_true, T→true, true→T, refused}
+use Rattle.readings.specs.declared.reading.Reading.{Reading as Read}
+use Rattle.readings.specs.Taking.{given, RawRead}
+use Rattle.readings.proofs.Options.{given_none, given_needs, some_needs}
+
+-- ---- the bytes are a reading, but that its values may be cut short
+pub record Holds (s : List ℕ) : Type 0 where
+  pub is_one : is_record s ≡ true
+  pub kind : kind_number s ≡ 64
+  pub long : 9 ≤ length s
+  pub short : length s ≤ 25
+
+module _ (s : List ℕ) where
+  abbrev is_kind : Bool
+  is_kind = is_record s && eqb (kind_number s) 64
+
+  abbrev in_length : Bool
+  in_length = between 9 25 (length s) && eqb ((length s - 9) % 4) 0
+
+  abbrev raw_of : run.Raw
+  raw_of = record { time = le32 s 4; type = byte s 8; numbers = numbers_from ((length s - 9) / 4) s 9 }
+
+  tests : given (raw_reading s) ≡ is_kind && in_length
+  unfolding raw_reading
+  tests = given_needs is_kind in_length raw_of
+
+  holds : given (raw_reading s) ≡ true → Holds s
+  unfolding between
+  holds e =
+      both_true is_kind in_length (true→T (sym tests ∙ e)) λ t₁ t₂.
+      both_true (is_record s) (eqb (kind_number s) 64) t₁ λ h₁ h₂.
+      both_true (between 9 25 (length s)) _ t₂ λ t₃ h₅.
+      both_true (leb 9 (length s)) (leb (length s) 25) t₃ λ h₃ h₄.
+      record {
+        is_one = T→true (is_record s) h₁;
+        kind = eqb→eq (kind_number s) 64 h₂;
+        long = leb→le 9 (length s) h₃;
+        short = leb→le (length s) 25 h₄;
+      }
+
+  pub raw_no : (Holds s → ⊥) → false ≡ given (raw_reading s)
+  raw_no f = refused (given (raw_reading s)) λ t. f (holds (T→true _ t))
+
+  pub raw_last : Holds s → eqb ((length s - 9) % 4) 0 ≡ given (raw_reading s)
+  unfolding between
+  raw_last h = sym (tests ∙ rw (
+    h.is_one,
+    eq-eqb (kind_number s) 64 h.kind,
+    le-leb 9 (length s) h.long,
+    le-leb (length s) 25 h.short,
+  ) refl)
+
+-- ---- its numbers
+numbers_length : (n : ℕ) (s : List ℕ) (i : ℕ) → length (numbers_from n s i) ≡ n
+unfolding numbers_from
+numbers_length zero s i = refl
+numbers_length (suc n) s i = ap suc (numbers_length n s (i + 4))
+
+numbers_suc : (n : ℕ) (s : List ℕ) (i : ℕ) → numbers_from (suc n) s i ≡ numbers_from n s i
+    ++ (signed32 s (i + 4 * n) ∷ [])
+unfolding numbers_from
+numbers_suc zero s i = simp unary_clauses refl
+numbers_suc (suc n) s i =
+    let k : i + 4 + 4 * n ≡ i + 4 * suc n = omega arith in
+    ap (λ (t : List ℤ). signed32 s i ∷ t) (rw k at (numbers_suc n s (i + 4)))
+
+-- one number more, read at a
+pub numbers_more : (s : List ℕ) (i : ℕ) {a : ℕ} {z : ℤ} {zs : List ℤ} → zs ≡ numbers_from i s 9 → a ≡ 9 + 4 * i
+    → z ≡ signed32 s a → zs ++ (z ∷ []) ≡ numbers_from (i + 1) s 9
+numbers_more s i h p q = rw (add-one i, h, q, p) (sym (numbers_suc i s 9))
+
+pub numbers_room : (n : ℕ) (s : List ℕ) {zs : List ℤ} → zs ≡ numbers_from n s 9 → length zs ≡ n
+numbers_room n s h = ap length h ∙ numbers_length n s 9
+
+pub numbers_none : (s : List ℕ) → [] ≡ numbers_from 0 s 9
+unfolding numbers_from
+numbers_none s = refl
+
+-- ---- u is what the code was told
+pub raw_bad : (s : List ℕ) {u : Bool} → u ≡ given (raw_reading s) → u ≡ false → raw_reading s ≡ none
+raw_bad s e f = given_none (raw_reading s) (sym e ∙ f)
+
+pub raw_long : (s : List ℕ) {u : Bool} → u ≡ given (raw_reading s) → u ≡ true → Holds s
+raw_long s e f = holds s (sym e ∙ f)
+
+pub raw_read : (s : List ℕ) (r : Read) {u : Bool} {n : ℕ} → u ≡ given (raw_reading s) → u ≡ true
+    → n ≡ (length s - 9) / 4 → r.values.items ≡ numbers_from n s 9 → r.time ≡ le32 s 4 → r.time < 4_294_967_296
+    → r.tag ≡ byte s 8 → RawRead s r
+unfolding raw_reading
+raw_read s r {u} {n} e f p q g l h =
+    let y = sym e ∙ f in
+    record {
+      raw = raw_of s;
+      is = some_needs (is_kind s) (in_length s) (raw_of s) y;
+      time = g;
+      type = h;
+      numbers = q ∙ ap (λ i. numbers_from i s 9) p;
+      few = omega (arith, numbers_room n s q, (holds s y).short);
+      small = l;
+    }
