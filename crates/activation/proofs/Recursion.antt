@@ -2,13 +2,11 @@
 -- says of the whole.
 use mathlib.Core.Path.{◌≡◌, refl, sym, ap, ◌∙◌, subst}
 use mathlib.Core.List.{List, ◌++◌}
-use Prim.Native.Nat.{ℕ, ◌+◌, ◌-◌, ◌*◌, ◌^◌, ◌≤◌, ◌<◌}
+use Prim.Native.Nat.{ℕ, ◌+◌, ◌-◌, ◌*◌, ◌≤◌, ◌<◌}
 use native.Mathlib.Omega.{arith}
-use lib.IntN.{ℤ, pos}
-use lib.Signed.{mag}
+use lib.IntN.{ℤ}
 use lib.ListN.{length, take, drop, length-append, length-drop}
 use lib.Seq.{drop_at, take_at}
-use Rattle.arith.proofs.Ints.{seen, read! }
 use Rattle.csl.specs.Syntax.{Join}
 use Rattle.cells.specs.Reduce as cells
 use Rattle.kinds.specs.Kinds.{wait_number}
@@ -18,14 +16,13 @@ use Rattle.residues.specs.Reduces.{Stands, Is, Sides, JoinIs, room_left, farthes
 use Rattle.residues.specs.Tallies.{Reckons, Makes, MakesOne, JoinTallies}
 use Rattle.activation.specs.Leads.{inner_site, StandsAt, does, reckon_at}
 use Rattle.activation.specs.Leads.{Follows, weight}
+use Rattle.parties.specs.declared.breach.Breach.{Breach as Broken}
 use Rattle.residues.specs.declared.Reduced.{Reduced}
 use Rattle.residues.specs.declared.Reduced.TheVariants.{Done, Breach, Running}
 use Rattle.residues.specs.declared.Reckoned.{Reckoned}
 use Rattle.residues.specs.declared.Tally.{Tally}
 use Rattle.waits.specs.declared.Event.{Event}
 use Rattle.waits.specs.declared.Event.TheVariants.{Activate, Forecast, Follow}
-use denote.Ref.{Bor}
-use Rattle.readings.specs.declared.reading.Reading.{Reading}
 use Rattle.activation.specs.declared.sites.Site.{Site}
 use Rattle.activation.specs.declared.sites.Clause.{Clause as Here}
 use Rattle.residues.proofs.Reduces.{is_done, is_breach, is_running}
@@ -36,14 +33,10 @@ module _ (e : Event) (t : Site) {w : Site} where
   lighter_within x b ew n m h = rw ew (omega arith)
 
 -- what follows a reading is heavier than what takes none
-pub heavy : {e : Event} {r : Bor Reading} → e ≡ Follow r → (t : Site) (n : ℕ) → 64 * (farthest + 1) ≤ weight e t n
-heavy q t n = rw q (omega arith)
-
--- what follows has a reading
-pub follows_some : (e : Event) → Follows e → ((r : Bor Reading) → e ≡ Follow r → ⊥) → ⊥
-follows_some Activate f n = f
-follows_some Forecast f n = f
-follows_some (Follow r) f n = n r refl
+pub heavy : (e : Event) → Follows e → (t : Site) (n : ℕ) → 64 * (farthest + 1) ≤ weight e t n
+heavy Activate f t n = absurd f
+heavy Forecast f t n = absurd f
+heavy (Follow r) f t n = omega arith
 
 -- a unit's sort is a small number
 pub few_sorts : (sort : WaitKind) → wait_number sort ≤ farthest
@@ -64,11 +57,10 @@ pub reckons_by : (by : cells.Reckoned → cells.Reckoned) {x y : cells.Reckoned}
 reckons_by by {y = y} {o = o} e h m = rw e (m.is y o h)
 
 -- one clause that is breached or waits
-pub reckons_broken : {t : ℤ} {b : ℕ} {a : Reckoned} → MakesOne (Breach (seen t) b) a → (o : List ℤ)
-    {x : cells.Reckoned} → mag t < 2 ^ 63 → (u : ℕ) × (x ≡ cells.reaches (cells.broken u b)) × (t ≡ pos u)
-    → Reckons x a o
+pub reckons_broken : {b : Broken} {a : Reckoned} → MakesOne (Breach b) a → (o : List ℤ) {x : cells.Reckoned}
+    → x ≡ cells.reaches (cells.broken b.time b.parties) → Reckons x a o
 unfolding Is cells.reaches cells.broken
-reckons_broken {b = b} m o f g = rw g.1 (m.is (cells.breach g.0 b) o (read! f ∙ g.2, refl))
+reckons_broken {b = b} m o e = rw e (m.is (cells.breach b.time b.parties) o (refl, refl))
 
 pub reckons_waiting : {r : Reduced} {a : Reckoned} → MakesOne r a → (o cs : List ℤ) {x : cells.Reckoned}
     → x ≡ cells.reaches (cells.waiting cs) → Is (cells.running cs) r o → Reckons x a o
@@ -80,10 +72,9 @@ is_ends : (o : List ℤ) {x : cells.Reduced} → x ≡ cells.done → Is x Done 
 unfolding Is
 is_ends o e = rw e tt
 
-breach_is : (o : List ℤ) {x : cells.Reduced} {t : ℤ} {b : ℕ} → (u : ℕ) × (x ≡ cells.breach u b) × (t ≡ pos u)
-    → Is x (Breach t b) o
+breach_is : (o : List ℤ) {x : cells.Reduced} (b : Broken) → x ≡ cells.breach b.time b.parties → Is x (Breach b) o
 unfolding Is
-breach_is o h = rw h.1 (h.2, refl)
+breach_is o b h = rw h (refl, refl)
 
 -- ---- the right side stays at the end while the left side is written below it
 module _ (o₁ o₂ : List ℤ) (r : Reduced) (e : ℕ) (ee : e ≡ room_left r (length o₁)) (he : e ≤ length o₁)
@@ -112,7 +103,7 @@ module _ (o₁ o₂ : List ℤ) (r : Reduced) (e : ℕ) (ee : e ≡ room_left r 
     where
       by_answer : (q : Reduced) → r ≡ q → Is y r (o₂ ++ drop e o₁)
       by_answer Done p = rw p (is_ends (o₂ ++ drop e o₁) (is_done o₁ y (rw p at h)))
-      by_answer (Breach t b) p = let z = is_breach o₁ y (rw p at h) in rw p (breach_is (o₂ ++ drop e o₁) z)
+      by_answer (Breach b) p = let z = is_breach o₁ y b (rw p at h) in rw p (breach_is (o₂ ++ drop e o₁) b z)
       by_answer (Running m) p = let z = is_running o₁ y (rw p at h) in
           rw p (running_is z.1 z.2 (ee ∙ ap (λ a. room_left a (length o₁)) p))
 

@@ -7,7 +7,7 @@ use Prim.Native.Nat.{ℕ, zero, suc, ◌+◌, ◌-◌, ◌≤◌, ◌<◌}
 use native.Mathlib.Nat.{add_comm}
 use native.Mathlib.Omega.{arith}
 use native.Mathlib.Decide.{dec_le}
-use lib.IntN.{ℤ, pos}
+use lib.IntN.{ℤ}
 use lib.Dec.{eqb}
 use lib.ListN.{length}
 use borrow.Author.Tests.{ne_eqb, eq-eqb}
@@ -36,14 +36,15 @@ use Rattle.records.proofs.Trees.{clause_zero, clause_none, clause_at_lem, kind_n
 use Rattle.records.proofs.Trees.{kind_fulfilled}
 use denote.Ref.{Bor}
 use Rattle.kinds.specs.Kinds.{join_in, join_number}
+use Rattle.parties.specs.declared.breach.Breach.{Breach as Broken}
 use Rattle.kinds.specs.declared.Join.{Join}
 use Rattle.kinds.specs.declared.Join.TheVariants.{And, Or}
 use Rattle.kinds.specs.declared.WaitKind.TheVariants.{Obligation, Choice}
 use Rattle.readings.specs.declared.reading.Reading.{Reading}
-use Rattle.waits.specs.Fates.{mode_at, FateIs}
+use Rattle.waits.specs.Fates.{mode_at, mode_of, FateIs}
 use Rattle.residues.specs.Tallies.{ended_by}
 use Rattle.activation.specs.Leads.{Leads, Shaped, Outlined, Acting, Told, Ended, reckon_at, reckon_below, body_in}
-use Rattle.activation.specs.Leads.{templates_of}
+use Rattle.activation.specs.Leads.{templates_of, Follows}
 use Rattle.waits.specs.declared.Event.{Event}
 use Rattle.activation.specs.declared.sites.Site.{Site}
 use Rattle.waits.specs.declared.Event.TheVariants.{Activate, Forecast, Follow}
@@ -68,17 +69,17 @@ module _ (m : Mode) (vs : List ℤ) (a : ℕ) (w : Wait) {f : Fate} (h : FateIs 
   unfolding FateIs
   is_late e = rw e at h
 
-  pub is_taken : {l : ℤ} → f ≡ Taken l → (fate m vs a w ≡ taken) × (l ≡ last_of vs a w) × Near (a + 2_000_000_000) l
+  pub is_taken : {r : Bor Reading} {l : ℤ} → f ≡ Taken r l → (fate m vs a w ≡ taken) × (l ≡ last_of vs a w)
+      × Near (a + 2_000_000_000) l × (m ≡ mode_of r.now)
   unfolding FateIs
   is_taken e = rw e at h
 
--- only a reading that is followed is taken
-taken_follows : (e : Event) (vs : List ℤ) (a : ℕ) (w : Wait) → fate (mode_at e) vs a w ≡ taken
-    → (r : Bor Reading) × (e ≡ Follow r)
+-- only a reading that is followed takes
+taken_follows : (e : Event) (vs : List ℤ) (a : ℕ) (w : Wait) → fate (mode_at e) vs a w ≡ taken → Follows e
 unfolding fate
 taken_follows Activate vs a w q = impossible cc
 taken_follows Forecast vs a w q = impossible cc
-taken_follows (Follow r) vs a w q = (r, refl)
+taken_follows (Follow r) vs a w q = tt
 
 -- ---- obligations and choices
 module _ (e : Event) (ag : List ℕ) (below : ℕ) (s : List ℕ) (place : ℕ) (ps vs : List ℤ) (a depth : ℕ)
@@ -93,39 +94,38 @@ module _ (e : Event) (ag : List ℕ) (below : ℕ) (s : List ℕ) (place : ℕ) 
   unfolding Leads reckon_below cells.walk clause_body wait_at
   obligation_waits f = rw (f, cells.walk)
 
-  pub obligation_late : fate (mode_at e) vs a (wait_of 5) ≡ late → {l t : ℤ} {b : ℕ} → l ≡ last_of vs a (wait_of 5)
-      → t ≡ pos (later_of a l) → b ≡ blame_bits ps (byte s 4) → LeadsTo obligation_kind (Breaks t b)
+  pub obligation_late : fate (mode_at e) vs a (wait_of 5) ≡ late → {l : ℤ} → l ≡ last_of vs a (wait_of 5)
+      → (b : Broken) → b.time ≡ later_of a l → b.parties ≡ blame_bits ps (byte s 4) → LeadsTo obligation_kind (Breaks b)
   unfolding Leads reckon_below cells.walk clause_body
-  obligation_late f {l} el et eb = (later_of a l, rw (f, cells.walk, ← eb, ← el), et)
+  obligation_late f el b et eb = rw (f, cells.walk, eb, et, el)
 
   -- a `then` at c
-  module _ {c z : ℕ} (o : (c ≤ z) × (z ≤ length s)) {l : ℤ} (near : Near (a + 2_000_000_000) l) where
+  module _ {c z : ℕ} (o : (c ≤ z) × (z ≤ length s)) {l : ℤ} (near : Near (a + 2_000_000_000) l) (r : Bor Reading)
+      (m : mode_at e ≡ mode_of r.now) where
     pub obligation_taken : c ≡ wait_end s 5 → z ≡ length s → fate (mode_at e) vs a (wait_of 5) ≡ taken
-        → l ≡ last_of vs a (wait_of 5) → LeadsTo obligation_kind (Takes c z l)
+        → l ≡ last_of vs a (wait_of 5) → LeadsTo obligation_kind (Takes r c z l)
     unfolding Leads reckon_below cells.walk cells.on_taken clause_body
     obligation_taken ec ez f el =
-        let w = taken_follows e vs a (wait_of 5) f in
         record {
-          is = rw (f, cells.walk, w.1, cells.on_taken, ← el, ec, ez);
+          is = rw (f, cells.walk, m, cells.on_taken, ← el, ec, ez);
           order = o.0;
           inside = o.1;
           deep = deep;
           near = near;
-          follows = rw w.1 tt;
+          follows = taken_follows e vs a (wait_of 5) f;
         }
 
     pub choice_taken : c ≡ wait_end s 4 → z ≡ record_end s c → fate (mode_at e) vs a (wait_of 4) ≡ taken
-        → l ≡ last_of vs a (wait_of 4) → LeadsTo choice_kind (Takes c z l)
+        → l ≡ last_of vs a (wait_of 4) → LeadsTo choice_kind (Takes r c z l)
     unfolding Leads reckon_below cells.walk cells.on_taken clause_body
     choice_taken ec ez f el =
-        let w = taken_follows e vs a (wait_of 4) f in
         record {
-          is = rw (f, cells.walk, w.1, cells.on_taken, ← el, ez, ec);
+          is = rw (f, cells.walk, m, cells.on_taken, ← el, ez, ec);
           order = o.0;
           inside = o.1;
           deep = deep;
           near = near;
-          follows = rw w.1 tt;
+          follows = taken_follows e vs a (wait_of 4) f;
         }
 
   pub choice_waits : fate (mode_at e) vs a (wait_of 4) ≡ waits → LeadsTo choice_kind (Waits Choice)
@@ -222,7 +222,7 @@ module _ (e : Event) (ag : List ℕ) (below : ℕ) (s : List ℕ) (place : ℕ) 
     unfolding Leads clause_body
     instance_past ek h = ends_past (at (heads_of ag) (byte s 4)) (omega arith)
 
-    module _ (x : Lists ag) (few : below ≤ byte ag 10) (deep : 1 ≤ d) {k n i m : ℕ} (ek : k ≡ byte s 4) (h : k < below)
+    module _ (x : Lists ag) (few : below ≤ byte ag 10) {k n i m : ℕ} (ek : k ≡ byte s 4) (h : k < below)
         (en : n ≡ length (head_at ag k).values) (ei : i ≡ records_end n s 5) (em : m ≡ (head_at ag k).params) where
       named : instance_of (expr (d - 1)) s (at (heads_of ag) (byte s 4)) ≡ cond (eqb (i + m) (length s))
           (Clause.instance k (arguments (expr (d - 1)) n s 5) (part s i (length s))) bad_clause
@@ -243,7 +243,6 @@ module _ (e : Event) (ag : List ℕ) (below : ℕ) (s : List ℕ) (place : ℕ) 
             (blamed_cells ps (part s i (length s))) (evals_cells vs (arguments (expr (d - 1)) n s 5)) a h)
             ∙ rw en;
         less = h;
-        deep = deep;
         inside = omega arith;
         few = omega arith;
       }

@@ -1,5 +1,5 @@
 -- What a clause leads to, as the code says it before it recurs.
-use Rattle.std.specs.Prelude.{◌≡◌, true, List, [], ℕ, ◌+◌, ◌-◌, ◌*◌, ◌≤◌, ◌<◌, ℤ, pos, ◌-ℤ◌, length}
+use Rattle.std.specs.Prelude.{◌≡◌, true, List, ℕ, ◌+◌, ◌-◌, ◌*◌, ◌≤◌, ◌<◌, ℤ, pos, ◌-ℤ◌, length}
 use Rattle.csl.specs.Bytes.{byte, part, is_record, kind_number}
 use Rattle.csl.specs.Syntax.{Clause, Template, and}
 use Rattle.csl.specs.Decode.{ClauseKind, clause_body, clause, expr, heads_of, agreement_of, arguments}
@@ -25,17 +25,7 @@ use Rattle.activation.specs.declared.Shape.{Shape}
 abbrev pub templates_of : List ℕ → List Template
 templates_of ag = (agreement_of ag).templates
 
--- ---- a reading that is followed: its time and its values
-abbrev pub time_of : Event → ℕ
-time_of Activate = 0
-time_of Forecast = 0
-time_of (Follow r) = r.now.time
-
-abbrev pub values_of : Event → List ℤ
-values_of Activate = []
-values_of Forecast = []
-values_of (Follow r) = r.now.values.items
-
+-- ---- a reading is followed
 abbrev pub Follows : Event → Type 0
 Follows Activate = ⊥
 Follows Forecast = ⊥
@@ -89,10 +79,10 @@ module _ (e : Event) (ag : List ℕ) (below : ℕ) (s : List ℕ) (place : ℕ) 
   Shaped (Shape.Joins j f) = HasSides j f
   Shaped Shape.Acts = Acting depth s
 
-  -- a `then`, l being the wait's last minute
-  pub record IsTaken (x y : ℕ) (l : ℤ) : Type 0 where
+  -- a `then` that the reading r activates, l being the wait's last minute
+  pub record IsTaken (r : Reading) (x y : ℕ) (l : ℤ) : Type 0 where
     pub is : reckoned c a ≡ reaches (becomes (cells.activate (templates_of ag) (inner x y) ps
-        (then_values vs (values_of e) (l -ℤ pos (time_of e))) (time_of e)))
+        (then_values vs r.values.items (l -ℤ pos r.time)) r.time))
     pub order : x ≤ y
     pub inside : y ≤ length s
     pub deep : 1 ≤ depth
@@ -105,17 +95,16 @@ module _ (e : Event) (ag : List ℕ) (below : ℕ) (s : List ℕ) (place : ℕ) 
         (clause (heads_of ag) 22 (body_from ag k) (body_bytes ag k)) (blamed_cells ps (part s i (length s)))
         (evals_cells vs (arguments (expr (depth - 1)) (length (head_at ag k).values) s 5)) a)
     pub less : k < below
-    pub deep : 1 ≤ depth
     pub inside : i ≤ length s
     pub few : length s ≤ i + 4
 
   unfoldable pub Leads : Next → Type 0
   Leads Ends = reckoned c a ≡ ended_by 1
-  Leads (Breaks t b) = (u : ℕ) × (reckoned c a ≡ reaches (cells.broken u b)) × (t ≡ pos u)
+  Leads (Breaks b) = reckoned c a ≡ reaches (cells.broken b.time b.parties)
   Leads (Waits w) = reckoned c a ≡ reaches (cells.waiting (unit_of (wait_number w) place a ps vs))
   Leads (Picks x y) = GoesOn reaches x y a
   Leads (Lapses x y b) = GoesOn (λ z. reaches (becomes z)) x y b
-  Leads (Takes x y l) = IsTaken x y l
+  Leads (Takes r x y l) = IsTaken r.now x y l
   Leads (Unfolds k i) = IsInstance k i
 
 -- what a record shows by kinds alone, wherever it stands and whatever is in sight

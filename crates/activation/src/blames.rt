@@ -3,7 +3,7 @@ ghost use Rattle.std.specs.Prelude.{◌≡◌, ◌≤◌, length};
 ghost use Rattle.cells.specs.Reduce.{blamed_cell, blamed_cells, blame_bits};
 
 use arrayvec::ArrayVec;
-use parties::{PARAMS_FROM, party_bit};
+use parties::{PARAMS_FROM, PartySet};
 
 // The cell of the party that blame byte b stands for: a party, or a party parameter.
 fn blamed(params: &[i64], b: usize) -> i64
@@ -16,12 +16,13 @@ fn blamed(params: &[i64], b: usize) -> i64
     }
 }
 
-pub fn blame_bits(params: &[i64], b: usize) -> usize
+// The party that blame byte b stands for, where there is such a party.
+pub fn blame_bits(params: &[i64], b: usize) -> PartySet
     ensures { result ≡ blame_bits params.now b }
 {
     match usize::try_from(blamed(params, b)) {
-        Ok(party) => party_bit(party),
-        Err(_) => 0,
+        Ok(party) => PartySet::of(party),
+        Err(_) => PartySet::empty(),
     }
 }
 

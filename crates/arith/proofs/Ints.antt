@@ -82,8 +82,3 @@ eqb_bits (negsuc a) (negsuc b) h k = by (λ t. eqb (2 ^ 64 - suc a) (2 ^ 64 - su
   where
     alike : {a b : ℕ} → a < 2 ^ 63 → b < 2 ^ 63 → 2 ^ 64 - suc a ≡ 2 ^ 64 - suc b → a ≡ b
     alike h k q = omega arith
-
--- ---- a number that is an index
-module _ {z : ℤ} (f : SFits w64 z) (h : pos 0 ≤ℤ z) where
-  pub index_asked : T (non_neg (seen z)) × Fits w64 (nat_abs (seen z))
-  index_asked = rw (read f) (yes_non_neg h, record { fits = omega (arith, nat_abs-le z f.sfits) })

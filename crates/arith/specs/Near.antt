@@ -5,6 +5,6 @@ use Rattle.std.specs.Prelude.{ℕ, ℤ, nat_abs, T, leb}
 pub record Near (n : ℕ) (z : ℤ) : Type 0 where
   pub near : T (leb (nat_abs z) n)
 
--- the sum of two such numbers is far from the ends of an i64
-abbrev pub far : ℕ
-far = 1_000_000_000_000_000
+-- no reading that is followed is dated later
+abbrev pub latest : ℕ
+latest = 100_000_000_000_000

@@ -1,1 +1,2 @@
 pub mod Unfolds
+pub mod Sights

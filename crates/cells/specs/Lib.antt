@@ -2,3 +2,4 @@ pub mod Evaluate
 pub mod Reduce
 pub mod Across
 pub mod Tables
+pub mod Sights

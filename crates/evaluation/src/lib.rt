@@ -30,7 +30,7 @@ fn truth(b: bool) -> Number
     Number::held(i64::from(b))
 }
 
-// Kinds 37 to 43.
+// Kinds 37 to 43. (Here and below a record's kind is decided by its number: a rule of the project.)
 fn operate(kind: usize, x: Number, y: Number) -> Number
     ensures { result ≡ apply_cells (op_of kind) x y }
 {

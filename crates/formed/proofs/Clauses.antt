@@ -99,12 +99,13 @@ module _ (hs : List Head) (d : ℕ) (s : List ℕ) {b : Bool} {k : ℕ} (n : d �
 
   pub sides_formed : {r : Bool} {c f : ℕ} → 16 ≤ k → (k ≡ 16 → ⊥) → (k ≡ 17 → ⊥) → k < 22 → c ≡ first_clause k s
       → f ≡ record_end s c → r ≡ (tests_whole (expr (d - 1)) k s
-      && (whole (clause hs (d - 1) 0 (part s c f)) && whole (clause hs (d - 1) 0 (part s f (length s)))))
+      && whole (clause hs (d - 1) 0 (part s c f)) && whole (clause hs (d - 1) 0 (part s f (length s))))
       → r ≡ whole (clause hs d 0 s)
   sides_formed {c = c} {f = f} l x y u i j q =
       let w : 18 ≤ k = omega arith in
       clause_two whole hs d 0 s n g h m w u i j
-      (q ∙ sym (tests_sides (expr (d - 1)) s k (clause hs (d - 1) (0 + c) (part s c f))
+      (q ∙ and_assoc (tests_whole (expr (d - 1)) k s) _ _
+      ∙ sym (tests_sides (expr (d - 1)) s k (clause hs (d - 1) (0 + c) (part s c f))
       (clause hs (d - 1) (0 + f) (part s f (length s))) w
       ∙ rw (whole_place hs (d - 1) (0 + c) 0 (part s c f), whole_place hs (d - 1) (0 + f) 0 (part s f (length s)))))
 

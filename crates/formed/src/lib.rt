@@ -18,13 +18,11 @@ use records::{Agreement, BODY_DEPTH, MAIN_DEPTH, first_clause};
 fn expr_formed(s: &[u8], depth: usize) -> bool
     ensures { result ≡ whole_expr (expr depth s.now) }
 {
-    if depth == 0 {
-        return false;
-    }
-    if !is_record(s) {
+    if depth == 0 || !is_record(s) {
         return false;
     }
     let d = depth - 1;
+    // here and below: a record's kind is decided by its number, a rule of the project
     match kind(s) {
         32 => s.len() == 8,
         33..=35 => s.len() == 5,
@@ -48,10 +46,7 @@ fn wait_formed(s: &[u8], i: usize, depth: usize) -> bool
     let a = record_end(s, i + 1);
     let b = record_end(s, a);
     let e = record_end(s, b);
-    if !expr_formed(&s[i + 1..a], depth) {
-        return false;
-    }
-    expr_formed(&s[a..b], depth) && expr_formed(&s[b..e], depth)
+    expr_formed(&s[i + 1..a], depth) && expr_formed(&s[a..b], depth) && expr_formed(&s[b..e], depth)
 }
 
 // What stands before the first clause part of a clause of kind 17 to 21.
@@ -70,12 +65,13 @@ fn tests_formed(s: &[u8], kind: usize, depth: usize) -> bool
     }
 }
 
-// The n records from i are expressions, and `blames` bytes follow them to the end.
-fn arguments_formed(s: &[u8], i: usize, n: usize, blames: usize, depth: usize) -> bool
-    requires { (i ≤ length s.now) × (blames ≤ 4) }
-    ensures { result ≡ arguments_whole depth s.now i n blames }
+// The n records from byte 5 on, each of which begins where the one before ends, are expressions, and `blames` bytes
+// follow them to the end.
+fn arguments_formed(s: &[u8], n: usize, blames: usize, depth: usize) -> bool
+    requires { (5 ≤ length s.now) × (blames ≤ 4) }
+    ensures { result ≡ arguments_whole depth s.now 5 n blames }
 {
-    let mut a = i;
+    let mut a = 5;
     for _ in 0..n {
         let e = record_end(s, a);
         if !expr_formed(&s[a..e], depth) {
@@ -90,26 +86,18 @@ fn arguments_formed(s: &[u8], i: usize, n: usize, blames: usize, depth: usize) -
 fn instance_formed(agreement: &Agreement<'_>, s: &[u8], depth: usize) -> bool
     ensures { result ≡ whole (instance_of (expr depth) s.now (at (heads_of agreement.now) (bytes.byte s.now 4))) }
 {
-    if s.len() < 5 {
-        return false;
-    }
     let k = byte(s, 4);
-    if k >= agreement.template_count() {
+    if s.len() < 5 || k >= agreement.template_count() {
         return false;
     }
-    let n = agreement.value_count(k);
-    let blames = agreement.param_count(k);
-    arguments_formed(s, 5, n, blames, depth)
+    arguments_formed(s, agreement.value_count(k), agreement.param_count(k), depth)
 }
 
 // The bytes are one clause, at most `depth` deep.
 fn clause_formed(agreement: &Agreement<'_>, s: &[u8], depth: usize) -> bool
     ensures { result ≡ whole (clause (heads_of agreement.now) depth 0 s.now) }
 {
-    if depth == 0 {
-        return false;
-    }
-    if !is_record(s) {
+    if depth == 0 || !is_record(s) {
         return false;
     }
     let d = depth - 1;
@@ -123,10 +111,9 @@ fn clause_formed(agreement: &Agreement<'_>, s: &[u8], depth: usize) -> bool
         18..=21 => {
             let c = first_clause(s, k);
             let f = record_end(s, c);
-            if !tests_formed(s, k, d) {
-                return false;
-            }
-            clause_formed(agreement, &s[c..f], d) && clause_formed(agreement, &s[f..], d)
+            tests_formed(s, k, d)
+                && clause_formed(agreement, &s[c..f], d)
+                && clause_formed(agreement, &s[f..], d)
         }
         22 => instance_formed(agreement, s, d),
         _ => false,

@@ -1,13 +1,13 @@
 -- Laws for the widths of an agreement's templates: the list as it is filled, and what the counted widths say in place
 -- of the widths.
-use mathlib.Core.Path.{◌≡◌, refl, sym, ap, subst, ◌∙◌}
+use mathlib.Core.Path.{◌≡◌, refl, sym, ap, ◌∙◌}
 use mathlib.Core.Bool.{Bool, true, false, ◌&&◌}
 use mathlib.Core.List.{List, [], ◌∷◌, ◌++◌}
-use Prim.Native.Nat.{ℕ, zero, suc, ◌+◌, ◌<◌, ◌≤◌, min}
+use Prim.Native.Nat.{ℕ, suc, ◌+◌, ◌<◌, ◌≤◌, min}
 use native.Mathlib.Decide.{dec_le}
 use native.Mathlib.Omega.{arith}
-use lib.ListN.{length, get_or, set, replicate, length-append, length-set, get_or-append, get_or-eq_default}
-use lib.Seq.{get_or_at, get_or-set_same, get_or-set_other}
+use lib.ListN.{length, get_or, length-append, get_or-append, get_or-eq_default}
+use lib.Seq.{get_or_at}
 use Rattle.csl.specs.Lists.{all, at}
 use Rattle.csl.specs.Bytes.{byte}
 use Rattle.csl.specs.Syntax.{Clause, fulfilled, obligation, choice, if, join, instance, bad_clause, Template}
@@ -62,25 +62,20 @@ module _ (ws ys : List ℕ) (h : AsWide ws ys) where
   bodies_same [] = refl
   bodies_same (t ∷ ts) = rw (all_same t.body, bodies_same ts)
 
--- ---- the widths as they are filled: those of the first k templates are known
+-- ---- the widths so far: those of the first k templates
 pub record Filled (s : List ℕ) (k : ℕ) (ys : List ℕ) : Type 0 where
   pub known : List ℕ
   pub many : length known ≡ k
-  pub room : length ys ≡ 32
+  pub room : length ys ≡ k
   pub wide : AsWide known ys
   pub rest : widths_from [] (agreement_of s).templates ≡ widths_from known (templates_from s k)
 
-zeros : (n k : ℕ) → ◌≡◌ {A = ℕ} (get_or (replicate n 0) k 0) 0
-zeros zero k = refl
-zeros (suc n) zero = refl
-zeros (suc n) (suc k) = zeros n k
-
-pub none_filled : (s ys : List ℕ) → ys ≡ replicate 32 0 → Filled s 0 ys
+pub none_filled : (s ys : List ℕ) → ys ≡ [] → Filled s 0 ys
 none_filled s ys e = record {
   known = [];
   many = refl;
   room = rw e refl;
-  wide = record { wide = λ k. rw (e, zeros 32 k) };
+  wide = record { wide = λ k. rw e };
   rest = ap (widths_from []) (from_first s);
 }
 
@@ -90,35 +85,31 @@ unfolding widths_from
 all_filled s ys {k} l x = rw (x.rest, from_last s k l) x.wide
 
 -- one width more, w, counted as r
-wide_more : (ws ys : List ℕ) (w r : ℕ) → AsWide ws ys → length ws < length ys → min w 257 ≡ min r 257
-    → AsWide (ws ++ (w ∷ [])) (set ys (length ws) r)
+wide_more : (ws ys : List ℕ) (w r : ℕ) → AsWide ws ys → length ws ≡ length ys → min w 257 ≡ min r 257
+    → AsWide (ws ++ (w ∷ [])) (ys ++ (r ∷ []))
 wide_more ws ys w r h l e = record { wide = λ j. test j (dec_le (suc j) (length ws)) (dec_le j (length ws)) }
   where
     test : (j : ℕ) → Dec (j < length ws) → Dec (j ≤ length ws)
-        → min (get_or (ws ++ (w ∷ [])) j 0) 257 ≡ min (get_or (set ys (length ws) r) j 0) 257
-    test j (yes p) q = rw (get_or-append ws (w ∷ []) 0 j p, get_or-set_other ys (length ws) j r 0 (λ i. omega arith))
-        (h.wide j)
-    test j (no p) (yes q) =
-        let i : j ≡ length ws = omega arith in
-        rw (i, get_or_at ws w [] 0 (length ws) refl, get_or-set_same ys (length ws) r 0 l) e
+        → min (get_or (ws ++ (w ∷ [])) j 0) 257 ≡ min (get_or (ys ++ (r ∷ [])) j 0) 257
+    test j (yes p) q = rw (get_or-append ws (w ∷ []) 0 j p, get_or-append ys (r ∷ []) 0 j (omega arith)) (h.wide j)
+    test j (no p) (yes q) = rw (get_or_at ws w [] 0 j (omega arith), get_or_at ys r [] 0 j (omega arith)) e
     test j (no p) (no q) =
         let o = get_or-eq_default (ws ++ (w ∷ [])) 0 {n = j} (omega (arith, length-append ws (w ∷ []))) in
-        let n = get_or-eq_default ws 0 {n = j} (omega arith) in
-        rw (o, get_or-set_other ys (length ws) j r 0 (λ i. omega arith)) (rw n at (h.wide j))
+        let n = get_or-eq_default (ys ++ (r ∷ [])) 0 {n = j} (omega (arith, length-append ys (r ∷ []))) in
+        rw (o, n)
 
-pub more_filled : (s ys : List ℕ) {k r : ℕ} → k < byte s 10 → byte s 10 ≤ 32 → Filled s k ys
-    → r ≡ counted ys (body_at s k) → Filled s (k + 1) (set ys k r)
+pub more_filled : (s ys : List ℕ) {k r : ℕ} → k < byte s 10 → Filled s k ys → r ≡ counted ys (body_at s k)
+    → Filled s (k + 1) (ys ++ (r ∷ []))
 unfolding counted
-more_filled s ys {k} {r} l m x e =
+more_filled s ys {k} {r} l x e =
     let ws = x.known in
     let w = width ws (body_at s k) in
     let q : min w 257 ≡ min r 257 = omega (arith, counted_same ws ys x.wide (body_at s k)) in
     record {
       known = ws ++ (w ∷ []);
       many = length-append ws (w ∷ []) ∙ ap (λ n. n + 1) x.many;
-      room = length-set ys k r ∙ x.room;
-      wide = subst (λ (n : ℕ). AsWide (ws ++ (w ∷ [])) (set ys n r)) x.many
-          (wide_more ws ys w r x.wide (omega (arith, x.many, x.room)) q);
+      room = length-append ys (r ∷ []) ∙ ap (λ n. n + 1) x.room;
+      wide = wide_more ws ys w r x.wide (x.many ∙ sym x.room) q;
       rest = x.rest ∙ widths_next s k l ws;
     }
 

@@ -1,9 +1,9 @@
 -- What a walk over the bytes of a clause is told and answers: neither speaks of the clause's place or of the
 -- templates' heads, which the bytes do not show.
-use Rattle.std.specs.Prelude.{◌≡◌, Bool, true, cond, List, ℕ, min, get_or}
+use Rattle.std.specs.Prelude.{◌≡◌, true, List, ℕ, min, get_or}
 use Rattle.csl.specs.Syntax.{Head, Clause}
 use Rattle.csl.specs.Decode.{whole, clause, heads_of, body_of}
-use Rattle.csl.specs.Widths.{width, thens_narrow}
+use Rattle.csl.specs.Widths.{width}
 use Rattle.records.specs.Index.{template_piece}
 
 -- s is a whole clause, at most d deep
@@ -23,14 +23,6 @@ body_at s k = body_of (heads_of s) (template_piece s k)
 -- ---- a width above 256 counts as 257
 unfoldable pub counted : List ℕ → Clause → ℕ
 counted ws c = min (width ws c) 257
-
--- the same, or 257 where some inner `then` is not narrow
-unfoldable pub strict_width : List ℕ → Clause → ℕ
-strict_width ws c = cond (thens_narrow ws c) (counted ws c) 257
-
--- the one or the other
-unfoldable pub width_by : Bool → List ℕ → Clause → ℕ
-width_by strict ws c = cond strict (strict_width ws c) (counted ws c)
 
 -- ys are the widths ws, so counted; where there is none it is 0
 pub record AsWide (ws ys : List ℕ) : Type 0 where

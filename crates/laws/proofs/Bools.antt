@@ -1,8 +1,7 @@
 -- Tests: what `T b` and `b ≡ true` give each other, `&&` and `||` taken apart and put together, and a definition by a
 -- test.
-use mathlib.Core.Bool.{Bool, true, false, not, ◌&&◌, ◌||◌, true≢false, false≢true}
+use mathlib.Core.Bool.{Bool, true, false, ◌&&◌, ◌||◌, true≢false, false≢true}
 use mathlib.Core.Path.{◌≡◌, refl, sym, subst, ◌∙◌}
-use borrow.Author.Tests.{not-true, not-false}
 use lib.Dec.{T}
 
 -- ---- a test that holds, and one that does not
@@ -30,13 +29,6 @@ by P false f g = g refl
 
 pub by_test : {C : Type 0} (b : Bool) → (b ≡ true → C) → (b ≡ false → C) → C
 by_test {C} b f g = by (λ _. C) b f g
-
--- u is what a call answered for x, and the code goes by `!u`
-pub told_yes : {u x : Bool} → u ≡ x → not u ≡ false → x ≡ true
-told_yes {u} e f = sym e ∙ not-false u f
-
-pub told_no : {u x : Bool} → u ≡ x → not u ≡ true → x ≡ false
-told_no {u} e f = sym e ∙ not-true u f
 
 -- ---- `a && b` and `a || b`
 pub T-left : (a b : Bool) → T (a && b) → T a

@@ -1,6 +1,9 @@
--- What it is to put bytes into a buffer at a place: nothing before them is lost, and nothing of them.
-use Rattle.std.specs.Prelude.{◌≡◌, List, ◌++◌, ℕ, ◌+◌, length, take}
+-- What it is to put a text onto a page: it stands behind what is there, and what has no room is dropped.
+use Rattle.std.specs.Prelude.{List, ◌++◌, ℕ, take}
 
-pub record Put (bytes before : List ℕ) (at : ℕ) (left : List ℕ) (to : ℕ) : Type 0 where
-  pub place : to ≡ at + length bytes
-  pub kept : take to left ≡ take at before ++ bytes
+-- the bytes that a page takes
+abbrev pub page_room : ℕ
+page_room = 65_536
+
+unfoldable pub put : List ℕ → List ℕ → List ℕ
+put page text = take page_room (page ++ text)

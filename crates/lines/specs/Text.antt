@@ -23,6 +23,10 @@ digits_in (suc steps) n = elim (ltb n 10) [
 unfoldable pub decimal : ℕ → List ℕ
 decimal n = digits_in (suc n) n
 
+-- no 64-bit number has more digits
+abbrev pub digits_room : ℕ
+digits_room = 20
+
 -- ---- the words of paper 01, "Pond trials"
 abbrev pub live : List ℕ
 live = 76 ∷ 73 ∷ 86 ∷ 69 ∷ []

@@ -1,50 +1,62 @@
-// What a line of the program says, put into a buffer byte for byte. Each function asks for the room that it may need.
+// A line of the program, and a page of lines that are not yet written.
 #![tactic(auto)]
 
-ghost use Rattle.std.specs.Prelude.{◌≡◌, [], ◌∷◌, ◌++◌, ◌+◌, ◌≤◌, ◌<◌, length};
-ghost use Rattle.lines.specs.Text.{decimal, fields, space};
-ghost use Rattle.lines.specs.Lines.{refusal_fields};
-ghost use Rattle.lines.specs.Put.{Put};
+ghost use Rattle.std.specs.Prelude.{◌≡◌, List, ℕ};
+ghost use Rattle.lines.specs.Put.{put};
+ghost use Rattle.lines.specs.Shown.{shown_time, shown_says, shown_line};
 
-// Puts all of s, and answers the place after it.
-pub fn put_bytes(out: &mut [u8], at: usize, s: &[u8]) -> usize
-    requires { at + length s.now ≤ length out.old }
-    ensures { Put s.now out.old at out.new result }
-{
-    for i in 0..s.len() {
-        out[at + i] = s[i];
+pub mod page;
+
+pub use page::Page;
+
+// What has a text that can be put onto a page.
+pub trait Put {
+    ghost text: { Self → List ℕ };
+
+    fn put_on(&self, page: &mut Page)
+        ensures { page.new ≡ put page.old (text self.now) };
+}
+
+// Its number, its time where it has one, and what it says: a verdict, or the number of a refusal (this crate
+// stands below the one that refuses).
+#[derive(Clone, Copy, Debug, PartialEq, Eq)]
+pub struct Line<V> {
+    pub number: u64,
+    pub time: Option<usize>,
+    pub says: Result<V, u32>,
+}
+
+impl<V: Put> Put for Line<V> {
+    ghost text = { shown_line V.text };
+
+    fn put_on(&self, page: &mut Page) {
+        page.put_decimal(self.number);
+        page.put_bytes(b" ");
+        put_time(self.time, page);
+        page.put_bytes(b" ");
+        put_says(&self.says, page);
+        page.put_bytes(b"\n");
     }
-    at + s.len()
 }
 
-// Puts a number in decimal.
-pub fn put_decimal(out: &mut [u8], at: usize, n: u64) -> usize
-    requires { at + 20 ≤ length out.old }
-    ensures puts { Put (decimal n) out.old at out.new result }
-    ensures room { result ≤ at + 20 }
+// A time as a line shows it: `-` where there is none.
+fn put_time(time: Option<usize>, page: &mut Page)
+    ensures { page.new ≡ put page.old (shown_time time) }
 {
-    let mut text = [0u8; 20];
-    let k = io::decimal(n, &mut text);
-    put_bytes(out, at, &text[..k])
+    match time {
+        Some(time) => page.put_decimal(time as u64),
+        None => page.put_bytes(b"-"),
+    }
 }
 
-// Puts a space and a number.
-pub fn put_next(out: &mut [u8], at: usize, n: u64) -> usize
-    requires { at + 21 ≤ length out.old }
-    ensures puts { Put (space ∷ decimal n) out.old at out.new result }
-    ensures room { result ≤ at + 21 }
+fn put_says<V: Put>(says: &Result<V, u32>, page: &mut Page)
+    ensures { page.new ≡ put page.old (shown_says V.text says.now) }
 {
-    let a = put_bytes(out, at, b" ");
-    put_decimal(out, a, n)
-}
-
-// Puts the word and number of a refusal, and the line's end.
-pub fn put_refusal(out: &mut [u8], at: usize, number: u32) -> usize
-    requires { at + 30 ≤ length out.old }
-    ensures puts { Put (fields (refusal_fields number)) out.old at out.new result }
-    ensures room { result ≤ at + 30 }
-{
-    let a = put_bytes(out, at, b" REFUSED");
-    let b = put_next(out, a, number as u64);
-    put_bytes(out, b, b"\n")
+    match *says {
+        Ok(ref verdict) => verdict.put_on(page),
+        Err(refusal) => {
+            page.put_bytes(b"REFUSED");
+            page.put_next(u64::from(refusal));
+        }
+    }
 }

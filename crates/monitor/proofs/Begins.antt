@@ -13,6 +13,7 @@ use Rattle.csl.specs.Table.{table_length}
 use Rattle.csl.specs.Entries.{start_of}
 use Rattle.laws.proofs.Bools.{both_true}
 use Rattle.soundness.proofs.Checked.{passed}
+use Rattle.cells.specs.declared.Sight.{Sight}
 use Rattle.bridge.proofs.Entries.{kept_cells, start_reduce}
 use Rattle.waits.specs.declared.Event.TheVariants.{Activate}
 use Rattle.reduction.specs.Steps.{main_reckoned, Due, reckoned, reduced, advanced, Advances}
@@ -26,14 +27,14 @@ short {s} ok = both_true (between 4 16_384 (length s)) _ (passed s (agreement_of
     λ a b. both_true (leb 4 (length s)) (leb (length s) 16_384) a λ c d. leb→le (length s) 16_384 d
 
 -- ---- start, for an accepted agreement and a table's cells
-module _ {s : List ℕ} (ok : Accepted s) {us : List ℤ} (l : length us ≡ table_length) (sights : List ℕ) where
+module _ {s : List ℕ} (ok : Accepted s) {us : List ℤ} (sights : List Sight) where
   -- whatever units are said to be in use
   pub begin_due : {n t : ℕ} → n ≤ 128 → t < 4_294_967_296 → Due s sights us n t Activate
-  begin_due held soon = record { short = short ok; is_table = l; held = held; soon = soon; units = tt }
+  begin_due held soon = record { short = short ok; held = held; soon = soon; units = tt }
 
-  pub begun : {t : ℕ} {r : Result Wrote TooMany} {left : List ℤ} → Advances s sights us 0 t Activate left r
-      → t ≡ le32 s 4 → advanced r left ≡ start_of s us
+  pub begun : {t : ℕ} {r : Result Wrote TooMany} {left : List ℤ} → length us ≡ table_length
+      → Advances s sights us 0 t Activate left r → t ≡ le32 s 4 → advanced r left ≡ start_of s us
   unfolding reckoned main_reckoned agreement_of
-  begun {r = r} {left = left} a e =
+  begun {r = r} {left = left} l a e =
       subst (λ t. advanced r left ≡ kept_cells t 0 us (reduced s sights us 0 Activate)) e a.is
       ∙ sym (start_reduce s (mains_of s) ok.is us l)

@@ -3,7 +3,7 @@ use mathlib.Core.Path.{◌≡◌, refl, sym, ap, ap₂, subst, ◌∙◌}
 use mathlib.Core.Bool.{Bool, true, false, cond, not, ◌&&◌}
 use mathlib.Core.List.{List, [], ◌∷◌, ◌++◌}
 use mathlib.Core.Option.{some}
-use Prim.Native.Nat.{ℕ, ◌*◌, ◌≤◌, ◌<◌, min}
+use Prim.Native.Nat.{ℕ, ◌≤◌, ◌<◌, min}
 use native.Mathlib.Omega.{arith}
 use borrow.Author.Tests.{ltb-true, ltb-false}
 use denote.Bor.{Bor}
@@ -34,6 +34,7 @@ use Rattle.soundness.proofs.Runs.{is_fair, run_at}
 use Rattle.soundness.proofs.ReadBack.{table_back}
 use Rattle.cells.specs.Reduce as cells
 use Rattle.cells.specs.Across as table
+use Rattle.cells.specs.declared.Sight.{Sight}
 use Rattle.cells.specs.Across.{some_open_later}
 use Rattle.csl.specs.Check.{mains_of}
 use Rattle.laws.proofs.Bools.{by_test}
@@ -55,8 +56,9 @@ use Rattle.waits.specs.declared.Event.TheVariants.{Follow}
 use Rattle.residues.specs.Tallies.{most_counted}
 use Rattle.walk.specs.Tree.{Tree}
 use Rattle.walk.proofs.Trees.{tree_only}
-use Rattle.units.specs.Units.{sight_numbers}
+use Rattle.cells.specs.Sights.{flat, sights_in}
 use Rattle.state.specs.Shown.{RunShows, RunningAs, BreachedAs, Shows, run_in}
+use Rattle.parties.specs.declared.breach.Breach.{Breach as Broken}
 use Rattle.state.specs.declared.State.{State}
 use Rattle.state.specs.declared.State.TheVariants.{Running, Fulfilled, Breached}
 use Rattle.monitor.specs.declared.Refusal.TheVariants.{ReadingTime}
@@ -67,7 +69,7 @@ use Rattle.reduction.specs.Steps.{advanced, cost_in, Advances}
 use Rattle.reduction.specs.declared.TooMany.{TooMany}
 use Rattle.reduction.specs.declared.Wrote.{Wrote}
 use Rattle.monitor.proofs.Begins.{short}
-use Rattle.reduction.proofs.Tabled.{founds, sighted, has_tree}
+use Rattle.reduction.proofs.Tabled.{founds, flat_sighted, has_tree}
 use Rattle.monitor.specs.Steps.{Opened, why_misfit, Fitted, SomeReading, ReadAs, some_later, Judged}
 
 fits_as : {s bytes : List ℕ} {r : Reading} (f : FittingRead s bytes r) → fitting (agreement_of s) bytes ≡ some f.reading
@@ -119,7 +121,7 @@ judged_as : {b c : Bool} (altered : Bool) → (altered ≡ false → b ≡ c) �
 judged_as true h = refl
 judged_as false h = h refl
 
-module _ {s : List ℕ} {us : List ℤ} {sights : List ℕ} {state : State} (o : Opened s us sights state) where
+module _ {s : List ℕ} {us : List ℤ} {sights : List Sight} {state : State} (o : Opened s us sights state) where
   abbrev ag : Agreement
   ag = agreement_of s
 
@@ -131,7 +133,8 @@ module _ {s : List ℕ} {us : List ℤ} {sights : List ℕ} {state : State} (o :
   in_order f shown = omega (arith, f.in_order shown.now shown.cell, f.fits.time)
 
 -- ---- a running run
-module _ {s : List ℕ} {us : List ℤ} {sights : List ℕ} {n : ℕ} (o : Opened s us sights (Running n)) where
+module _ {s : List ℕ} {us : List ℤ} {sights : List Sight} {n : ℕ} (o : Opened s us sights (Running n))
+    (l : length us ≡ table_length) where
   pub runs : RunningAs (run_in s us) us sights n
   unfolding Shows
   runs = o.shows
@@ -145,12 +148,12 @@ module _ {s : List ℕ} {us : List ℤ} {sights : List ℕ} {n : ℕ} (o : Opene
   abbrev moved : ℕ
   moved = runs.shows.moved
 
-  pub residue_sights : take (2 * units res) sights ≡ sight_numbers res
-  residue_sights = ap (λ k. take (2 * k) sights) (sym runs.count) ∙ runs.sighted
+  pub residue_sights : take (units res) sights ≡ sights_in res
+  residue_sights = ap (λ k. take k sights) (sym runs.count) ∙ runs.sighted
 
   pub units_ready : Tree (length s) sights (drop 8 us) n
   units_ready = rw runs.count
-      (has_tree s (mains_of s) (ck o) now moved res us o.is_table runs.shows.is sights residue_sights)
+      (has_tree s (mains_of s) (ck o) now moved res us l runs.shows.is sights residue_sights)
 
   abbrev later : Reading → Bool
   later r = some_later s n sights us r
@@ -159,7 +162,7 @@ module _ {s : List ℕ} {us : List ℤ} {sights : List ℕ} {n : ℕ} (o : Opene
     -- what the rules on cells give for a reading
     record Given : Type 0 where
       given : cells.Reckoned
-      is : table.across (mode_of r) s n sights (drop 8 us) ≡ given ∷ []
+      is : table.across (mode_of r) s n (flat sights) (drop 8 us) ≡ given ∷ []
       reads : reading_of s us bytes ≡ answered (mark_of (early_cells n us given.outcome (later r)))
           (total given.tally) (kept_cells r.time n us given.outcome)
       small : total given.tally ≤ most_counted
@@ -169,25 +172,26 @@ module _ {s : List ℕ} {us : List ℤ} {sights : List ℕ} {n : ℕ} (o : Opene
     following =
         let fits = f.fits in
         let d = fits.reading in
-        let more = drop (2 * units res) sights in
+        let more = flat (drop (units res) sights) in
         let le = in_order o f runs.shows in
         let rok = (reading_ok (ag o) fits.raw d fits.typed).0 in
         let w = follow_across s (mains_of s) (is_fair s (ag o) (mains_of s) (ck o)) (founds s (mains_of s) (ck o)) now
-        moved res us o.is_table runs.shows.is more d rok in
-        let seen = sighted s (mains_of s) (ck o) now moved res us o.is_table runs.shows.is sights
+        moved res us l runs.shows.is more d rok in
+        let seen = flat_sighted s (mains_of s) (ck o) now moved res us l runs.shows.is sights
         residue_sights in
         let same : some_open_later d.time d.type (cells_of d.values) s (units res) (sights_of (ag o) res ++ more)
         (drop 8 us) ≡ later r =
         ap₂ (λ k q. some_open_later d.time d.type (cells_of d.values) s k q (drop 8 us)) (sym runs.count)
         (sym seen)
-        ∙ ap₂ (λ t k. some_open_later t k (cells_of d.values) s n sights (drop 8 us)) (sym fits.time) (sym fits.type)
-        ∙ ap (λ vs. some_open_later r.time r.tag vs s n sights (drop 8 us)) (sym fits.cells) in
+        ∙ ap₂ (λ t k. some_open_later t k (cells_of d.values) s n (flat sights) (drop 8 us)) (sym fits.time)
+        (sym fits.type)
+        ∙ ap (λ vs. some_open_later r.time r.tag vs s n (flat sights) (drop 8 us)) (sym fits.cells) in
         record {
           given = w.given;
-          is = ap (λ m. table.across m s n sights (drop 8 us)) (mode_as fits)
+          is = ap (λ m. table.across m s n (flat sights) (drop 8 us)) (mode_as fits)
               ∙ ap₂ (λ k q. table.across (cells.following d.time d.type (cells_of d.values)) s k q
               (drop 8 us)) runs.count seen ∙ w.only;
-          reads = reading_running s (mains_of s) (ck o) us o.is_table now moved bytes d (fits_as fits) le
+          reads = reading_running s (mains_of s) (ck o) us l now moved bytes d (fits_as fits) le
               (founds s (mains_of s) (ck o)) res more w.given runs.shows.is w.only
               ∙ ap (λ b. answered (mark_of (early_cells (units res) us w.given.outcome b)) (total w.given.tally)
               (kept_cells d.time (units res) us w.given.outcome)) same
@@ -197,12 +201,12 @@ module _ {s : List ℕ} {us : List ℤ} {sights : List ℕ} {n : ℕ} (o : Opene
             arith,
             follow_costs s (mains_of s) (is_fair s (ag o) (mains_of s) (ck o)) (founds s (mains_of s) (ck o)) now moved
                 res
-                us o.is_table runs.shows.is more d rok,
+                us l runs.shows.is more d rok,
             cost_of_units s (ag o) (mains_of s) (passed s (ag o) (mains_of s) (ck o)) d res,
             runs.count,
             runs.few,
           );
-          marks = λ z. sym same ∙ marks_later s (mains_of s) (ck o) us o.is_table now moved bytes d (fits_as fits) le
+          marks = λ z. sym same ∙ marks_later s (mains_of s) (ck o) us l now moved bytes d (fits_as fits) le
               (founds s (mains_of s) (ck o)) res more runs.shows.is (sym fits.type ∙ z);
         }
 
@@ -220,7 +224,6 @@ module _ {s : List ℕ} {us : List ℤ} {sights : List ℕ} {n : ℕ} (o : Opene
         } in
         record {
           short = short o.accepted;
-          is_table = o.is_table;
           held = runs.few;
           soon = f.fits.small;
           units = all;
@@ -262,16 +265,14 @@ module _ {s : List ℕ} {us : List ℤ} {sights : List ℕ} {n : ℕ} (o : Opene
       same_units : w.altered ≡ false → drop 8 left ≡ drop 8 us
       unfolding stepped_table
       same_units h = ap (drop 8) (kept_table rr.now.time n us (reduced s sights us n e) a.is)
-          ∙ idle_units (ag o) (mains_of s) (is_fair s (ag o) (mains_of s) (ck o)) now moved res us o.is_table
+          ∙ idle_units (ag o) (mains_of s) (is_fair s (ag o) (mains_of s) (ck o)) now moved res us l
           runs.shows.is rr.now.time _ (reduced s sights us n e)
           (ap (λ k. alters k us (reduced s sights us n e)) (sym runs.count) ∙ sym a.told ∙ h)
 
-      pub judge_due : SomeReading s us rr.now → length left ≡ table_length
-          → Judged s sights left n rr.now w.altered
-      judge_due reading l = record {
-        is_table = l;
-        tree = λ h. subst (λ cs. Tree (length s) sights cs n) (sym (same_units h)) units_ready;
-        marks = λ h z. ap (λ cs. some_open_later rr.now.time rr.now.tag rr.now.values.items s n sights cs)
+      pub judge_due : SomeReading s us rr.now → w.altered ≡ false → Judged s sights left n rr.now
+      judge_due reading h = record {
+        tree = subst (λ cs. Tree (length s) sights cs n) (sym (same_units h)) units_ready;
+        marks = λ z. ap (λ cs. some_open_later rr.now.time rr.now.tag rr.now.values.items s n (flat sights) cs)
             (same_units h) ∙ (following reading.1).marks z;
       }
 
@@ -281,35 +282,36 @@ module _ {s : List ℕ} {us : List ℤ} {sights : List ℕ} {n : ℕ} (o : Opene
       follow_yes {early} h = record {
         is = λ bytes f. ap (λ b. answered (mark_of b) w.cost (advanced (Ok w) left))
             (h ∙ judged_as w.altered
-            (λ g. ap (λ cs. some_open_later rr.now.time rr.now.tag rr.now.values.items s n sights cs) (same_units g))
+            (λ g. ap (λ cs. some_open_later rr.now.time rr.now.tag rr.now.values.items s n (flat sights) cs)
+            (same_units g))
             ∙ ap (λ b. not b && later rr.now) a.told
             ∙ early_within rr.now.time n us (reduced s sights us n e) (later rr.now) a.is) ∙ reads_as f a;
       }
 
 -- ---- a breached run, and a fulfilled one
-module _ {s : List ℕ} {us : List ℤ} {sights : List ℕ} {r : Reading} where
-  pub read_breached : {t b : ℕ} → Opened s us sights (Breached t b)
+module _ {s : List ℕ} {us : List ℤ} {sights : List Sight} {r : Reading} where
+  pub read_breached : {b : Broken} → Opened s us sights (Breached b) → length us ≡ table_length
       → ReadAs s us r (Ok (record { early = false; cost = 0 })) us
   unfolding answered mark_of Shows
-  read_breached {t} {b} o =
-      let shown : BreachedAs (run_in s us) us t b = o.shows in
+  read_breached {b} o l =
+      let shown : BreachedAs (run_in s us) us b.time b.parties = o.shows in
       record {
-        is = λ bytes f. sym (reading_breach s (mains_of s) (ck o) us o.is_table shown.shows.now shown.shows.moved bytes
-            f.fits.reading (fits_as f.fits) (in_order o f shown.shows) t _ shown.shows.is);
+        is = λ bytes f. sym (reading_breach s (mains_of s) (ck o) us l shown.shows.now shown.shows.moved bytes
+            f.fits.reading (fits_as f.fits) (in_order o f shown.shows) b.time _ shown.shows.is);
       }
 
-  pub read_done : Opened s us sights Fulfilled
+  pub read_done : Opened s us sights Fulfilled → length us ≡ table_length
       → ReadAs s us r (Ok (record { early = false; cost = 0 })) (set us 1 (to_z w64 r.time))
   unfolding answered mark_of Shows
-  read_done o =
+  read_done o l =
       let shown : RunShows (run_in s us) us done = o.shows in
-      let back = sym (table_back (ag o) (mains_of s) us (run_at shown.now shown.moved done) shown.is o.is_table) in
+      let back = sym (table_back (ag o) (mains_of s) us (run_at shown.now shown.moved done) shown.is l) in
       record {
         is = λ bytes f.
             ap (λ cells. answered 0 0 (answer 0 cells))
             (ap (set us 1) (to_z_pos w64 r.time (omega (arith, f.fits.small)) ∙ ap pos f.fits.time)
             ∙ retimed us shown.now shown.moved f.fits.reading.time back)
-            ∙ sym (reading_done s (mains_of s) (ck o) us o.is_table shown.now shown.moved bytes f.fits.reading
+            ∙ sym (reading_done s (mains_of s) (ck o) us l shown.now shown.moved bytes f.fits.reading
             (fits_as f.fits)
             (in_order o f shown) shown.is);
       }
@@ -320,42 +322,42 @@ record SomeRun (s : List ℕ) (us : List ℤ) : Type 0 where
   is : run_in s us ≡ some run
   cell : get_or us 1 (pos 0) ≡ pos run.last_time
 
-some_run : (s : List ℕ) (us : List ℤ) (sights : List ℕ) (state : State) → Shows (run_in s us) us sights (Some state)
+some_run : (s : List ℕ) (us : List ℤ) (sights : List Sight) (state : State) → Shows (run_in s us) us sights (Some state)
     → SomeRun s us
 unfolding Shows
 some_run s us sights (Running n) v = record { run = _; is = v.shows.is; cell = v.shows.cell }
 some_run s us sights Fulfilled v = record { run = _; is = v.is; cell = v.cell }
-some_run s us sights (Breached t b) v = record { run = _; is = v.shows.is; cell = v.shows.cell }
+some_run s us sights (Breached b) v = record { run = _; is = v.shows.is; cell = v.shows.cell }
 
-module _ {s : List ℕ} {us : List ℤ} {sights : List ℕ} {state : State} (o : Opened s us sights state) (bytes : List ℕ)
-  where
-    abbrev shown : SomeRun s us
-    shown = some_run s us sights state o.shows
+module _ {s : List ℕ} {us : List ℤ} {sights : List Sight} {state : State} (o : Opened s us sights state)
+    (l : length us ≡ table_length) (bytes : List ℕ) where
+  abbrev shown : SomeRun s us
+  shown = some_run s us sights state o.shows
 
-    pub read_misfit : (m : Misfit) → TakenIs s bytes (Err m)
-        → taken_answer (Err (record { why = why_misfit m; cost = 0 })) us ≡ reading_of s us bytes
+  pub read_misfit : (m : Misfit) → TakenIs s bytes (Err m)
+      → taken_answer (Err (record { why = why_misfit m; cost = 0 })) us ≡ reading_of s us bytes
+  unfolding answered
+  read_misfit Malformed f = sym (reading_eight s (mains_of s) (ck o) us l shown.run shown.is bytes f)
+  read_misfit Untyped f = sym (reading_nine s (mains_of s) (ck o) us l shown.run shown.is bytes f.raw f.is
+      f.untyped)
+
+  module _ {r : Reading} (f : FittingRead s bytes r) {z : ℤ} (ez : z ≡ get_or us 1 (pos 0)) where
+    -- the time of the last reading, as the code compares
+    earlier : lt_z (to_z w64 r.time) z ≡ ltb r.time shown.run.last_time
+    earlier = ap₂ lt_z (to_z_pos w64 r.time (omega (arith, f.small))) (ez ∙ shown.cell)
+
+    pub read_ten : lt_z (to_z w64 r.time) z ≡ true
+        → taken_answer (Err (record { why = ReadingTime; cost = 0 })) us ≡ reading_of s us bytes
     unfolding answered
-    read_misfit Malformed f = sym (reading_eight s (mains_of s) (ck o) us o.is_table shown.run shown.is bytes f)
-    read_misfit Untyped f = sym (reading_nine s (mains_of s) (ck o) us o.is_table shown.run shown.is bytes f.raw f.is
-        f.untyped)
+    read_ten t = sym (reading_ten s (mains_of s) (ck o) us l shown.run shown.is bytes f.reading (fits_as f)
+        (omega (arith, ltb-true r.time shown.run.last_time (sym earlier ∙ t), f.time)))
 
-    module _ {r : Reading} (f : FittingRead s bytes r) {z : ℤ} (ez : z ≡ get_or us 1 (pos 0)) where
-      -- the time of the last reading, as the code compares
-      earlier : lt_z (to_z w64 r.time) z ≡ ltb r.time shown.run.last_time
-      earlier = ap₂ lt_z (to_z_pos w64 r.time (omega (arith, f.small))) (ez ∙ shown.cell)
-
-      pub read_ten : lt_z (to_z w64 r.time) z ≡ true
-          → taken_answer (Err (record { why = ReadingTime; cost = 0 })) us ≡ reading_of s us bytes
-      unfolding answered
-      read_ten t = sym (reading_ten s (mains_of s) (ck o) us o.is_table shown.run shown.is bytes f.reading (fits_as f)
-          (omega (arith, ltb-true r.time shown.run.last_time (sym earlier ∙ t), f.time)))
-
-      pub read_fitted : lt_z (to_z w64 r.time) z ≡ false → Fitted s bytes us r
-      read_fitted t = record {
-        fits = f;
-        in_order = λ now e. omega (
-          arith,
-          ltb-false r.time shown.run.last_time (sym earlier ∙ t),
-          pos_inj (sym e ∙ shown.cell),
-        );
-      }
+    pub read_fitted : lt_z (to_z w64 r.time) z ≡ false → Fitted s bytes us r
+    read_fitted t = record {
+      fits = f;
+      in_order = λ now e. omega (
+        arith,
+        ltb-false r.time shown.run.last_time (sym earlier ∙ t),
+        pos_inj (sym e ∙ shown.cell),
+      );
+    }

@@ -3,24 +3,21 @@ use Rattle.std.specs.Prelude.{◌≡◌, Bool, true, false, List, ℕ, ◌≤◌
 use Rattle.csl.specs.Decode as decode
 use Rattle.csl.specs.Check as check
 use Rattle.csl.specs.Check.{checked}
-use Rattle.csl.specs.Table.{table_length}
-use Rattle.csl.specs.Entries.{start_of, reading_of, forecast_of}
+use Rattle.csl.specs.Entries.{reading_of, forecast_of}
 use Rattle.readings.specs.Taking.{FittingRead}
 use Rattle.readings.specs.declared.reading.Reading.{Reading}
 use Rattle.readings.specs.declared.Misfit.{Misfit}
 use Rattle.readings.specs.declared.Misfit.TheVariants.{Malformed, Untyped}
 use Rattle.cells.specs.Across.{some_open_later}
+use Rattle.cells.specs.Sights.{flat}
+use Rattle.cells.specs.declared.Sight.{Sight}
 use Rattle.walk.specs.Tree.{Tree}
 use Rattle.state.specs.Shown.{Shows, run_in}
 use Rattle.state.specs.declared.State.{State}
 use Rattle.monitor.specs.declared.Lent.{Lent}
 use Rattle.monitor.specs.declared.Refusal.{Refusal}
 use Rattle.monitor.specs.declared.Refusal.TheVariants.{ReadingForm, ReadingTyping}
-use Rattle.monitor.specs.Answers.{Taken, number_of, start_answer, taken_answer, forecast_answer}
-
--- the numbers of the sights
-abbrev pub sights_length : ℕ
-sights_length = 256
+use Rattle.monitor.specs.Answers.{Taken, number_of, taken_answer, forecast_answer}
 
 -- ---- what is lent
 -- 1 and 2: the agreement in the bytes, which are sized and well formed
@@ -42,21 +39,15 @@ pub record Refuses (s : List ℕ) (us : List ℤ) (r : Refusal) : Type 0 where
   pub reading : (bytes : List ℕ) → taken_answer (Err (record { why = r; cost = 0 })) us ≡ reading_of s us bytes
   pub forecast : forecast_answer (Err r) ≡ forecast_of s us
 
--- 1 to 6
-abbrev pub Admitted : List ℕ → List ℤ → Result (List ℕ) Refusal → Type 0
-Admitted s us (Ok agreement) = (agreement ≡ s) × check.Accepted s × (length us ≡ table_length)
-Admitted s us (Err r) = (start_answer (Err r) us ≡ start_of s us) × Refuses s us r
-
--- an accepted agreement, a table's cells, and the state that they show
-pub record Opened (s : List ℕ) (us : List ℤ) (sights : List ℕ) (state : State) : Type 0 where
+-- an accepted agreement, and the state that a table's cells show
+pub record Opened (s : List ℕ) (us : List ℤ) (sights : List Sight) (state : State) : Type 0 where
   pub accepted : check.Accepted s
-  pub is_table : length us ≡ table_length
   pub shows : Shows (run_in s us) us sights (Some state)
 
--- 1 to 7
-abbrev pub Opens : List ℕ → List ℤ → List ℕ → Result Lent Refusal → Type 0
-Opens s us sights (Ok lent) = (lent.agreement ≡ s) × Opened s us sights lent.state
-Opens s us sights (Err r) = Refuses s us r
+-- 7
+abbrev pub Opens : List ℕ → List ℤ → Result Lent Refusal → Type 0
+Opens s us (Ok lent) = (lent.agreement ≡ s) × Opened s us lent.sights.now lent.state
+Opens s us (Err r) = Refuses s us r
 
 -- ---- a reading
 -- why a reading that does not fit is refused
@@ -78,12 +69,10 @@ pub record ReadAs (s : List ℕ) (us : List ℤ) (r : Reading) (answer : Taken) 
   pub is : (bytes : List ℕ) → Fitted s bytes us r → taken_answer answer left ≡ reading_of s us bytes
 
 -- some unit opens later than the reading, which it waits for
-abbrev pub some_later : List ℕ → ℕ → List ℕ → List ℤ → Reading → Bool
-some_later s n sights us r = some_open_later r.time r.tag r.values.items s n sights (drop 8 us)
+abbrev pub some_later : List ℕ → ℕ → List Sight → List ℤ → Reading → Bool
+some_later s n sights us r = some_open_later r.time r.tag r.values.items s n (flat sights) (drop 8 us)
 
--- what is asked of a table that a step has left: where nothing altered it still has the n units, and a mark waits for
--- none of them
-pub record Judged (s sights : List ℕ) (us : List ℤ) (n : ℕ) (r : Reading) (altered : Bool) : Type 0 where
-  pub is_table : length us ≡ table_length
-  pub tree : altered ≡ false → Tree (length s) sights (drop 8 us) n
-  pub marks : altered ≡ false → r.tag ≡ 0 → some_later s n sights us r ≡ false
+-- what is asked of a table that a step has left as it was: it has the n units, and a mark waits for none of them
+pub record Judged (s : List ℕ) (sights : List Sight) (us : List ℤ) (n : ℕ) (r : Reading) : Type 0 where
+  pub tree : Tree (length s) sights (drop 8 us) n
+  pub marks : r.tag ≡ 0 → some_later s n sights us r ≡ false

@@ -1,15 +1,14 @@
 // The public entries of paper 01. No entry relies on an earlier check.
 #![tactic(auto)]
 
-ghost use Rattle.std.specs.Prelude.{◌≡◌, not, ◌&&◌, length, Ok};
+ghost use Rattle.std.specs.Prelude.{◌≡◌, length, drop, Ok};
 ghost use Rattle.csl.specs.Check.{Accepted as IsAccepted, check_of};
 ghost use Rattle.csl.specs.Entries.{start_of, reading_of, forecast_of};
-ghost use Rattle.csl.specs.Table.{table_length};
 ghost use Rattle.monitor.specs.Answers.{number_of, check_answer, start_answer, taken_answer, forecast_answer};
-ghost use Rattle.monitor.specs.Steps.{sights_length, Read, Verified, Admitted, Opened, Opens, why_misfit};
+ghost use Rattle.monitor.specs.Steps.{Read, Verified, Opened, Opens, why_misfit};
 ghost use Rattle.monitor.specs.Steps.{SomeReading, ReadAs, Judged, some_later};
 
-use cells::{HEAD_CELLS, LAST_TIME, MOST_UNITS, TABLE_CELLS};
+use cells::{HEAD_CELLS, LAST_TIME, MOST_UNITS, Sight, TABLE_CELLS};
 use readings::{Misfit, Reading};
 use records::Agreement;
 use reduction::{TooMany, Wrote, advance};
@@ -19,8 +18,11 @@ use waits::Event;
 use walk::later::some_open_later;
 use walk::{Units, across};
 
-// Two numbers for each unit say what is in sight there.
-const SIGHTS: usize = 2 * MOST_UNITS;
+// The sight of a unit that is not yet read.
+const UNREAD: Sight = Sight::Waits {
+    params: 0,
+    values: 0,
+};
 
 // Why an entry refuses. The paper's numbers are given by `number_of`.
 #[derive(Clone, Copy, Debug, PartialEq, Eq)]
@@ -116,6 +118,17 @@ pub struct Breach {
     pub parties: usize,
 }
 
+impl From<parties::Breach> for Breach {
+    ghost from_gives = { λ breach numbers. numbers ≡ record { time = breach.time; parties = breach.parties } };
+
+    fn from(breach: parties::Breach) -> Breach {
+        Breach {
+            time: breach.time as u64,
+            parties: breach.parties.bits(),
+        }
+    }
+}
+
 // Refusals 1 and 2.
 fn read(bytes: &[u8]) -> Result<Agreement<'_>, Refusal>
     ensures { Read bytes.now result }
@@ -145,23 +158,12 @@ fn verify(bytes: &[u8]) -> Result<places::Accepted<'_>, Refusal>
 pub fn check(agreement: &[u8]) -> Result<usize, Refusal>
     ensures { check_answer result ≡ check_of agreement.now }
 {
-    Ok(verify(agreement)?.mains())
-}
-
-// Refusals 1 to 6.
-fn admit<'a>(bytes: &'a [u8], table: &[i64]) -> Result<places::Accepted<'a>, Refusal>
-    ensures { Admitted bytes.now table.now result }
-{
-    let agreement = verify(bytes)?;
-    if table.len() != TABLE_CELLS {
-        return Err(Refusal::TableLength);
-    }
-    Ok(agreement)
+    Ok(verify(agreement)?.mains().bits())
 }
 
 // Start, for an accepted agreement and a table's cells. Nothing is in sight.
-fn begin(agreement: &places::Accepted<'_>, table: &mut [i64]) -> Result<(), Refusal>
-    requires { IsAccepted agreement.now × (length table.old ≡ table_length) }
+fn begin(agreement: &places::Accepted<'_>, table: &mut [i64; TABLE_CELLS]) -> Result<(), Refusal>
+    requires { IsAccepted agreement.now }
     ensures { start_answer result table.new ≡ start_of agreement.now table.old }
 {
     let agreement = agreement.agreement();
@@ -175,59 +177,64 @@ fn begin(agreement: &places::Accepted<'_>, table: &mut [i64]) -> Result<(), Refu
 pub fn start(agreement: &[u8], table: &mut [i64]) -> Result<(), Refusal>
     ensures { start_answer result table.new ≡ start_of agreement.now table.old }
 {
-    begin(&admit(agreement, table)?, table)
+    let agreement = verify(agreement)?;
+    let table = table.as_mut_array().ok_or(Refusal::TableLength)?;
+    begin(&agreement, table)
 }
 
-// An accepted agreement, and the state that a table shows of it.
+// An accepted agreement, the state that a table shows of it, and the sights of a running run's units.
 #[derive(Drop)]
 struct Lent<'a> {
     agreement: places::Accepted<'a>,
     state: State,
+    sights: &'a [Sight],
 }
 
-// Refusals 1 to 7; the sights of a running run's units are filled on the way.
-fn open_run<'a>(bytes: &'a [u8], table: &[i64], sights: &mut [usize]) -> Result<Lent<'a>, Refusal>
-    requires { length sights.old ≡ sights_length }
-    ensures { Opens bytes.now table.now sights.new result }
+// Refusal 7; the sights are filled on the way.
+fn open_run<'a>(
+    agreement: places::Accepted<'a>,
+    table: &[i64; TABLE_CELLS],
+    sights: &'a mut [Sight; MOST_UNITS],
+) -> Result<Lent<'a>, Refusal>
+    requires { IsAccepted agreement }
+    ensures { Opens agreement.entry table.now result }
 {
-    let agreement = admit(bytes, table)?;
     let state = state_of(&agreement, table, sights).ok_or(Refusal::TableContent)?;
-    Ok(Lent { agreement, state })
+    Ok(Lent {
+        agreement,
+        state,
+        sights,
+    })
 }
 
 impl<'a> Lent<'a> {
-    // Whether a reading that was followed came too early, from the table that it left. No unit waits for a time mark.
-    fn came_early(
-        &self,
-        sights: &[usize],
-        table: &[i64],
-        used: usize,
-        reading: &Reading,
-        altered: bool,
-    ) -> bool
-        requires { Judged self.now.agreement sights.now table.now used reading.now altered }
-        ensures { result ≡ (not altered && some_later self.now.agreement used sights.now table.now reading.now) }
+    // So many units of the table.
+    fn units<'t>(&'t self, table: &'t [i64; TABLE_CELLS], used: usize) -> Units<'t>
+        ensures { (result.sights.now ≡ self.now.sights.now) × (result.cells.now ≡ drop 8 table.now) × (result.count ≡ used) }
     {
-        if altered || reading.tag == 0 {
-            return false;
-        }
-        let units = Units {
-            sights,
+        Units {
+            sights: self.sights,
             cells: &table[HEAD_CELLS..],
             count: used,
-        };
+        }
+    }
+
+    // Whether a reading that altered nothing came too early. No unit waits for a time mark.
+    fn came_early(&self, table: &[i64; TABLE_CELLS], used: usize, reading: &Reading) -> bool
+        requires { Judged self.now.agreement self.now.sights.now table.now used reading.now }
+        ensures { result ≡ some_later self.now.agreement used self.now.sights.now table.now reading.now }
+    {
+        if reading.tag == 0 {
+            return false;
+        }
+        let units = self.units(table, used);
         some_open_later(self.agreement.agreement().bytes(), reading, units)
     }
 
     // A reading that fits and is not before the last. A breached run is left as it is; of a fulfilled one the last
     // reading time moves.
-    fn follow(
-        &self,
-        sights: &[usize],
-        table: &mut [i64],
-        reading: &Reading,
-    ) -> Result<Accepted, Refused>
-        requires opened { Opened self.now.agreement table.old sights.now self.now.state }
+    fn follow(&self, table: &mut [i64; TABLE_CELLS], reading: &Reading) -> Result<Accepted, Refused>
+        requires opened { Opened self.now.agreement table.old self.now.sights.now self.now.state }
         requires some_reading { SomeReading self.now.agreement table.old reading.now }
         ensures { ReadAs self.now.agreement table.old reading.now result table.new }
     {
@@ -235,13 +242,13 @@ impl<'a> Lent<'a> {
             State::Running(used) => {
                 let wrote = advance(
                     self.agreement.agreement(),
-                    sights,
+                    self.sights,
                     table,
                     used,
                     reading.time,
                     Event::Follow(reading),
                 )?;
-                let early = self.came_early(sights, table, used, reading, wrote.altered);
+                let early = !wrote.altered && self.came_early(table, used, reading);
                 Ok(Accepted {
                     early,
                     cost: wrote.cost,
@@ -254,7 +261,7 @@ impl<'a> Lent<'a> {
                     cost: 0,
                 })
             }
-            State::Breached { .. } => Ok(Accepted {
+            State::Breached(_) => Ok(Accepted {
                 early: false,
                 cost: 0,
             }),
@@ -262,51 +269,38 @@ impl<'a> Lent<'a> {
     }
 
     // A reading of any bytes.
-    fn read_on(
-        &self,
-        sights: &[usize],
-        table: &mut [i64],
-        bytes: &[u8],
-    ) -> Result<Accepted, Refused>
-        requires { Opened self.now.agreement table.old sights.now self.now.state }
+    fn read_on(&self, table: &mut [i64; TABLE_CELLS], bytes: &[u8]) -> Result<Accepted, Refused>
+        requires { Opened self.now.agreement table.old self.now.sights.now self.now.state }
         ensures { taken_answer result table.new ≡ reading_of self.now.agreement table.old bytes.now }
     {
         let reading = readings::take(self.agreement.agreement(), bytes)?;
         if (reading.time as i64) < table[LAST_TIME] {
             return Err(Refusal::ReadingTime.into());
         }
-        self.follow(sights, table, &reading)
+        self.follow(table, &reading)
     }
 
     // The breach that a running run comes to without further readings. Nothing waits on, so nothing needs room.
-    fn breach_ahead(&self, sights: &[usize], table: &[i64], used: usize) -> Option<Breach>
-        requires { Opened self.now.agreement table.now sights.now (State.Running used) }
+    fn breach_ahead(&self, table: &[i64; TABLE_CELLS], used: usize) -> Option<Breach>
+        requires { Opened self.now.agreement table.now self.now.sights.now (State.Running used) }
         ensures { forecast_answer (Ok result) ≡ forecast_of self.now.agreement table.now }
     {
-        let units = Units {
-            sights,
-            cells: &table[HEAD_CELLS..],
-            count: used,
-        };
+        let units = self.units(table, used);
         let ahead = across(self.agreement.agreement(), Event::Forecast, units, &mut []);
-        let Reduced::Breach { at, by: parties } = ahead.outcome else {
-            return None;
-        };
-        let time = at.unsigned_abs();
-        Some(Breach { time, parties })
+        match ahead.outcome {
+            Reduced::Breach(breach) => Some(breach.into()),
+            _ => None,
+        }
     }
 
-    fn foretell(&self, sights: &[usize], table: &[i64]) -> Option<Breach>
-        requires { Opened self.now.agreement table.now sights.now self.now.state }
+    fn foretell(&self, table: &[i64; TABLE_CELLS]) -> Option<Breach>
+        requires { Opened self.now.agreement table.now self.now.sights.now self.now.state }
         ensures { forecast_answer (Ok result) ≡ forecast_of self.now.agreement table.now }
     {
         match self.state {
-            State::Running(used) => self.breach_ahead(sights, table, used),
+            State::Running(used) => self.breach_ahead(table, used),
             State::Fulfilled => None,
-            State::Breached { time, parties } => Some(Breach {
-                time: time as u64,
-                parties,
-            }),
+            State::Breached(breach) => Some(breach.into()),
         }
     }
 }
@@ -315,16 +309,20 @@ impl<'a> Lent<'a> {
 pub fn reading(agreement: &[u8], table: &mut [i64], reading: &[u8]) -> Result<Accepted, Refused>
     ensures { taken_answer result table.new ≡ reading_of agreement.now table.old reading.now }
 {
-    let mut sights = [0usize; SIGHTS];
-    let run = open_run(agreement, table, &mut sights)?;
-    run.read_on(&sights, table, reading)
+    let accepted = verify(agreement)?;
+    let table = table.as_mut_array().ok_or(Refusal::TableLength)?;
+    let mut sights = [UNREAD; MOST_UNITS];
+    let run = open_run(accepted, table, &mut sights)?;
+    run.read_on(table, reading)
 }
 
 // What a run comes to without further readings: the breach ahead, or none. The table is only read.
 pub fn forecast(agreement: &[u8], table: &[i64]) -> Result<Option<Breach>, Refusal>
     ensures { forecast_answer result ≡ forecast_of agreement.now table.now }
 {
-    let mut sights = [0usize; SIGHTS];
+    let agreement = verify(agreement)?;
+    let table = table.as_array().ok_or(Refusal::TableLength)?;
+    let mut sights = [UNREAD; MOST_UNITS];
     let shown = open_run(agreement, table, &mut sights)?;
-    Ok(shown.foretell(&sights, table))
+    Ok(shown.foretell(table))
 }

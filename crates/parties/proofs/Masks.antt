@@ -1,5 +1,5 @@
 -- Laws of party sets by bit.
-use mathlib.Core.Bool.{Bool, true, false, ◌&&◌, ◌||◌, true≢false}
+use mathlib.Core.Bool.{Bool, true, false, cond, ◌&&◌, ◌||◌, true≢false}
 use mathlib.Core.List.{List, [], ◌∷◌, ◌++◌}
 use mathlib.Core.Logic.{inl, inr}
 use mathlib.Core.Path.{◌≡◌, refl, sym, ap, ◌∙◌}
@@ -8,17 +8,18 @@ use native.Mathlib.Omega.{arith}
 use lib.Bits.{bit_or, or_block}
 use lib.Count.{ones, ones_cat}
 use lib.Dec.{eqb, leb, ltb}
-use lib.Pow.{pow_pos, pow-lt, pow-add}
-use borrow.Author.Tests.{eq-eqb, ne_eqb, lt-ltb, le-ltb, le-leb, leb-true, eqb-true, ltb-true, ltb-false}
+use lib.Pow.{pow-add}
+use borrow.Author.Tests.{eq-eqb, ne_eqb, lt-ltb, le-ltb, leb-true, eqb-true, ltb-true, ltb-false}
 use Rattle.csl.specs.Lists.{all}
 use Rattle.csl.specs.Parties.{member, subset, member_count, bits_from, bits_of, members_from, members}
 use Rattle.csl.specs.Typing.{Names, blame_ok, is_constant}
 use Rattle.std.proofs.lemmas.Bool.Decides.{nat_tests}
+use Rattle.std.specs.Prelude.{Some, None}
 use Rattle.std.specs.Ordering.{partial_le, partial_lt, as_partial_cmp, nat_cmp}
 use Rattle.laws.proofs.Bools.{by_test, and_left, and_right}
 use Rattle.laws.proofs.PartyBits.{member_self, member_append, bits_lt, bits_same, bits_append, bits_skip}
 use Rattle.laws.proofs.PartyBits.{members_within, members_bits}
-use Rattle.parties.specs.Masks.{mask_of, mask_end, HasBit, ValidMembers, may_blame, BlameMask}
+use Rattle.parties.specs.Masks.{mask_of, mask_end, HasBit, ValidMembers, may_blame}
 use Rattle.parties.proofs.Members.{member_tail, all_each, each_all, bits_apart, bits_nil, bits_again, bits_new}
 use Rattle.parties.proofs.Members.{count_new, members_elsewhere, members_below}
 
@@ -193,7 +194,7 @@ pub body_within : {m a n : ℕ} {r : Bool} (qs : List ℕ) → n < 65_536 → Va
     → r ≡ eqb (bit_or a n) n → r ≡ all (λ q. elim (is_constant q) [ true ↦ member q (members n) | false ↦ true ]) qs
 body_within {n = n} qs h v e f g = g ∙ rw (f, e) (constants_declared n qs h v)
 
--- ---- the bit of a blame byte
+-- ---- the set of a blame byte
 one_party : (b : ℕ) → b < 16 → mask_of (b ∷ []) ≡ 2 ^ b
 unfolding mask_of bits_of member
 one_party b l = let z : b - 0 ≡ b = omega arith in
@@ -216,23 +217,13 @@ one_param b l u = rw (
 ) (omega arith)
 
 -- r is what `bit` gave
-blame_yes : (parties params b k : ℕ) {r : ℕ} → may_blame parties params b ≡ true → mask_of (b ∷ []) ≡ 2 ^ k → k < 20
-    → r ≡ 2 ^ k → BlameMask parties params b r
-blame_yes parties params b k e m l g = rw g (record {
-  is = rw e (sym m);
-  refused = rw e (ne_eqb (2 ^ k) 0 (λ z. omega (arith, pow_pos k)));
-  small = pow-lt {i = k} {j = 20} l;
-})
+allowed : (parties params b k : ℕ) {r : ℕ} → may_blame parties params b ≡ true → mask_of (b ∷ []) ≡ 2 ^ k → r ≡ 2 ^ k
+    → Some r ≡ cond (may_blame parties params b) (Some (mask_of (b ∷ []))) None
+allowed parties params b k e m g = rw (e, m, g)
 
-pub blame_party : (parties params b : ℕ) {r : ℕ} → parties ≤ 16 → b < parties → r ≡ 2 ^ b
-    → BlameMask parties params b r
-blame_party parties params b p l = blame_yes parties params b b (rw (lt-ltb b parties l)) (one_party b (omega arith))
-    (omega arith)
-
-blame_param : (parties params b : ℕ) {r : ℕ} → params ≤ 4 → parties ≤ b → 128 ≤ b → b < 128 + params
-    → r ≡ 2 ^ (16 + (b - 128)) → BlameMask parties params b r
-blame_param parties params b p n l u = blame_yes parties params b (16 + (b - 128))
-    (rw (le-ltb b parties n, le-leb 128 b l, lt-ltb b (128 + params) u)) (one_param b l (omega arith)) (omega arith)
+pub allowed_party : (parties params b : ℕ) {r : ℕ} → parties ≤ 16 → b < parties → r ≡ 2 ^ b
+    → Some r ≡ cond (may_blame parties params b) (Some (mask_of (b ∷ []))) None
+allowed_party parties params b p l = allowed parties params b b (rw (lt-ltb b parties l)) (one_party b (omega arith))
 
 -- what a range of bytes holds, as the code asks it
 within : (from to b : ℕ)
@@ -242,11 +233,21 @@ within from to b = grind (arith, nat_tests)
 
 module _ (parties params b : ℕ) (n : parties ≤ b) {t : Bool}
     (e : t ≡ (partial_le (as_partial_cmp nat_cmp) 128 b && partial_lt (as_partial_cmp nat_cmp) b (128 + params))) where
-  pub blame_within : {r : ℕ} → params ≤ 4 → t ≡ true → r ≡ 2 ^ (16 + (b - 128)) → BlameMask parties params b r
-  blame_within p h =
-      let k : (leb 128 b && ltb b (128 + params)) ≡ true = sym (e ∙ within 128 (128 + params) b) ∙ h in
-      blame_param parties params b p n (leb-true 128 b (and_left (leb 128 b) (ltb b (128 + params)) k))
-      (ltb-true b (128 + params) (and_right (leb 128 b) (ltb b (128 + params)) k))
+  module _ (p : params ≤ 4) (h : t ≡ true) where
+    both : (leb 128 b && ltb b (128 + params)) ≡ true
+    both = sym (e ∙ within 128 (128 + params) b) ∙ h
+
+    pub from_128 : 128 ≤ b
+    from_128 = leb-true 128 b (and_left (leb 128 b) (ltb b (128 + params)) both)
+
+    pub below_132 : b < 132
+    below_132 =
+        let u = ltb-true b (128 + params) (and_right (leb 128 b) (ltb b (128 + params)) both) in omega arith
+
+    pub allowed_param : {r : ℕ} → r ≡ 2 ^ (16 + (b - 128))
+        → Some r ≡ cond (may_blame parties params b) (Some (mask_of (b ∷ []))) None
+    allowed_param = allowed parties params b (16 + (b - 128)) (rw (le-ltb b parties n) both)
+        (one_param b from_128 below_132)
 
 -- ---- the bit of a party, among the parties alone
 pub bits_small : (ps : List ℕ) → bits_of ps < 65_536

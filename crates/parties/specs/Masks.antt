@@ -1,6 +1,7 @@
 -- Sets of parties by bit: bit n for party n, below 16, and bit 16 + n for the party parameter n, the member 128 + n.
-use Rattle.std.specs.Prelude.{Bool, true, cond, ◌&&◌, ◌||◌, not, List, [], ◌∷◌, ◌⊎◌, ◌≡◌, ℕ, ◌+◌, ◌*◌, ◌≤◌, ◌<◌, leb}
-use Rattle.std.specs.Prelude.{ltb, eqb}
+use Rattle.std.specs.Prelude.{Bool, true, ◌&&◌, ◌||◌, List, ◌⊎◌, ◌≡◌, ℕ, ◌+◌, ◌*◌, ◌≤◌, ◌<◌, leb}
+use Rattle.std.specs.Prelude.{◌++◌, ltb}
+use Rattle.std.specs.Int.Bits.{bit_or}
 use Rattle.csl.specs.Parties.{member, bits_from, bits_of}
 
 unfoldable pub mask_of : List ℕ → ℕ
@@ -22,8 +23,6 @@ pub record ValidMembers (ps : List ℕ) : Type 0 where
 abbrev pub may_blame : ℕ → ℕ → ℕ → Bool
 may_blame parties params b = ltb b parties || (leb 128 b && ltb b (128 + params))
 
--- r is the bit of the blame byte b, or 0 where it is not allowed
-pub record BlameMask (parties params b r : ℕ) : Type 0 where
-  pub is : r ≡ cond (may_blame parties params b) (mask_of (b ∷ [])) 0
-  pub refused : eqb r 0 ≡ not (may_blame parties params b)
-  pub small : r < mask_end
+-- r is the union of a and b: it stands for the members of both
+abbrev pub Union : ℕ → ℕ → ℕ → Type 0
+Union a b r = (r ≡ bit_or a b) × ((ps qs : List ℕ) → a ≡ mask_of ps → b ≡ mask_of qs → r ≡ mask_of (ps ++ qs))

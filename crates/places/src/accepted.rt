@@ -4,14 +4,15 @@ ghost use Rattle.csl.specs.Parties.{bits_of};
 ghost use Rattle.csl.specs.Check as check;
 ghost use Rattle.csl.specs.Check.{mains_of};
 
+use parties::PartySet;
 use records::Agreement;
 use std::marker::Model;
 
-// An agreement that is accepted, with the parties of its main clause by bit. Clauses see its bytes.
+// An agreement that is accepted, with the parties of its main clause. Clauses see its bytes.
 #[derive(Drop)]
 pub struct Accepted<'a> {
     agreement: Agreement<'a>,
-    mains: usize,
+    mains: PartySet,
 }
 
 impl<'a> Model for Accepted<'a> {
@@ -28,7 +29,7 @@ impl<'a> Model for Accepted<'a> {
 }
 
 impl<'a> Accepted<'a> {
-    pub fn new(agreement: Agreement<'a>, mains: usize) -> Accepted<'a>
+    pub fn new(agreement: Agreement<'a>, mains: PartySet) -> Accepted<'a>
         requires accepted { check.Accepted agreement }
         requires mains { mains ≡ bits_of (mains_of agreement) }
         ensures { result ≡ agreement.entry }
@@ -42,7 +43,7 @@ impl<'a> Accepted<'a> {
         &self.agreement
     }
 
-    pub fn mains(&self) -> usize
+    pub fn mains(&self) -> PartySet
         ensures { (result ≡ bits_of (mains_of self.now)) × check.Accepted self.now }
     {
         self.mains

@@ -42,6 +42,8 @@ fn then_sight(agreement: &Agreement<'_>, wanted: usize, sight: &mut ArrayVec<u8,
     sight.push(usize::from(Type::Number) as u8);
 }
 
+// What a step takes stays apart: `s` and `base` are new at each step and the sight is lent, so a struct of them would
+// be made anew each time.
 // One step towards the place, from an obligation s that stands at `base`. (Three functions and not one: an obligation
 // has no else, and a clause with two sides neither waits nor lets its first side see more.)
 fn from_obligation(

@@ -20,27 +20,23 @@ pub enum Misfit {
     Untyped,
 }
 
+// The bytes of a reading of no values, and of four.
+const SHORTEST: usize = 9;
+
+const LONGEST: usize = 25;
+
 // The bytes are a record of kind 64 with 0 to 4 values.
 fn is_reading(bytes: &[u8]) -> bool
     ensures { result ≡ given (raw_reading bytes.now) }
 {
-    if !is_record(bytes) {
-        return false;
+    match bytes.len() {
+        n @ SHORTEST..=LONGEST if is_record(bytes) && kind(bytes) == 64 => (n - SHORTEST) % 4 == 0,
+        _ => false,
     }
-    if kind(bytes) != 64 {
-        return false;
-    }
-    let n = bytes.len();
-    if n < 9 {
-        return false;
-    }
-    if n > 25 {
-        return false;
-    }
-    (n - 9) % 4 == 0
 }
 
-// The n numbers of a reading.
+// The n numbers of a reading, by number, as the definition reads them at their places: of `chunks_exact` each would be
+// read at place 0 of a part.
 fn read_numbers(bytes: &[u8], n: usize) -> ArrayVec<i64, MOST_VALUES>
     requires { n ≤ 4 }
     ensures { result.items ≡ numbers_from n bytes.now 9 }
@@ -73,13 +69,13 @@ fn is_typed(agreement: &Agreement<'_>, reading: &Reading) -> bool
 {
     let values = reading.values.as_slice();
     if reading.tag == 0 {
-        return values.len() == 0;
+        values.len() == 0
+    } else if agreement.reading_count() < reading.tag {
+        false
+    } else {
+        let types = agreement.reading_types(reading.tag - 1);
+        types.len() == values.len() && values_ok(types, values, agreement.parties())
     }
-    if agreement.reading_count() < reading.tag {
-        return false;
-    }
-    let types = agreement.reading_types(reading.tag - 1);
-    types.len() == values.len() && values_ok(types, values, agreement.parties())
 }
 
 // The reading in the bytes.

@@ -1,5 +1,6 @@
 // A reading that was read.
 ghost use Rattle.std.specs.Prelude.{◌≤◌};
+ghost use Rattle.arith.specs.Near.{latest};
 
 use arrayvec::ArrayVec;
 
@@ -12,5 +13,5 @@ pub struct Reading {
     pub time: usize,
     pub tag: usize,
     pub values: ArrayVec<i64, MOST_VALUES>,
-    ghost soon: { time ≤ 4_294_967_296 },
+    ghost soon: { time ≤ latest },
 }

@@ -1,6 +1,6 @@
 -- Laws for the tests of an agreement's lists, and for storing where its records begin.
 use mathlib.Core.Path.{◌≡◌, refl, sym, ap, ◌∙◌}
-use mathlib.Core.Bool.{Bool, true, false, not, ◌&&◌, false≢true}
+use mathlib.Core.Bool.{Bool, true, false, ◌&&◌}
 use mathlib.Core.List.{List, [], ◌∷◌, ◌++◌}
 use Rattle.std.specs.List.{list_all}
 use Prim.Native.Nat.{ℕ, ◌+◌, ◌-◌, ◌≤◌, ◌<◌}
@@ -8,7 +8,6 @@ use native.Mathlib.Nat.{zero-add, add-zero, add_assoc, add_comm}
 use native.Mathlib.Numerals.{add-one}
 use native.Mathlib.Omega.{arith}
 use borrow.Author.Count.{below_none, below_more}
-use borrow.Author.Tests.{le-leb, eq-eqb}
 use lib.Dec.{T, leb, eqb, leb→le, eqb→eq}
 use lib.ListN.{length, get_or, set, take, get_or-append}
 use Rattle.std.proofs.lemmas.List.{length-take-le}
@@ -16,16 +15,12 @@ use lib.Seq.{get_or-set_same, get_or-set_other}
 use Rattle.arith.proofs.Lists.{length_part}
 use Rattle.octets.proofs.Bytes.{record_end_within}
 use Rattle.csl.specs.Lists.{all}
-use Rattle.csl.specs.Bytes.{byte, le16, part, is_record, kind_number, record_end}
+use Rattle.csl.specs.Bytes.{byte, part, kind_number, record_end}
 use Rattle.csl.specs.Decode.{pieces, records_end, templates_place, main_place, reading_pieces, template_pieces, between}
-use Rattle.csl.specs.Decode.{body_place, is_type, reading_type_ok, template_ok, counts_ok, listed, sized}
-use Rattle.laws.proofs.Bools.{told_no, told_yes, refused, both_true, T→true, true→T}
+use Rattle.csl.specs.Decode.{reading_type_ok, template_ok, counts_ok, listed}
+use Rattle.laws.proofs.Bools.{refused, both_true, T→true, true→T}
 use Rattle.records.specs.Index.{Lists, Indexed, piece_at, Computes, all_pass, SomeFails, Placed}
-use Rattle.records.proofs.Index.{all_pieces, pieces_more, ReadingHolds, reading_holds, TemplateHolds, template_holds}
-
--- u is what a call answered for x, and the code goes by `!u`
-pub untold : {u x : Bool} → u ≡ x → not u ≡ true → T x → ⊥
-untold {x} e f t = false≢true (sym (told_no e f) ∙ T→true x t)
+use Rattle.records.proofs.Index.{all_pieces, pieces_more, reading_holds}
 
 -- ---- ranges
 module _ (low high n : ℕ) where
@@ -33,49 +28,11 @@ module _ (low high n : ℕ) where
   unfolding between
   range_holds t = both_true (leb low n) (leb n high) t λ h g. (leb→le low n h, leb→le n high g)
 
--- ---- refusal 1
-module _ (s : List ℕ) {u : Bool} (e : u ≡ between 4 16_384 (length s)) where
-  pub sized_no : not u ≡ true → false ≡ sized s
-  unfolding sized
-  sized_no f = rw (told_no e f)
-
-  pub sized_yes : {n : ℕ} → not u ≡ false → n ≡ le16 s 0 → eqb n (length s) ≡ sized s
-  unfolding sized
-  sized_yes f g = rw (told_yes e f, g)
-
 -- ---- the library's word for `all`
 pub all_is : {A : Type 0} (p : A → Bool) (xs : List A) → list_all p xs ≡ all p xs
 unfolding all
 all_is p [] = refl
 all_is p (x ∷ xs) = ap (λ b. p x && b) (all_is p xs)
-
--- ---- a reading type and a template: where one test fails, and where all but the last hold
-pub reading_no : (q : List ℕ) → (ReadingHolds q → ⊥) → false ≡ reading_type_ok q
-reading_no q f = refused (reading_type_ok q) λ t. f (reading_holds q t)
-
-pub template_no : (q : List ℕ) → (TemplateHolds q → ⊥) → false ≡ template_ok q
-template_no q f = refused (template_ok q) λ t. f (template_holds q t)
-
-pub reading_last : (q : List ℕ) {t : Bool} → is_record q ≡ true → kind_number q ≡ 2 → byte q 4 ≤ 4
-    → length q ≡ 5 + byte q 4 → t ≡ all is_type (part q 5 (length q)) → t ≡ reading_type_ok q
-unfolding reading_type_ok
-reading_last q a b c d e = rw (
-  a,
-  eq-eqb (kind_number q) 2 b,
-  le-leb (byte q 4) 4 c,
-  eq-eqb (length q) (5 + byte q 4) d,
-) e
-
-pub template_last : (q : List ℕ) → is_record q ≡ true → kind_number q ≡ 3 → byte q 4 ≤ 8 → 8 + byte q 4 ≤ length q
-    → all is_type (part q 5 (5 + byte q 4)) ≡ true → leb (byte q (5 + byte q 4)) 4 ≡ template_ok q
-unfolding template_ok body_place
-template_last q a b c d e = rw (
-  a,
-  eq-eqb (kind_number q) 3 b,
-  le-leb (byte q 4) 8 c,
-  le-leb (8 + byte q 4) (length q) d,
-  e,
-)
 
 -- ---- n records from a, of which the code tests the first i
 -- what is told of them after i of them
@@ -154,24 +111,6 @@ counts_hold s t =
     both_true (b && c) d t₁ λ t₂ h₄.
     both_true b c t₂ λ h₂ h₃.
     record { kind = eqb→eq (kind_number s) 1 h₁; parties = h₂; readings = h₃; templates = leb→le (byte s 10) 32 h₄ }
-
-module _ (s : List ℕ) {k : ℕ} (e : k ≡ kind_number s) where
-  module _ {u : Bool} {b : ℕ} (p : u ≡ between 1 16 b) (q : b ≡ byte s 8) where
-    pub counted_no_parties : not u ≡ true → false ≡ counted s
-    counted_no_parties f = refused (counted s) λ t. untold (p ∙ ap (between 1 16) q) f (counts_hold s t).parties
-
-    module _ {v : Bool} {d : ℕ} (g : v ≡ between 1 16 d) (h : d ≡ byte s 9) where
-      pub counted_no_readings : not v ≡ true → false ≡ counted s
-      counted_no_readings f = refused (counted s) λ t. untold (g ∙ ap (between 1 16) h) f (counts_hold s t).readings
-
-      pub counted_last : {n : ℕ} → k ≡ 1 → not u ≡ false → not v ≡ false → n ≡ byte s 10 → leb n 32 ≡ counted s
-      unfolding counts_ok
-      counted_last i y z m = rw (
-        eq-eqb (kind_number s) 1 (sym e ∙ i),
-        told_yes (p ∙ ap (between 1 16) q) y,
-        told_yes (g ∙ ap (between 1 16) h) z,
-        m,
-      )
 
 -- ---- the whole test
 abbrev readings_ok : List ℕ → Bool

@@ -23,11 +23,11 @@ use std::marker::Model;
 pub const START_AT: usize = 4;
 
 // The byte places of its numbers of parties, of reading types and of templates.
-pub const PARTIES_AT: usize = 8;
+const PARTIES_AT: usize = 8;
 
-pub const READINGS_AT: usize = 9;
+const READINGS_AT: usize = 9;
 
-pub const TEMPLATES_AT: usize = 10;
+const TEMPLATES_AT: usize = 10;
 
 // The most bytes, parties, reading types and templates of an agreement.
 const MOST_BYTES: usize = 16_384;
@@ -36,7 +36,7 @@ const MOST_PARTIES: usize = 16;
 
 const MOST_READINGS: usize = 16;
 
-const MOST_TEMPLATES: usize = 32;
+pub const MOST_TEMPLATES: usize = 32;
 
 // 'Records nest at most 24 deep, the agreement being depth 1': so deep may the main clause be, and a template's body.
 pub const MAIN_DEPTH: usize = 23;
@@ -66,7 +66,8 @@ pub fn wait_end(s: &[u8], i: usize) -> usize
     record_end(s, b)
 }
 
-// Where the first clause part of a clause of kind 17 to 21 begins.
+// Where the first clause part of a clause of kind 17 to 21 begins. (A record's kind is decided by its number: a rule of
+// the project.)
 fn clause_part(s: &[u8], kind: usize) -> usize
     requires { 4 ≤ length s.now }
     ensures { (result ≡ first_clause kind s.now) × (result ≤ length s.now) × (4 ≤ result) }
@@ -88,7 +89,8 @@ pub fn first_clause(s: &[u8], kind: usize) -> usize
 }
 
 // An agreement whose counts, reading types and templates' heads are as listed, with the places where its reading types,
-// its templates and its main clause begin. Clauses see its bytes.
+// its templates and its main clause begin. Clauses see its bytes. (Each method ensures `Lists` too: callers know the
+// value alone, and learn of the invariant what a clause says.)
 #[derive(Drop)]
 pub struct Agreement<'a> {
     bytes: &'a [u8],
@@ -115,10 +117,7 @@ impl<'a> Agreement<'a> {
         ensures { MatchOption result (listed bytes.now ≡ false) (λ a. (a ≡ bytes.now) × (listed bytes.now ≡ true) × Lists bytes.now) }
     {
         // with fewer bytes there is no place for a reading type
-        if bytes.len() < READINGS_FROM {
-            return None;
-        }
-        if !counts_ok(bytes) {
+        if bytes.len() < READINGS_FROM || !counts_ok(bytes) {
             return None;
         }
         let mut readings = [0; MOST_READINGS];
@@ -253,9 +252,7 @@ impl<'a> Agreement<'a> {
     {
         let bytes = self.bytes;
         let body = self.body_span(k);
-        let from = body.from;
-        let to = body.to;
-        &bytes[from..to]
+        &bytes[body.from..body.to]
     }
 
     pub fn main(&self) -> &'a [u8]
@@ -285,10 +282,7 @@ fn between(low: usize, high: usize, n: usize) -> bool
 pub fn sized(agreement: &[u8]) -> bool
     ensures { result ≡ decode.sized agreement.now }
 {
-    if !between(4, MOST_BYTES, agreement.len()) {
-        return false;
-    }
-    unsigned16(agreement, 0) == agreement.len()
+    between(4, MOST_BYTES, agreement.len()) && unsigned16(agreement, 0) == agreement.len()
 }
 
 fn types_ok(types: &[u8]) -> bool
@@ -300,46 +294,25 @@ fn types_ok(types: &[u8]) -> bool
 fn reading_ok(piece: &[u8]) -> bool
     ensures { result ≡ reading_type_ok piece.now }
 {
-    if !is_record(piece) {
-        return false;
-    }
-    if kind(piece) != 2 {
-        return false;
-    }
     let n = byte(piece, 4);
-    if n > 4 {
-        return false;
-    }
-    if piece.len() != 5 + n {
-        return false;
-    }
-    types_ok(&piece[5..])
+    is_record(piece) && kind(piece) == 2 && n <= 4 && piece.len() == 5 + n && types_ok(&piece[5..])
 }
 
 fn template_ok(piece: &[u8]) -> bool
     ensures { result ≡ template_ok piece.now }
 {
-    if !is_record(piece) {
-        return false;
-    }
-    if kind(piece) != 3 {
-        return false;
-    }
     let n = byte(piece, 4);
-    if n > 8 {
-        return false;
-    }
-    if piece.len() < head_size(n) {
-        return false;
-    }
-    if !types_ok(&piece[5..5 + n]) {
-        return false;
-    }
-    byte(piece, 5 + n) <= 4
+    is_record(piece)
+        && kind(piece) == 3
+        && n <= 8
+        && head_size(n) <= piece.len()
+        && types_ok(&piece[5..5 + n])
+        && byte(piece, 5 + n) <= 4
 }
 
 // Stores where each of the records that begin at `from` begins, one for each place, and gives where the last one ends.
-// None where one of them fails the test.
+// None where one of them fails the test. (The places are lent: to push them to a list would take their number too, and
+// a loop by it.)
 fn place_records<F: Fn(&[u8]) -> bool>(
     bytes: &[u8],
     places: &mut [usize],
@@ -368,14 +341,8 @@ fn place_records<F: Fn(&[u8]) -> bool>(
 fn counts_ok(agreement: &[u8]) -> bool
     ensures { result ≡ (eqb (kind_number agreement.now) 1 && counts_ok agreement.now) }
 {
-    if kind(agreement) != 1 {
-        return false;
-    }
-    if !between(1, MOST_PARTIES, byte(agreement, PARTIES_AT)) {
-        return false;
-    }
-    if !between(1, MOST_READINGS, byte(agreement, READINGS_AT)) {
-        return false;
-    }
-    byte(agreement, TEMPLATES_AT) <= MOST_TEMPLATES
+    kind(agreement) == 1
+        && between(1, MOST_PARTIES, byte(agreement, PARTIES_AT))
+        && between(1, MOST_READINGS, byte(agreement, READINGS_AT))
+        && byte(agreement, TEMPLATES_AT) <= MOST_TEMPLATES
 }

@@ -2,7 +2,7 @@
 use mathlib.Core.Path.{◌≡◌, refl, sym, ap, subst, ◌∙◌}
 use mathlib.Core.Bool.{Bool}
 use mathlib.Core.List.{List}
-use Prim.Native.Nat.{ℕ, ◌-◌, ◌*◌, ◌/◌, ◌≤◌, ◌<◌, min}
+use Prim.Native.Nat.{ℕ, ◌*◌, ◌/◌, ◌≤◌, ◌<◌, min}
 use native.Mathlib.Omega.{arith}
 use borrow.Author.Tests.{lt-ltb, le-ltb}
 use mir.Syntax.{w64}
@@ -14,10 +14,11 @@ use lib.Seq.{take_all}
 use Rattle.std.specs.Prelude.{Ok, Err}
 use Rattle.cells.specs.Reduce as cells
 use Rattle.cells.specs.Across.{nat_of}
+use Rattle.cells.specs.declared.Sight.{Sight}
 use Rattle.bridge.proofs.Tables.{units_in}
 use Rattle.bridge.proofs.Refusals.{answer}
 use Rattle.bridge.proofs.Entries.{kept_cells}
-use Rattle.residues.specs.Reduces.{Is, units_of, bits_in}
+use Rattle.residues.specs.Reduces.{Is, units_of}
 use Rattle.residues.specs.Tallies.{Reckons}
 use Rattle.waits.specs.Fates.{mode_at}
 use Rattle.walk.specs.Tree.{Tree, tree_reckoned}
@@ -25,8 +26,6 @@ use Rattle.settling.specs.Settles.{Settles}
 use Rattle.residues.specs.declared.Reduced.{Reduced}
 use Rattle.residues.specs.declared.Reckoned.{Reckoned}
 use Rattle.residues.specs.declared.Reduced.TheVariants.{Done, Breach, Running}
-use Rattle.residues.proofs.Few.{reduce_few, outcome_few, answer_few}
-use Rattle.walk.proofs.Trees.{tree_only}
 use Rattle.waits.specs.declared.Event.{Event}
 use Rattle.waits.specs.declared.Event.TheVariants.{Activate, Forecast, Follow}
 use Rattle.reduction.specs.Steps.{main_reckoned, UnitsDue, DueBy, Due, reckoned_by, reckoned, reduced}
@@ -41,8 +40,8 @@ unfolding nat_of
 time_cell {t = t} h = rw (to_z_pos w64 t (omega arith)) (refl, refl)
 
 -- the cells behind the head
-pub behind_head : (us : List ℤ) → take (length us - 8) (drop 8 us) ≡ drop 8 us
-behind_head us = take_all (length us - 8) (drop 8 us) (rw (length-drop 8 us) (omega arith))
+pub behind_head : (us : List ℤ) → length us ≡ 3080 → take 3072 (drop 8 us) ≡ drop 8 us
+behind_head us l = take_all 3072 (drop 8 us) (rw (length-drop 8 us, l) (omega arith))
 
 -- ---- the units that an answer counts are the residue's, up to 129
 counted : (u : ℕ) {n l : ℕ} → n ≡ min u 129 → l ≡ 24 * u → n ≡ min (l / 24) 129
@@ -51,13 +50,13 @@ counted u e f = omega arith
 pub units_counted : (out : List ℤ) (x : cells.Reduced) (r : Reduced) → Is x r out → units_of r ≡ min (units_in x) 129
 unfolding Is units_in
 units_counted out cells.done Done i = refl
-units_counted out cells.done (Breach t b) i = absurd i
+units_counted out cells.done (Breach b) i = absurd i
 units_counted out cells.done (Running n) i = absurd i
 units_counted out (cells.breach u c) Done i = absurd i
-units_counted out (cells.breach u c) (Breach t b) i = refl
+units_counted out (cells.breach u c) (Breach b) i = refl
 units_counted out (cells.breach u c) (Running n) i = absurd i
 units_counted out (cells.running cs) Done i = absurd i
-units_counted out (cells.running cs) (Breach t b) i = absurd i
+units_counted out (cells.running cs) (Breach b) i = absurd i
 units_counted out (cells.running cs) (Running n) i = counted i.units i.count i.size
 
 -- over 128 are 11, others are written
@@ -90,9 +89,9 @@ due_by Activate U f d = absurd (f refl)
 due_by Forecast U f d = d
 due_by (Follow r) U f d = d
 
-module _ {s sights : List ℕ} {us : List ℤ} {n time : ℕ} {e : Event} (d : Due s sights us n time e) where
-  pub units_due : OnUnits e → Tree (length s) sights (take (length us - 8) (drop 8 us)) n
-  units_due f = let u = due_by e (UnitsDue s sights us n e) f d.units in rw (behind_head us) u.tree
+module _ {s : List ℕ} {sights : List Sight} {us : List ℤ} {n time : ℕ} {e : Event} (d : Due s sights us n time e) where
+  pub units_due : length us ≡ 3080 → OnUnits e → Tree (length s) sights (take 3072 (drop 8 us)) n
+  units_due l f = let u = due_by e (UnitsDue s sights us n e) f d.units in rw (behind_head us l) u.tree
 
   module _ (x : Reckoned) (out : List ℤ) where
     pub reckoned_main : e ≡ Activate → Reckons (main_reckoned s) x out → Reckons (reckoned s sights us n e) x out
@@ -100,58 +99,36 @@ module _ {s sights : List ℕ} {us : List ℤ} {n time : ℕ} {e : Event} (d : D
     reckoned_main f i = subst (λ k. Reckons (reckoned_by k (main_reckoned s)
         (tree_reckoned (mode_at e) s n sights (drop 8 us))) x out) (sym f) i
 
-    pub reckoned_units : OnUnits e
-        → Reckons (tree_reckoned (mode_at e) s n sights (take (length us - 8) (drop 8 us))) x out
+    pub reckoned_units : length us ≡ 3080 → OnUnits e
+        → Reckons (tree_reckoned (mode_at e) s n sights (take 3072 (drop 8 us))) x out
         → Reckons (reckoned s sights us n e) x out
     unfolding reckoned
-    reckoned_units f i = subst (λ y. Reckons y x out)
-        (ap (tree_reckoned (mode_at e) s n sights) (behind_head us) ∙ sym (by_units e (main_reckoned s) _ f)) i
+    reckoned_units l f i = subst (λ y. Reckons y x out)
+        (ap (tree_reckoned (mode_at e) s n sights) (behind_head us l) ∙ sym (by_units e (main_reckoned s) _ f)) i
 
-  module _ (r : Reduced) (out : List ℤ) where
-    main_few : Is (main_reckoned s).outcome r out → bits_in r < 65_536
-    unfolding main_reckoned
-    main_few i = answer_few (main_reckoned s).outcome r out (reduce_few cells.activating _ _ _ _ _) i
+  module _ (r : Reduced) (out : List ℤ) (i : Is (reduced s sights us n e) r out) where
+    pub tried_none : {room : ℕ} {short : Short} → short.cost ≡ counted_cost s sights us n e
+        → short.units ≡ units_of r → room < 24 * short.units → NoRoom s sights us n e room us short
+    tried_none ec eu h = record {
+      count = eu ∙ units_counted out (reduced s sights us n e) r i;
+      costs = ec;
+      less = h;
+      kept = refl;
+    }
 
-    units_few : UnitsDue s sights us n e → Is (tree_reckoned (mode_at e) s n sights (drop 8 us)).outcome r out
-        → bits_in r < 65_536
-    units_few u i = answer_few u.given.outcome r out (outcome_few (mode_at e) s n sights (drop 8 us) u.one)
-        (subst (λ x. Is x.outcome r out) (tree_only u.one) i)
-
-    bits_few : (k : Event) → DueBy k (UnitsDue s sights us n e)
-        → Is (reckoned_by k (main_reckoned s) (tree_reckoned (mode_at e) s n sights (drop 8 us))).outcome r out
-        → bits_in r < 65_536
-    bits_few Activate u i = main_few i
-    bits_few Forecast u i = units_few u i
-    bits_few (Follow f) u i = units_few u i
-
-    module _ (i : Is (reduced s sights us n e) r out) where
-      -- what `settle` asks of the answer
-      pub reduced_few : bits_in r < 65_536
-      unfolding reckoned
-      reduced_few = bits_few e d.units i
-
-      pub tried_none : {room : ℕ} {short : Short} → short.cost ≡ counted_cost s sights us n e
-          → short.units ≡ units_of r → room < 24 * short.units → NoRoom s sights us n e room us short
-      tried_none ec eu h = record {
-        count = eu ∙ units_counted out (reduced s sights us n e) r i;
-        costs = ec;
-        less = h;
-        kept = refl;
-      }
-
-      pub tried_room : {t : ℕ} {left : List ℤ} {wrote : Wrote} → wrote.cost ≡ counted_cost s sights us n e
-          → units_of r ≤ 128 → t ≡ time → Settles t n r out us left wrote.altered
-          → Advances s sights us n time e left (Ok wrote)
-      tried_room {left = left} ec few et settles = record {
-        costs = ec;
-        is = subst (λ t. answer 0 left ≡ kept_cells t n us (reduced s sights us n e)) et
-            (kept_few r out (reduced s sights us n e) i _ n us settles few);
-        told = settles.told (reduced s sights us n e) i;
-      }
+    pub tried_room : {t : ℕ} {left : List ℤ} {wrote : Wrote} → wrote.cost ≡ counted_cost s sights us n e
+        → units_of r ≤ 128 → t ≡ time → Settles t n r out us left wrote.altered
+        → Advances s sights us n time e left (Ok wrote)
+    tried_room {left = left} ec few et settles = record {
+      costs = ec;
+      is = subst (λ t. answer 0 left ≡ kept_cells t n us (reduced s sights us n e)) et
+          (kept_few r out (reduced s sights us n e) i _ n us settles few);
+      told = settles.told (reduced s sights us n e) i;
+    }
 
 -- ---- a try that needs more units than a table has
-module _ {s sights : List ℕ} {us : List ℤ} {n : ℕ} {e : Event} {room : ℕ} {left : List ℤ} {short : Short}
-    (t : NoRoom s sights us n e room left short) where
+module _ {s : List ℕ} {sights : List Sight} {us : List ℤ} {n : ℕ} {e : Event} {room : ℕ} {left : List ℤ}
+    {short : Short} (t : NoRoom s sights us n e room left short) where
   pub tried_over : (time : ℕ) → 128 < short.units → {many : TooMany} → many.cost ≡ short.cost
       → Advances s sights us n time e left (Err many)
   tried_over time h ec = record {

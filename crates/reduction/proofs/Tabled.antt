@@ -27,11 +27,15 @@ use Rattle.soundness.proofs.RoundTrip.{units_length, len_nats, len_cells, len_ty
 use Rattle.soundness.proofs.Runs.{Since, cells_len, is_fair, run_at}
 use Rattle.soundness.proofs.Moved.{units_behind, with_zeros}
 use Rattle.soundness.proofs.ReadBack.{run_of_good, table_back}
+use Rattle.laws.specs.Joins.{join_of}
 use Rattle.cells.specs.Across.{nat_of}
+use Rattle.cells.specs.Sights.{flat, join_as, sights_in}
+use Rattle.cells.specs.declared.Sight.{Sight as Seen}
+use Rattle.cells.specs.declared.Sight.TheVariants.{Joins}
+use Rattle.cells.proofs.Sights.{flat-append}
 use Rattle.places.proofs.Found.{found_is}
 use Rattle.bridge.proofs.Across.{FoundIs, sight_at, sights_of}
-use Rattle.walk.specs.Tree.{Waiting, TreeOf, Tree}
-use Rattle.units.specs.Units.{sight_numbers}
+use Rattle.walk.specs.Tree.{Waiting, Joining, TreeOf, Tree}
 
 -- ---- the place of a clause that is found lies within the agreement
 no_clause_lem : (s : List ℕ) (p : ℕ) → T (whole (clause (heads_of s) 23 p [])) → ⊥
@@ -49,6 +53,17 @@ place_within s p c e t = go (leb p (length s)) refl
         let t' : T (whole (clause (heads_of s) 23 p (take (record_end s p - p) (drop p s)))) = rw e at t in
         let t'' : T (whole (clause (heads_of s) 23 p (take 0 (drop p s)))) = rw z at t' in
         absurd (no_clause_lem s p t'')
+
+-- a sight for each unit
+sights_count : (res : Residue) → length (sights_in res) ≡ units res
+unfolding sights_in units
+sights_count (unit k p a e) = refl
+sights_count (both j l r) = omega (
+  arith,
+  length-append (sights_in l) (sights_in r),
+  sights_count l,
+  sights_count r,
+)
 
 few_cells : (xs : List ℤ) → length (padded 16 xs) ≡ 16 → length xs ≤ 16
 unfolding padded
@@ -79,103 +94,85 @@ module _ (s mains : List ℕ) (ck : checked s ≡ accepted (agreement_of s) main
           length-append (padded 5 (nat_cells e.params)) (padded 16 (cells_of e.values)),
         ))
 
-    unit_waits : (k : Sort) (p a : ℕ) (e : Sight) (ps : List ℕ) (ok : OkUnit ag (Since ag now) k p a e ps)
-        → Waiting (length s) ok.found.params (length ok.found.sight) (cells_of_unit k p a e)
-    unfolding cells_of_unit nat_of
-    unit_waits k p a e ps ok =
-        let f = found_is s p ok.found formed ok.is_at in
-        record {
-          few_params = ok.sight.few_params;
-          few_values = omega (
-            arith,
-            few_values_lem k p a e ps ok,
-            len_cells e.values,
-            len_typed ag.parties ok.found.sight e.values ok.sight.values,
-          );
-          place = refl;
-          bounded = place_within s p ok.found.clause f.0 f.1;
-          since = refl;
-          dated = omega (arith, ok.when.1);
-        }
-
     sort_waits : (k : Sort) → ltb (sort_number k) 20 ≡ true
     unfolding sort_number
     sort_waits an_obligation = refl
     sort_waits a_choice = refl
 
-    join_waits : (j : Join) → ltb (join_number j) 20 ≡ false
-    unfolding join_number
-    join_waits and = refl
-    join_waits or = refl
+    unit_waits : (k : Sort) (p a : ℕ) (e : Sight) (ps : List ℕ) → OkUnit ag (Since ag now) k p a e ps
+        → Waiting (length s) (length e.params) (length e.values) (cells_of_unit k p a e)
+    unfolding cells_of_unit nat_of
+    unit_waits k p a e ps ok =
+        let f = found_is s p ok.found formed ok.is_at in
+        record {
+          sort = sort_waits k;
+          few_params = omega (arith, ok.sight.count, ok.sight.few_params);
+          few_values = omega (arith, few_values_lem k p a e ps ok, len_cells e.values);
+          bounded = place_within s p ok.found.clause f.0 f.1;
+          dated = omega (arith, ok.when.1);
+        }
 
-    unit_tree : (k : Sort) (p a : ℕ) (e : Sight) (ps sights : List ℕ) (rest : List ℤ)
-        (ok : OkUnit ag (Since ag now) k p a e ps)
-        → TreeOf (length s) (unit k p a e) (ok.found.params ∷ length ok.found.sight ∷ sights)
-        (cells_of_unit k p a e ++ rest)
-    unfolding TreeOf cells_of_unit nat_of
-    unit_tree k p a e ps sights rest ok =
+    unit_tree : (k : Sort) (p a : ℕ) (e : Sight) (ps : List ℕ) (more : List Seen) (rest : List ℤ)
+        → OkUnit ag (Since ag now) k p a e ps
+        → TreeOf (length s) (unit k p a e) (sights_in (unit k p a e) ++ more) (cells_of_unit k p a e ++ rest)
+    unfolding TreeOf sights_in
+    unit_tree k p a e ps more rest ok =
         let l = units_length ag (Since ag now) k p a e ps ok in (
           omega (arith, length-append (cells_of_unit k p a e) rest, l),
-          omega arith,
-          sort_waits k,
           rw (take_at (cells_of_unit k p a e) rest 24 l) (unit_waits k p a e ps ok),
         )
 
-    sights_length_lem : (res : Residue) (ps : List ℕ) → Ok ag (Since ag now) res ps
-        → length (sights_of ag res) ≡ 2 * units res
-    unfolding Ok units sights_of sight_at
-    sights_length_lem (unit k p a e) ps ok = rw ok.is_at refl
-    sights_length_lem (both j l r) ps ok = omega (
-      arith,
-      length-append (sights_of ag l) (sights_of ag r),
-      sights_length_lem l ok.0 ok.2,
-      sights_length_lem r ok.1 ok.3,
-    )
+    join_seen : (j : Join) → Joining (join_as j) (join_cells j)
+    unfolding join_cells padded nat_of join_number join_of join_as
+    join_seen and = record { sort = refl; is = refl }
+    join_seen or = record { sort = refl; is = refl }
 
-    join_tree : (j : Join) (l r : Residue) (more : List ℕ) (rest : List ℤ) → TreeOf (length s) l more rest
-        → TreeOf (length s) r (drop (2 * units l) more) (drop (24 * units l) rest)
-        → TreeOf (length s) (both j l r) (units l ∷ 0 ∷ more) (join_cells j ++ rest)
-    unfolding TreeOf join_cells padded nat_of
+    join_tree : (j : Join) (l r : Residue) (more : List Seen) (rest : List ℤ) → TreeOf (length s) l more rest
+        → TreeOf (length s) r (drop (units l) more) (drop (24 * units l) rest)
+        → TreeOf (length s) (both j l r) (Joins (join_as j) (units l) ∷ more) (join_cells j ++ rest)
+    unfolding TreeOf
     join_tree j l r more rest t v =
-        let a = drop-drop (2 * units l) 2 (units l ∷ 0 ∷ more) in
-        let b = drop-drop (24 * units l) 24 (join_cells j ++ rest) in (
-          omega (arith, length-append (join_cells j) rest, length_join j),
-          omega arith,
-          join_waits j,
+        let size = length_join j in
+        let behind = drop_at (join_cells j) rest 24 size in (
+          omega (arith, length-append (join_cells j) rest, size),
+          rw (take_at (join_cells j) rest 24 size) (join_seen j),
           refl,
-          t,
-          rw (← a, ← b) v,
+          rw behind t,
+          rw (sym (drop-drop (24 * units l) 24 (join_cells j ++ rest)), behind) v,
         )
 
-    residue_tree : (res : Residue) (ps sights : List ℕ) (rest : List ℤ) → Ok ag (Since ag now) res ps
-        → TreeOf (length s) res (sights_of ag res ++ sights) (residue_cells res ++ rest)
-    unfolding Ok sights_of residue_cells sight_at
-    residue_tree (unit k p a e) ps sights rest ok = rw ok.is_at (unit_tree k p a e ps sights rest ok)
-    residue_tree (both j l r) ps sights rest ok =
-        let left = residue_tree l ok.0 (sights_of ag r ++ sights) (residue_cells r ++ rest) ok.2 in
-        let right = residue_tree r ok.1 sights rest ok.3 in
+    residue_tree : (res : Residue) (ps : List ℕ) (more : List Seen) (rest : List ℤ) → Ok ag (Since ag now) res ps
+        → TreeOf (length s) res (sights_in res ++ more) (residue_cells res ++ rest)
+    unfolding Ok sights_in residue_cells
+    residue_tree (unit k p a e) ps more rest ok = unit_tree k p a e ps more rest ok
+    residue_tree (both j l r) ps more rest ok =
+        let left = residue_tree l ok.0 (sights_in r ++ more) (residue_cells r ++ rest) ok.2 in
+        let right = residue_tree r ok.1 more rest ok.3 in
         rw (
-          append_assoc (sights_of ag l) (sights_of ag r) sights,
+          append_assoc (sights_in l) (sights_in r) more,
           append_assoc (join_cells j) (residue_cells l ++ residue_cells r) rest,
           append_assoc (residue_cells l) (residue_cells r) rest,
         )
-        (join_tree j l r (sights_of ag l ++ (sights_of ag r ++ sights)) (residue_cells l ++ (residue_cells r ++ rest))
-        left
+        (join_tree j l r (sights_in l ++ (sights_in r ++ more)) (residue_cells l ++ (residue_cells r ++ rest)) left
         (rw (
-          drop_at (sights_of ag l) (sights_of ag r ++ sights) (2 * units l) (sights_length_lem l ok.0 ok.2),
+          drop_at (sights_in l) (sights_in r ++ more) (units l) (sights_count l),
           drop_at (residue_cells l) (residue_cells r ++ rest) (24 * units l)
               (cells_len ag (Since ag now) l ok.0 ok.2),
         ) right))
 
     -- the two numbers of each unit, as the residue has them
-    sights_same : (res : Residue) (ps : List ℕ) → Ok ag (Since ag now) res ps → sight_numbers res ≡ sights_of ag res
-    unfolding Ok sights_of sight_at sight_numbers
+    sights_same : (res : Residue) (ps : List ℕ) → Ok ag (Since ag now) res ps → flat (sights_in res) ≡ sights_of ag res
+    unfolding Ok sights_of sight_at sights_in flat
     sights_same (unit k p a e) ps ok = rw (
       ok.is_at,
       ok.sight.count,
       len_typed ag.parties ok.found.sight e.values ok.sight.values,
     ) refl
-    sights_same (both j l r) ps ok = rw (sights_same l ok.0 ok.2, sights_same r ok.1 ok.3) refl
+    sights_same (both j l r) ps ok = rw (
+      flat-append (sights_in l) (sights_in r),
+      sights_same l ok.0 ok.2,
+      sights_same r ok.1 ok.3,
+    ) refl
 
   -- ---- a table that shows a running run
   module _ (now m : ℕ) (res : Residue) (us : List ℤ) (l : length us ≡ 3080)
@@ -183,14 +180,17 @@ module _ (s mains : List ℕ) (ck : checked s ≡ accepted (agreement_of s) main
     units_there : drop 8 us ≡ with_zeros (residue_cells res)
     units_there = ap (drop 8) (sym (table_back ag mains us (run_at now m (running res)) is l)) ∙ units_behind now m res
 
-    module _ (sights : List ℕ) (taken : take (2 * units res) sights ≡ sight_numbers res) where
-      pub sighted : sights ≡ sights_of ag res ++ drop (2 * units res) sights
+    module _ (sights : List Seen) (taken : take (units res) sights ≡ sights_in res) where
+      sighted : sights ≡ sights_in res ++ drop (units res) sights
+      sighted = sym (take-append-drop (units res) sights) ∙ ap (λ x. x ++ drop (units res) sights) taken
+
+      pub flat_sighted : flat sights ≡ sights_of ag res ++ flat (drop (units res) sights)
       unfolding Good
-      sighted =
+      flat_sighted =
           let inv = run_of_good ag mains us (run_at now m (running res)) (is_fair s ag mains ck) is in
-          sym (take-append-drop (2 * units res) sights)
-          ∙ ap (λ x. x ++ drop (2 * units res) sights)
-          (taken ∙ sights_same now inv.fits res inv.good.0 inv.good.1)
+          let more = drop (units res) sights in
+          ap flat sighted ∙ flat-append (sights_in res) more
+          ∙ ap (λ x. x ++ flat more) (sights_same now inv.fits res inv.good.0 inv.good.1)
 
       pub has_tree : Tree (length s) sights (drop 8 us) (units res)
       unfolding Good needed
@@ -202,5 +202,5 @@ module _ (s mains : List ℕ) (ck : checked s ≡ accepted (agreement_of s) main
             few = inv.small;
             stands = subst (TreeOf (length s) res sights) (sym units_there)
                 (subst (λ q. TreeOf (length s) res q (with_zeros (residue_cells res))) (sym sighted)
-                (residue_tree now inv.fits res inv.good.0 (drop (2 * units res) sights) _ inv.good.1));
+                (residue_tree now inv.fits res inv.good.0 (drop (units res) sights) _ inv.good.1));
           }

@@ -1,11 +1,12 @@
 -- A step by the rules on cells: what it asks, and what it makes of the main clause or of a table's units.
 use Rattle.std.specs.Prelude.{◌≡◌, Bool, List, [], ◌∷◌, ℕ, ◌*◌, ◌≤◌, ◌<◌, min, ℤ, length, drop, Result, Ok, Err}
 use Rattle.csl.specs.Decode.{agreement_of, main_of}
-use Rattle.csl.specs.Table.{table_length}
 use Rattle.csl.specs.Entries.{Answer}
 use Rattle.csl.specs.Cost.{total}
 use Rattle.cells.specs.Reduce as cells
 use Rattle.cells.specs.Across.{across}
+use Rattle.cells.specs.Sights.{flat}
+use Rattle.cells.specs.declared.Sight.{Sight}
 use Rattle.cells.specs.Tables.{alters}
 use Rattle.bridge.proofs.Tables.{units_in}
 use Rattle.bridge.proofs.Entries.{kept_cells}
@@ -27,20 +28,19 @@ unfoldable pub main_reckoned : List ℕ → cells.Reckoned
 main_reckoned s = cells.reduce cells.activating (agreement_of s).templates (main_of s) [] [] (agreement_of s).start
 
 -- n units of a table with what is in sight at them, and that an event makes one outcome of them
-pub record UnitsDue (s sights : List ℕ) (us : List ℤ) (n : ℕ) (e : Event) : Type 0 where
+pub record UnitsDue (s : List ℕ) (sights : List Sight) (us : List ℤ) (n : ℕ) (e : Event) : Type 0 where
   pub tree : Tree (length s) sights (drop 8 us) n
   pub given : cells.Reckoned
-  pub one : across (mode_at e) s n sights (drop 8 us) ≡ given ∷ []
+  pub one : across (mode_at e) s n (flat sights) (drop 8 us) ≡ given ∷ []
 
 abbrev pub DueBy : Event → Type 0 → Type 0
 DueBy Activate units = Unit {0}
 DueBy Forecast units = units
 DueBy (Follow r) units = units
 
--- what is asked for an event at a time: at the start nothing but the agreement and a table, else the units
-pub record Due (s sights : List ℕ) (us : List ℤ) (n time : ℕ) (e : Event) : Type 0 where
+-- what is asked for an event at a time: at the start nothing but the agreement, else the units
+pub record Due (s : List ℕ) (sights : List Sight) (us : List ℤ) (n time : ℕ) (e : Event) : Type 0 where
   pub short : length s ≤ 16_384
-  pub is_table : length us ≡ table_length
   pub held : n ≤ 128
   pub soon : time < 4_294_967_296
   pub units : DueBy e (UnitsDue s sights us n e)
@@ -51,14 +51,14 @@ reckoned_by Forecast main units = units
 reckoned_by (Follow r) main units = units
 
 -- what an event makes of the main clause, or of n units
-unfoldable pub reckoned : List ℕ → List ℕ → List ℤ → ℕ → Event → cells.Reckoned
+unfoldable pub reckoned : List ℕ → List Sight → List ℤ → ℕ → Event → cells.Reckoned
 reckoned s sights us n e = reckoned_by e (main_reckoned s) (tree_reckoned (mode_at e) s n sights (drop 8 us))
 
-abbrev pub reduced : List ℕ → List ℕ → List ℤ → ℕ → Event → cells.Reduced
+abbrev pub reduced : List ℕ → List Sight → List ℤ → ℕ → Event → cells.Reduced
 reduced s sights us n e = (reckoned s sights us n e).outcome
 
 -- what it costs, as the code counts it
-abbrev pub counted_cost : List ℕ → List ℕ → List ℤ → ℕ → Event → ℕ
+abbrev pub counted_cost : List ℕ → List Sight → List ℤ → ℕ → Event → ℕ
 counted_cost s sights us n e = min (total (reckoned s sights us n e).tally) most_counted
 
 -- "over 128 units it is 11 and nothing changes, otherwise 0"
@@ -76,21 +76,21 @@ cost_in (Err many) = many.cost
 cost_in (Ok wrote) = wrote.cost
 
 -- where an event leads, in a table that is dated by the time
-pub record Advances (s sights : List ℕ) (us : List ℤ) (n time : ℕ) (e : Event) (left : List ℤ)
+pub record Advances (s : List ℕ) (sights : List Sight) (us : List ℤ) (n time : ℕ) (e : Event) (left : List ℤ)
     (r : Result Wrote TooMany) : Type 0 where
   pub is : advanced r left ≡ kept_cells time n us (reduced s sights us n e)
   pub told : SaysAltered r (alters n us (reduced s sights us n e))
   pub costs : cost_in r ≡ counted_cost s sights us n e
 
 -- what comes of it needs so many units, counted up to 129, for which there are not as many cells as `room`
-pub record NoRoom (s sights : List ℕ) (us : List ℤ) (n : ℕ) (e : Event) (room : ℕ) (left : List ℤ) (short : Short)
-    : Type 0 where
+pub record NoRoom (s : List ℕ) (sights : List Sight) (us : List ℤ) (n : ℕ) (e : Event) (room : ℕ) (left : List ℤ)
+    (short : Short) : Type 0 where
   pub count : short.units ≡ min (units_in (reduced s sights us n e)) 129
   pub costs : short.cost ≡ counted_cost s sights us n e
   pub less : room < 24 * short.units
   pub kept : left ≡ us
 
 -- what a try in so many cells comes to
-abbrev pub Tried : List ℕ → List ℕ → List ℤ → ℕ → ℕ → Event → ℕ → List ℤ → Result Wrote Short → Type 0
+abbrev pub Tried : List ℕ → List Sight → List ℤ → ℕ → ℕ → Event → ℕ → List ℤ → Result Wrote Short → Type 0
 Tried s sights us n time e room left (Err short) = NoRoom s sights us n e room left short
 Tried s sights us n time e room left (Ok wrote) = Advances s sights us n time e left (Ok wrote)

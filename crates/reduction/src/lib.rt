@@ -1,12 +1,12 @@
 // A step by the rules: what an event makes of the main clause or of a table's units, written where a table holds it.
 #![tactic(auto)]
 
-ghost use Rattle.std.specs.Prelude.{ℕ, ◌≤◌, length};
+ghost use Rattle.std.specs.Prelude.{ℕ, ◌≡◌, ◌≤◌, length};
 ghost use Rattle.residues.specs.Tallies.{Reckons};
 ghost use Rattle.reduction.specs.Steps.{room_length, main_reckoned, Due, reckoned, Advances, Tried};
 
-use activation::{Clause, Site, activate};
-use cells::{HEAD_CELLS, MOST_UNITS, UNIT_CELLS};
+use activation::{Clause, Placed, Site, activate};
+use cells::{HEAD_CELLS, MOST_UNITS, Sight, TABLE_CELLS, UNIT_CELLS};
 use records::{Agreement, MAIN_DEPTH};
 use residues::{Reckoned, units_of};
 use settling::settle;
@@ -42,6 +42,15 @@ pub struct TooMany {
     pub cost: usize,
 }
 
+// What is tried in too little room and not tried anew.
+impl From<Short> for TooMany {
+    ghost from_gives = { λ short many. many ≡ record { cost = short.cost } };
+
+    fn from(short: Short) -> TooMany {
+        TooMany { cost: short.cost }
+    }
+}
+
 // The main clause activated at the start time; a residue grows downward from the end of out.
 fn activate_main(agreement: &Agreement<'_>, out: &mut [i64]) -> Reckoned
     requires { (length agreement.now ≤ 16_384) × (length out.old ≤ room_length) }
@@ -60,14 +69,15 @@ fn activate_main(agreement: &Agreement<'_>, out: &mut [i64]) -> Reckoned
         params: &[],
         values: &[],
     };
-    activate(Event::Activate, &clause, out)
+    let placed = Placed { clause };
+    activate(Event::Activate, &placed, out)
 }
 
 // What an event makes of the main clause, at the start, or of a table's units; a residue stands at the end of out.
 fn reduce(
     agreement: &Agreement<'_>,
-    sights: &[usize],
-    table: &[i64],
+    sights: &[Sight],
+    table: &[i64; TABLE_CELLS],
     used: usize,
     event: Event<'_>,
     out: &mut [i64],
@@ -89,8 +99,8 @@ fn reduce(
 // The table is written where the residue's units have room in ROOM cells.
 fn advance_in<const ROOM: usize>(
     agreement: &Agreement<'_>,
-    sights: &[usize],
-    table: &mut [i64],
+    sights: &[Sight],
+    table: &mut [i64; TABLE_CELLS],
     used: usize,
     time: usize,
     event: Event<'_>,
@@ -101,20 +111,19 @@ fn advance_in<const ROOM: usize>(
     let mut out = [0i64; ROOM];
     let x = reduce(agreement, sights, table, used, event, &mut out);
     let cost = x.tally.total();
-    let r = x.outcome;
-    let units = units_of(r);
+    let units = units_of(x.outcome);
     if UNIT_CELLS * units > ROOM {
         return Err(Short { units, cost });
     }
-    let altered = settle(table, used, time as i64, r, &out);
+    let altered = settle(table, used, time as i64, x.outcome, &out);
     Ok(Wrote { altered, cost })
 }
 
 // The table that an event leads to is written, and dated by the time, where it has few enough units.
 pub fn advance(
     agreement: &Agreement<'_>,
-    sights: &[usize],
-    table: &mut [i64],
+    sights: &[Sight],
+    table: &mut [i64; TABLE_CELLS],
     used: usize,
     time: usize,
     event: Event<'_>,
@@ -125,15 +134,9 @@ pub fn advance(
     if used <= FEW_UNITS {
         match advance_in::<FEW_ROOM>(agreement, sights, table, used, time, event) {
             Ok(wrote) => return Ok(wrote),
-            Err(Short { units, cost }) => {
-                if units > MOST_UNITS {
-                    return Err(TooMany { cost });
-                }
-            }
+            Err(short) if short.units > MOST_UNITS => return Err(short.into()),
+            Err(_) => {}
         }
     }
-    match advance_in::<ROOM>(agreement, sights, table, used, time, event) {
-        Ok(wrote) => Ok(wrote),
-        Err(Short { units: _, cost }) => Err(TooMany { cost }),
-    }
+    Ok(advance_in::<ROOM>(agreement, sights, table, used, time, event)?)
 }

@@ -1,4 +1,4 @@
--- Paper 02, No. 4: what the members of a party set are counted by, and what a call of `parties::member_count` gives.
+-- Paper 02, No. 4: what the members of a party set are counted by, and what a call of `parties::PartySet::count` gives.
 use mathlib.Core.List.{List}
 use mathlib.Core.Logic.{◌⊎◌}
 use mathlib.Core.Path.{◌≡◌}
@@ -11,8 +11,8 @@ use denote.Triple.Clauses.{AtExit}
 use Rattle.csl.specs.Parties.{member, member_count, bits_from, bits_of}
 use Rattle.parties.specs.Masks.{mask_of}
 use Rattle.parties.proofs.Counts.{counts}
-use Rattle.parties.proofs.member_count.Kinds as member-count-kinds
-use Rattle.parties.proofs.member_count.Reads as member-count
+use Rattle.parties.proofs.set.PartySet.count.Kinds as count-kinds
+use Rattle.parties.proofs.set.PartySet.count.Reads as count
 
 -- every member is a party or a party parameter
 abbrev Members : List ℕ → Type 0
@@ -28,9 +28,9 @@ unfolding mask_of bits_of
 counted ps v = counts.counted ps (record { each = v })
 
 -- what a call gives is that count
-calls : (κs : Lfts 0) (given : Dens {n = 0} κs member-count-kinds.ps) (r : ℕ)
-    (left : AtExit (ended_of 0 member-count-kinds.ps member-count-kinds.r) κs)
-    → member-count.Post κs given r left
+calls : (κs : Lfts 0) (given : Dens {n = 0} κs count-kinds.ps) (r : ℕ)
+    (left : AtExit (ended_of 0 count-kinds.ps count-kinds.r) κs)
+    → count.Post κs given r left
     → (r ≡ ones given.0) × ((ps : List ℕ) → Members ps → given.0 ≡ bits ps → r ≡ member_count ps)
 unfolding mask_of bits_of
 calls κs given r left meets = (meets.0, λ ps v e. meets.1 ps (record { each = v }) e)

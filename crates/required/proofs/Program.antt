@@ -6,25 +6,24 @@ use mathlib.Core.List.{List, [], ◌∷◌, ◌++◌, map}
 use mathlib.Core.Option.{some}
 use Prim.Native.Nat.{ℕ}
 use lib.IntN.{ℤ}
-use lib.ListN.{length, take}
+use lib.ListN.{length}
 use Rattle.csl.specs.Syntax.{Agreement}
 use Rattle.csl.specs.Table.{Run, run_of, table_of}
 use Rattle.soundness.proofs.Walks.{Fair}
 use Rattle.soundness.proofs.Runs.{Inv}
 use Rattle.soundness.proofs.ReadBack.{well_typed}
 use Rattle.stream.specs.Records.{records_of}
-use Rattle.telling.specs.declared.Told.{Told}
 use Rattle.watch.specs.Steps.{Comes}
 use Rattle.watch.specs.Watched.{watched, zeros}
 use Rattle.watch.proofs.Session.{BeginCall, Session, watched_is}
 use Rattle.watch.specs.Trials.{trials, trials_pass}
 
 -- the start's line and then, call by call, all that is put: the bytes that are defined for the input, however it came
-lines_are : (whole s : List ℕ) (cells₂ : List ℤ) (out₂ : List ℕ) (t : Told) (input : List ℕ) (ended : Bool)
+lines_are : (whole s : List ℕ) (cells₂ : List ℤ) (page : List ℕ) (go : Bool) (input : List ℕ) (ended : Bool)
     (more w : List ℕ)
-    → records_of whole ≡ s ∷ records_of (input ++ more) → BeginCall s zeros cells₂ out₂ t → Comes ended more
-    → (t.go ≡ true → Session s cells₂ 1 input ended more w) → (t.go ≡ false → w ≡ [])
-    → take t.at out₂ ++ w ≡ watched whole
+    → records_of whole ≡ s ∷ records_of (input ++ more) → BeginCall s zeros cells₂ page go → Comes ended more
+    → (go ≡ true → Session s cells₂ 1 input ended more w) → (go ≡ false → w ≡ [])
+    → page ++ w ≡ watched whole
 lines_are = watched_is
 
 -- the paper's transcript and more, byte for byte

@@ -1,4 +1,3 @@
 pub mod Cells
 pub mod Reduces
-pub mod Few
 pub mod Counts

@@ -1,22 +1,15 @@
 -- Laws of answers: a residue at the end of `out`, and the two sides of a join.
 use mathlib.Core.Path.{◌≡◌, refl, sym, ap, ap₂, ◌∙◌}
-use mathlib.Core.Bool.{Bool, true, false, cond}
 use mathlib.Core.List.{List, [], ◌∷◌, ◌++◌}
-use Prim.Native.Nat.{ℕ, ◌+◌, ◌-◌, ◌*◌, ◌^◌, ◌≤◌, ◌<◌, min}
+use Prim.Native.Nat.{ℕ, ◌+◌, ◌-◌, ◌*◌, ◌≤◌, ◌<◌, min}
 use native.Mathlib.Omega.{arith}
-use lib.IntN.{ℤ, pos}
-use lib.Bits.{bit_or}
-use lib.Signed.{lt_z, mag}
+use lib.IntN.{ℤ}
 use lib.ListN.{length, take, drop, length-append, length-take, length-drop, take-append-drop}
 use lib.Seq.{drop_at, take-length, length-take-le, drop-append-le}
 use borrow.Rule.Slice.PartMut.{put_mid}
-use Rattle.std.specs.Ordering.{MatchOrdering}
-use Rattle.std.specs.declared.cmp.Ordering.{Ordering}
-use Rattle.std.specs.declared.cmp.Ordering.TheVariants.{Less, Equal, Greater}
 use mir.Syntax.{w64}
-use mir.Val.{SFits, to_z}
+use mir.Val.{to_z}
 use Rattle.laws.proofs.Cells.{length_join}
-use Rattle.arith.proofs.Ints.{seen, read, read! }
 use Rattle.arith.proofs.Lists.{part_put, tail_put}
 use Rattle.csl.specs.Syntax.{and, or}
 use Rattle.csl.specs.Syntax as syntax
@@ -28,6 +21,7 @@ use Rattle.csl.specs.Table as csl
 use Rattle.cells.specs.Reduce.{unit_of}
 use Rattle.cells.specs.Reduce as cells
 use Rattle.residues.specs.Reduces.{Stands, Is, room_left, JoinIs, BreachIs}
+use Rattle.parties.specs.declared.breach.Breach.{Breach as Broken}
 use Rattle.residues.specs.declared.Reduced.{Reduced}
 use Rattle.residues.specs.declared.Reduced.TheVariants.{Done, Breach, Running}
 use Rattle.residues.proofs.Cells.{unit_length}
@@ -65,12 +59,11 @@ module _ (o : List ℤ) where
   is_done (cells.breach u c) h = absurd h
   is_done (cells.running cs) h = absurd h
 
-  pub is_breach : (x : cells.Reduced) {t : ℤ} {b : ℕ} → Is x (Breach t b) o → (u : ℕ) × (x ≡ cells.breach u b)
-      × (t ≡ pos u)
+  pub is_breach : (x : cells.Reduced) (b : Broken) → Is x (Breach b) o → x ≡ cells.breach b.time b.parties
   unfolding Is
-  is_breach cells.done h = absurd h
-  is_breach (cells.breach u c) h = (u, ap (cells.breach u) (sym h.1), h.0)
-  is_breach (cells.running cs) h = absurd h
+  is_breach cells.done b h = absurd h
+  is_breach (cells.breach u c) b h = ap₂ cells.breach (sym h.0) (sym h.1)
+  is_breach (cells.running cs) b h = absurd h
 
   pub is_running : (x : cells.Reduced) {n : ℕ} → Is x (Running n) o → (cs : List ℤ) × (x ≡ cells.running cs)
       × Stands cs n o
@@ -78,43 +71,6 @@ module _ (o : List ℤ) where
   is_running cells.done h = absurd h
   is_running (cells.breach u c) h = absurd h
   is_running (cells.running cs) h = (cs, refl, h)
-
--- ---- two breaches
--- what the order of two times says of its two tests
-pub ordered : (a b : Bool) {o : Ordering} → o ≡ cond a Less (cond b Greater Equal)
-    → MatchOrdering o (a ≡ true) ((a ≡ false) × (b ≡ false)) ((a ≡ false) × (b ≡ true))
-ordered true b e = rw e refl
-ordered false true e = rw e (refl, refl)
-ordered false false e = rw e (refl, refl)
-
-module _ {t u : ℤ} (b c : ℕ) (p : SFits w64 t) (q : SFits w64 u) where
-  pub earlier_left : lt_z (seen t) (seen u) ≡ true → BreachIs cells.earlier t b u c (Breach (seen t) b)
-  unfolding Is cells.earlier
-  earlier_left h = record { is = λ x y e f o. rw (rw (read p, read q, e, f) at h) (read p ∙ e, refl) }
-
-  pub earlier_right : lt_z (seen t) (seen u) ≡ false → lt_z (seen u) (seen t) ≡ true
-      → BreachIs cells.earlier t b u c (Breach (seen u) c)
-  unfolding Is cells.earlier
-  earlier_right h k = record {
-    is = λ x y e f o. rw (rw (read p, read q, e, f) at h, rw (read p, read q, e, f) at k)
-        (read q ∙ f, refl);
-  }
-
-  pub earlier_both : lt_z (seen t) (seen u) ≡ false → lt_z (seen u) (seen t) ≡ false
-      → BreachIs cells.earlier t b u c (Breach (seen t) (bit_or b c))
-  unfolding Is cells.earlier
-  earlier_both h k = record {
-    is = λ x y e f o. rw (rw (read p, read q, e, f) at h, rw (read p, read q, e, f) at k)
-        (read p ∙ e, refl);
-  }
-
-  pub later_right : lt_z (seen t) (seen u) ≡ true → BreachIs cells.later t b u c (Breach (seen u) c)
-  unfolding Is cells.later
-  later_right h = record { is = λ x y e f o. rw (rw (read p, read q, e, f) at h) (read q ∙ f, refl) }
-
-  pub later_left : lt_z (seen t) (seen u) ≡ false → BreachIs cells.later t b u c (Breach (seen t) b)
-  unfolding Is cells.later
-  later_left h = record { is = λ x y e f o. rw (rw (read p, read q, e, f) at h) (read p ∙ e, refl) }
 
 -- ---- two residues
 module _ (n m : ℕ) (o : List ℤ) (hn : n ≤ 129) (hm : m ≤ 129) (few : length o ≤ 3072) (ls rs : List ℤ)
@@ -270,57 +226,63 @@ module _ {l r : Reduced} (o : List ℤ) where
   unfolding Is cells.joined cells.join_either
   either_beside_done e = record { is = λ x y s. rw (is_done o y (rw e at s.of_right), either_done_right x) tt }
 
-  module _ {t : ℤ} {b : ℕ} (e : l ≡ Breach t b) where
+  module _ {b : Broken} (e : l ≡ Breach b) where
     pub both_breach_running : {m : ℕ} → r ≡ Running m → JoinIs and l r o l o
     unfolding Is cells.joined cells.join_both
     both_breach_running f = record {
-      is = λ x y s. let p = is_breach (take (room_left r (length o)) o) x
-          (rw e at s.of_left) in rw (p.1, (is_running o y (rw f at s.of_right)).1, e) (p.2, refl);
+      is = λ x y s. rw (
+        is_breach (take (room_left r (length o)) o) x _ (rw e at s.of_left),
+        (is_running o y (rw f at s.of_right)).1,
+        e,
+      ) (refl, refl);
     }
 
-    pub both_breaches : {u : ℤ} {c : ℕ} → r ≡ Breach u c → mag t < 2 ^ 63 → mag u < 2 ^ 63 → {a : Reduced}
-        → BreachIs cells.earlier (seen t) b (seen u) c a → JoinIs and l r o a o
-    unfolding cells.joined cells.join_both
-    both_breaches f ht hu g = record {
-      is = λ x y s. let p = is_breach (take (room_left r (length o)) o) x
-          (rw e at s.of_left) in let q = is_breach o y (rw f at s.of_right) in
-          rw (p.1, q.1) (g.is p.0 q.0 (read! ht ∙ p.2) (read! hu ∙ q.2) o);
+    pub both_breaches : {c a : Broken} → r ≡ Breach c → BreachIs cells.earlier b c a → JoinIs and l r o (Breach a) o
+    unfolding Is cells.joined cells.join_both
+    both_breaches f g = record {
+      is = λ x y s. rw (
+        is_breach (take (room_left r (length o)) o) x _ (rw e at s.of_left),
+        is_breach o y _ (rw f at s.of_right),
+        g,
+      ) (refl, refl);
     }
 
     pub either_breach_running : {m : ℕ} → r ≡ Running m → JoinIs or l r o r o
     unfolding cells.joined cells.join_either
     either_breach_running f = record {
-      is = λ x y s. let p = is_breach (take (room_left r (length o)) o) x
-          (rw e at s.of_left) in let q = is_running o y (rw f at s.of_right) in
-          rw (p.1, q.1) (rw q.1 at s.of_right);
+      is = λ x y s.
+          let p = is_breach (take (room_left r (length o)) o) x _ (rw e at s.of_left) in
+          let q = is_running o y (rw f at s.of_right) in
+          rw (p, q.1) (rw q.1 at s.of_right);
     }
 
-    pub either_breaches : {u : ℤ} {c : ℕ} → r ≡ Breach u c → mag t < 2 ^ 63 → mag u < 2 ^ 63 → {a : Reduced}
-        → BreachIs cells.later (seen t) b (seen u) c a → JoinIs or l r o a o
-    unfolding cells.joined cells.join_either
-    either_breaches f ht hu g = record {
-      is = λ x y s. let p = is_breach (take (room_left r (length o)) o) x
-          (rw e at s.of_left) in let q = is_breach o y (rw f at s.of_right) in
-          rw (p.1, q.1) (g.is p.0 q.0 (read! ht ∙ p.2) (read! hu ∙ q.2) o);
+    pub either_breaches : {c a : Broken} → r ≡ Breach c → BreachIs cells.later b c a → JoinIs or l r o (Breach a) o
+    unfolding Is cells.joined cells.join_either
+    either_breaches f g = record {
+      is = λ x y s. rw (
+        is_breach (take (room_left r (length o)) o) x _ (rw e at s.of_left),
+        is_breach o y _ (rw f at s.of_right),
+        g,
+      ) (refl, refl);
     }
 
   module _ {n : ℕ} (e : l ≡ Running n) where
-    pub both_running_breach : {u : ℤ} {c : ℕ} → r ≡ Breach u c → JoinIs and l r o r o
+    pub both_running_breach : {c : Broken} → r ≡ Breach c → JoinIs and l r o r o
     unfolding cells.joined cells.join_both
     both_running_breach f = record {
       is = λ x y s.
           let p = is_running (take (room_left r (length o)) o) x (rw e at s.of_left) in
-          let q = is_breach o y (rw f at s.of_right) in
-          rw (p.1, q.1) (rw q.1 at s.of_right);
+          let q = is_breach o y _ (rw f at s.of_right) in
+          rw (p.1, q) (rw q at s.of_right);
     }
 
-    pub either_running_breach : {u : ℤ} {c : ℕ} → r ≡ Breach u c → JoinIs or l r o l o
+    pub either_running_breach : {c : Broken} → r ≡ Breach c → JoinIs or l r o l o
     unfolding Is room_left cells.joined cells.join_either
     either_running_breach f = record {
       is = λ x y s.
           let h = whole o e (ap (λ a. room_left a (length o)) f) x s.of_left in
           let p = is_running o x h in
-          rw (p.1, (is_breach o y (rw f at s.of_right)).1, e) p.2;
+          rw (p.1, is_breach o y _ (rw f at s.of_right), e) p.2;
     }
 
     pub both_running : {k : syntax.Join} {m : ℕ} → r ≡ Running m → {a : Reduced} {o' : List ℤ}
@@ -335,5 +297,5 @@ room_left_lem len e f = rw e f
 pub room_whole : (r : Reduced) (len : ℕ) → ((n : ℕ) → r ≡ Running n → ⊥) → len ≡ room_left r len
 unfolding room_left
 room_whole Done len h = refl
-room_whole (Breach t b) len h = refl
+room_whole (Breach b) len h = refl
 room_whole (Running n) len h = absurd (h n refl)

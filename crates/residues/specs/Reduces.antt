@@ -1,14 +1,15 @@
 -- What the code's answer says of the rules on cells.
-use Rattle.std.specs.Prelude.{◌≡◌, List, ℕ, ◌-◌, ◌*◌, ◌≤◌, min, ℤ, pos, length, take, drop}
+use Rattle.std.specs.Prelude.{◌≡◌, List, ℕ, ◌-◌, ◌*◌, ◌≤◌, min, ℤ, length, take, drop}
 use Rattle.csl.specs.Syntax.{Join}
 use Rattle.cells.specs.Reduce as cells
+use Rattle.parties.specs.declared.breach.Breach.{Breach as Broken}
 use Rattle.residues.specs.declared.Reduced.{Reduced}
 use Rattle.residues.specs.declared.Reduced.TheVariants.{Done, Breach, Running}
 use Rattle.cells.specs.Reduce.{breach}
 
 -- no time, place or sum of such is farther from 0
 abbrev pub farthest : ℕ
-farthest = 100_000_000_000_000
+farthest = 200_000_000_000_000
 
 -- the residue's cells stand at the end of `out`, where they fit; their units are counted up to 129
 pub record Stands (cs : List ℤ) (n : ℕ) (out : List ℤ) : Type 0 where
@@ -20,20 +21,20 @@ pub record Stands (cs : List ℤ) (n : ℕ) (out : List ℤ) : Type 0 where
 -- the answer r, with what stands in `out`, is what the rules on cells give
 unfoldable pub Is : cells.Reduced → Reduced → List ℤ → Type 0
 Is cells.done Done out = Unit {0}
-Is cells.done (Breach t b) out = ⊥
+Is cells.done (Breach b) out = ⊥
 Is cells.done (Running n) out = ⊥
 Is (cells.breach u c) Done out = ⊥
-Is (cells.breach u c) (Breach t b) out = (t ≡ pos u) × (b ≡ c)
+Is (cells.breach u c) (Breach b) out = (b.time ≡ u) × (b.parties ≡ c)
 Is (cells.breach u c) (Running n) out = ⊥
 Is (cells.running cs) Done out = ⊥
-Is (cells.running cs) (Breach t b) out = ⊥
+Is (cells.running cs) (Breach b) out = ⊥
 Is (cells.running cs) (Running n) out = Stands cs n out
 
 -- ---- the two sides of a join: the right side's cells stand at the end of `out`, the left side's below them
 -- what is left of `out` for the left side
 unfoldable pub room_left : Reduced → ℕ → ℕ
 room_left Done n = n
-room_left (Breach t b) n = n
+room_left (Breach b) n = n
 room_left (Running m) n = n - 24 * m
 
 pub record Sides (left right : cells.Reduced) (l r : Reduced) (out : List ℤ) : Type 0 where
@@ -44,18 +45,12 @@ pub record Sides (left right : cells.Reduced) (l r : Reduced) (out : List ℤ) :
 pub record JoinIs (j : Join) (l r : Reduced) (before : List ℤ) (a : Reduced) (written : List ℤ) : Type 0 where
   pub is : (left right : cells.Reduced) → Sides left right l r before → Is (cells.joined j left right) a written
 
--- the same of two breaches, by their times
-pub record BreachIs (f : ℕ → ℕ → ℕ → ℕ → cells.Reduced) (t : ℤ) (b : ℕ) (u : ℤ) (c : ℕ) (a : Reduced) : Type 0 where
-  pub is : (x y : ℕ) → t ≡ pos x → u ≡ pos y → (out : List ℤ) → Is (f x b y c) a out
+-- a is what f makes of the breaches l and r
+abbrev pub BreachIs : (ℕ → ℕ → ℕ → ℕ → cells.Reduced) → Broken → Broken → Broken → Type 0
+BreachIs f l r a = f l.time l.parties r.time r.parties ≡ cells.breach a.time a.parties
 
 -- ---- the units of a residue, as an answer counts them
 abbrev pub units_of : Reduced → ℕ
 units_of Done = 0
-units_of (Breach t b) = 0
+units_of (Breach b) = 0
 units_of (Running n) = n
-
--- a breach's parties by bit
-abbrev pub bits_in : Reduced → ℕ
-bits_in Done = 0
-bits_in (Breach t b) = b
-bits_in (Running n) = 0

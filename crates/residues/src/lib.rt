@@ -12,13 +12,14 @@ ghost use Rattle.residues.specs.Reduces.{Is, farthest, room_left, JoinIs, Breach
 
 use cells::{FIRST_PARAM, FIRST_VALUE, UNIT_CELLS};
 use kinds::Join;
+use parties::Breach;
 use std::cmp::Ordering;
 
-// Fulfilled; a breach's time and its parties by bit; a residue of so many units, counted up to 129.
+// Fulfilled; a breach; a residue of so many units, counted up to 129.
 #[derive(Clone, Copy, Debug, PartialEq, Eq)]
 pub enum Reduced {
     Done,
-    Breach { at: i64, by: usize },
+    Breach(Breach),
     Running(usize),
 }
 
@@ -90,26 +91,26 @@ pub fn room_left(r: Reduced, len: usize) -> usize
     }
 }
 
-// The earlier of two breaches, or both at once.
-fn earlier_breach(t: i64, b: usize, u: i64, c: usize) -> Reduced
-    ensures { BreachIs earlier t b u c result }
+// The earlier of two breaches, or both at once. (It and the later one differ in most cases, and so do the two joins:
+// one function for both would be a test in each case.)
+fn earlier_breach(l: Breach, r: Breach) -> Breach
+    ensures { BreachIs earlier l r result }
 {
-    match t.cmp(&u) {
-        Ordering::Less => Reduced::Breach { at: t, by: b },
-        Ordering::Greater => Reduced::Breach { at: u, by: c },
-        Ordering::Equal => Reduced::Breach { at: t, by: b | c },
+    match l.time.cmp(&r.time) {
+        Ordering::Less => l,
+        Ordering::Greater => r,
+        Ordering::Equal => Breach {
+            time: l.time,
+            parties: l.parties | r.parties,
+        },
     }
 }
 
 // The later of two breaches; the left one where they are at one time.
-fn later_breach(t: i64, b: usize, u: i64, c: usize) -> Reduced
-    ensures { BreachIs later t b u c result }
+fn later_breach(l: Breach, r: Breach) -> Breach
+    ensures { BreachIs later l r result }
 {
-    if t < u {
-        Reduced::Breach { at: u, by: c }
-    } else {
-        Reduced::Breach { at: t, by: b }
-    }
+    if l.time < r.time { r } else { l }
 }
 
 // Units are counted up to so many.
@@ -139,11 +140,9 @@ fn join_both(l: Reduced, r: Reduced, out: &mut [i64]) -> Reduced
     match (l, r) {
         (Reduced::Done, _) => r,
         (_, Reduced::Done) => l,
-        (Reduced::Breach { at: t, by: b }, Reduced::Breach { at: u, by: c }) => earlier_breach(
-            t, b, u, c,
-        ),
-        (Reduced::Breach { .. }, Reduced::Running(_)) => l,
-        (Reduced::Running(_), Reduced::Breach { .. }) => r,
+        (Reduced::Breach(b), Reduced::Breach(c)) => Reduced::Breach(earlier_breach(b, c)),
+        (Reduced::Breach(_), Reduced::Running(_)) => l,
+        (Reduced::Running(_), Reduced::Breach(_)) => r,
         (Reduced::Running(n), Reduced::Running(m)) => put_join(Join::And, n, m, out),
     }
 }
@@ -153,12 +152,11 @@ fn join_either(l: Reduced, r: Reduced, out: &mut [i64]) -> Reduced
     ensures { JoinIs or l r out.old result out.new }
 {
     match (l, r) {
-        (Reduced::Done, _) | (_, Reduced::Done) => Reduced::Done,
-        (Reduced::Breach { at: t, by: b }, Reduced::Breach { at: u, by: c }) => later_breach(
-            t, b, u, c,
-        ),
-        (Reduced::Breach { .. }, Reduced::Running(_)) => r,
-        (Reduced::Running(_), Reduced::Breach { .. }) => l,
+        (Reduced::Done, _) => Reduced::Done,
+        (_, Reduced::Done) => Reduced::Done,
+        (Reduced::Breach(b), Reduced::Breach(c)) => Reduced::Breach(later_breach(b, c)),
+        (Reduced::Breach(_), Reduced::Running(_)) => r,
+        (Reduced::Running(_), Reduced::Breach(_)) => l,
         (Reduced::Running(n), Reduced::Running(m)) => put_join(Join::Or, n, m, out),
     }
 }

@@ -10,7 +10,9 @@ use Rattle.csl.specs.Table.{padded, nat_cells}
 use Rattle.cells.specs.Reduce as cells
 use Rattle.residues.specs.Reduces.{Stands}
 use Rattle.cells.specs.Tables.{alters, head_of, moved_cell, reduced_table, stepped_table}
-use Rattle.settling.specs.Settles.{Settles, gone_on, other_units}
+use Rattle.settling.specs.Settles.{Settles, ended, gone_on, other_units}
+use Rattle.std.specs.Prelude.{Some, None}
+use Rattle.parties.specs.declared.breach.Breach.{Breach as Broken}
 use Rattle.residues.specs.declared.Reduced.{Reduced}
 use Rattle.residues.specs.declared.Reduced.TheVariants.{Done, Breach, Running}
 use Rattle.residues.proofs.Reduces.{is_done, is_breach, is_running}
@@ -20,7 +22,7 @@ counted e h = omega arith
 
 module _ (now used : ℕ) (out before : List ℤ) {time : ℤ} (is-now : time ≡ pos now) where
   pub settled_done : {r : Reduced} (left : List ℤ) → r ≡ Done
-      → left ≡ padded 3080 (pos 2 ∷ time ∷ pos 0 ∷ pos 0 ∷ pos 0 ∷ time ∷ pos 0 ∷ pos 0 ∷ [])
+      → left ≡ padded 3080 (ended time None)
       → Settles now used r out before left true
   unfolding stepped_table moved_cell alters reduced_table head_of nat_cells
   settled_done left e f = rw e (record {
@@ -28,20 +30,19 @@ module _ (now used : ℕ) (out before : List ℤ) {time : ℤ} (is-now : time �
     told = λ x h. rw (is_done out x h) refl;
   })
 
-  breach_table_lem : {t : ℤ} {u : ℕ} (b : ℕ) → t ≡ pos u
-      → padded 3080 (pos 3 ∷ time ∷ t ∷ pos b ∷ pos 0 ∷ time ∷ pos 0 ∷ pos 0 ∷ []) ≡ stepped_table now used before
-      (cells.breach u b)
+  breach_table_lem : (t b : ℕ)
+      → padded 3080 (pos 3 ∷ time ∷ pos t ∷ pos b ∷ pos 0 ∷ time ∷ pos 0 ∷ pos 0 ∷ []) ≡ stepped_table now used before
+      (cells.breach t b)
   unfolding stepped_table moved_cell alters reduced_table head_of nat_cells
-  breach_table_lem b e = rw (e, is-now) refl
+  breach_table_lem t b = rw is-now refl
 
-  pub settled_breach : {r : Reduced} (left : List ℤ) (t : ℤ) (b : ℕ) → r ≡ Breach t b
-      → left ≡ padded 3080 (pos 3 ∷ time ∷ t ∷ pos b ∷ pos 0 ∷ time ∷ pos 0 ∷ pos 0 ∷ [])
-      → Settles now used r out before left true
+  pub settled_breach : {r : Reduced} (left : List ℤ) (b : Broken) → r ≡ Breach b
+      → left ≡ padded 3080 (ended time (Some b)) → Settles now used r out before left true
   unfolding alters
-  settled_breach left t b e f = rw e (record {
-    wrote = λ x h. let g = is_breach out x h in
-        f ∙ breach_table_lem b g.2 ∙ ap (stepped_table now used before) (sym g.1);
-    told = λ x h. let g = is_breach out x h in rw g.1 refl;
+  settled_breach left b e f = rw e (record {
+    wrote = λ x h. f ∙ breach_table_lem b.time b.parties
+        ∙ ap (stepped_table now used before) (sym (is_breach out x b h));
+    told = λ x h. rw (is_breach out x b h) refl;
   })
 
   module _ (n : ℕ) (few : n ≤ 128) (room : 24 * n ≤ length out) (left : List ℤ)

@@ -1,6 +1,6 @@
 -- Laws of units that are compared and written one after another.
 use mathlib.Core.Path.{◌≡◌, refl, sym, ap, ap₂, ◌∙◌}
-use mathlib.Core.Bool.{Bool, true, false, not, cond, true≢false, ◌&&◌, ◌||◌}
+use mathlib.Core.Bool.{Bool, true, false, not, cond, ◌&&◌, ◌||◌}
 use mathlib.Core.List.{List, [], ◌∷◌, ◌++◌, append_assoc}
 use Prim.Native.Nat.{ℕ, ◌+◌, ◌-◌, ◌*◌, ◌≤◌}
 use native.Mathlib.Omega.{arith}
@@ -22,27 +22,9 @@ use Rattle.laws.proofs.Sameness.{same_append, same_are, same_not, same_self}
 abbrev pub altered_in : Bool → List ℤ → List ℤ → Bool
 altered_in altered cells unit = altered || not (same_numbers cells unit)
 
-pub altered_before : (altered b : Bool) {v : Bool} → altered ≡ true → v ≡ altered → v ≡ (altered || b)
-altered_before altered b e f = f ∙ rw e refl
-
 -- csl's test decides whether two lists are one
 pub sameness : (cells unit : List ℤ) → Decides (same_numbers cells unit) (cells ≡ unit)
 sameness cells unit = (same_are cells unit, λ q. rw q (same_self unit))
-
-pub altered_here : (altered : Bool) (cells unit : List ℤ) {v : Bool} → altered ≡ false
-    → v ≡ not (same_numbers cells unit) → v ≡ altered_in altered cells unit
-altered_here altered cells unit e f = f ∙ rw e refl
-
-pub nothing_differs : (altered : Bool) (cells unit : List ℤ) {v : Bool} → v ≡ altered_in altered cells unit → v ≡ false
-    → (unit ≡ cells) × (false ≡ altered_in altered cells unit)
-nothing_differs altered cells unit e f =
-    let none : altered_in altered cells unit ≡ false = sym e ∙ f in
-    (sym (same_are cells unit (same altered (same_numbers cells unit) none)), sym none)
-  where
-    same : (a b : Bool) → (a || not b) ≡ false → b ≡ true
-    same true b g = absurd (true≢false g)
-    same false true g = refl
-    same false false g = absurd (true≢false g)
 
 -- ---- unit by unit
 or_and : (a b c : Bool) → ((a || not b) || not c) ≡ (a || not (b && c))
@@ -73,45 +55,60 @@ altered_more n m residue units known h hr hu w a e =
     ∙ ap (λ k. altered_in known (take k residue) (take k units)) sum
 
 -- ---- a table whose units are written, with zeros behind them
-module _ (n : ℕ) (residue t : List ℤ) (long : length t ≡ 3080) (size : length residue ≡ 24 * n) (few : n ≤ 128)
-    (u v : List ℤ) (put : u ≡ residue ++ drop (length residue) (take (length t - 8) (drop 8 t))) where
-  abbrev written : List ℤ
-  written = put_mid 8 (length t - 8) t u
+tail_is : (a k : ℕ) (t u : List ℤ) → length t ≡ a + k → put_mid a k t u ≡ take a t ++ u
+tail_is a k t u l =
+    let m : k ≡ length t - a = omega (arith, l) in ap (λ i. put_mid a i t u) m ∙ tail_put a t u (omega (arith, l))
 
-  pub written_is : written ≡ (take 8 t ++ residue) ++ drop (length residue) (drop 8 t)
-  written_is = tail_put 8 t u (omega arith)
-      ∙ ap (λ x. take 8 t ++ x) (put ∙ ap (λ x. residue ++ drop (length residue) x)
-      (take_all (length t - 8) (drop 8 t) (rw (length-drop 8 t) (omega arith))))
+module _ (n : ℕ) (residue t : List ℤ) (long : length t ≡ 3080) (size : length residue ≡ 24 * n) (few : n ≤ 128)
+    (u v : List ℤ) (put : u ≡ residue ++ drop (length residue) (take 3072 (drop 8 t))) where
+  behind : take 3072 (drop 8 t) ≡ drop 8 t
+  behind = take_all 3072 (drop 8 t) (rw (length-drop 8 t) (omega arith))
+
+  abbrev written : List ℤ
+  written = put_mid 8 3072 t u
+
+  written_is : written ≡ (take 8 t ++ residue) ++ drop (length residue) (drop 8 t)
+  written_is = tail_is 8 3072 t u long
+      ∙ ap (λ x. take 8 t ++ x) (put ∙ ap (λ x. residue ++ drop (length residue) x) behind)
       ∙ sym (append_assoc (take 8 t) residue (drop (length residue) (drop 8 t)))
 
   front : length (take 8 t ++ residue) ≡ 8 + 24 * n
   front = length-append (take 8 t) residue ∙ omega (arith, length-take-le 8 t (omega arith))
 
-  pub written_long : length written ≡ 3080
+  written_long : length written ≡ 3080
   written_long = ap length written_is ∙ length-append (take 8 t ++ residue) _
       ∙ omega (arith, front, length-drop (length residue) (drop 8 t), length-drop 8 t)
 
-  module _ (cleared : v ≡ replicate (3072 - 24 * n) (pos 0)) where
+  abbrev rest : ℕ
+  rest = 3080 - (8 + 24 * n)
+
+  module _ (zeros : v ≡ replicate (length (take rest (drop (8 + 24 * n) written))) (pos 0)) where
     abbrev whole : List ℤ
-    whole = put_mid (8 + 24 * n) (length written - (8 + 24 * n)) written v
+    whole = put_mid (8 + 24 * n) rest written v
+
+    cleared : v ≡ replicate (3072 - 24 * n) (pos 0)
+    cleared =
+        let m : length (take rest (drop (8 + 24 * n) written)) ≡ 3072 - 24 * n =
+        omega (arith, written_long, length-take rest (drop (8 + 24 * n) written), length-drop (8 + 24 * n) written)
+        in zeros ∙ ap (λ k. replicate k (pos 0)) m
 
     whole_is : whole ≡ (take 8 t ++ residue) ++ replicate (3072 - 24 * n) (pos 0)
-    whole_is = tail_put (8 + 24 * n) written v (omega (arith, written_long))
+    whole_is = tail_is (8 + 24 * n) rest written v (omega (arith, written_long))
         ∙ ap₂ ◌++◌ (ap (take (8 + 24 * n)) written_is ∙ take_at (take 8 t ++ residue) _ (8 + 24 * n) front) cleared
 
-    pub whole_units : drop 8 whole ≡ residue ++ replicate (3072 - 24 * n) (pos 0)
+    whole_units : drop 8 whole ≡ residue ++ replicate (3072 - 24 * n) (pos 0)
     whole_units = ap (drop 8) (whole_is ∙ append_assoc (take 8 t) residue _)
         ∙ drop_at (take 8 t) _ 8 (length-take-le 8 t (omega arith))
 
     -- the head is as it was
-    pub whole_moved : get_or whole 5 (pos 0) ≡ get_or t 5 (pos 0)
+    whole_moved : get_or whole 5 (pos 0) ≡ get_or t 5 (pos 0)
     whole_moved = ap (λ x. get_or x 5 (pos 0)) (whole_is ∙ append_assoc (take 8 t) residue _)
         ∙ get_or-append (take 8 t) _ (pos 0) 5 (omega (arith, length-take-le 8 t (omega arith)))
         ∙ get_or-take 8 t 5 (pos 0) (omega arith)
 
 -- ---- when the run last moved
 -- other units in use have altered, whatever their cells
-pub altered_is : (n used : ℕ) (residue t : List ℤ) → length t ≡ 3080 → length residue ≡ 24 * n → used ≤ 128
+altered_is : (n used : ℕ) (residue t : List ℤ) → length t ≡ 3080 → length residue ≡ 24 * n → used ≤ 128
     → {altered : Bool} → altered ≡ altered_in (not (eqb n used)) residue (take (24 * n) (drop 8 t))
     → altered ≡ other_units used residue t
 unfolding other_units
@@ -131,47 +128,29 @@ altered_is n used residue t long size few e = by_test (eqb n used)
 
 -- ---- all of it: units, zeros, when the run last moved, and the head
 module _ (used n : ℕ) (residue t : List ℤ) (long : length t ≡ 3080) (size : length residue ≡ 24 * n) (few : n ≤ 128)
-    (few' : used ≤ 128) (u v : List ℤ) (put : u ≡ residue ++ drop (length residue) (take (length t - 8) (drop 8 t)))
-    (zeros : v ≡ replicate
-    (length (take (length (put_mid 8 (length t - 8) t u) - (8 + 24 * n))
-    (drop (8 + 24 * n) (put_mid 8 (length t - 8) t u)))) (pos 0)) where
-  abbrev one : List ℤ
-  one = put_mid 8 (length t - 8) t u
-
+    (few' : used ≤ 128) (u v : List ℤ) (put : u ≡ residue ++ drop (length residue) (take 3072 (drop 8 t)))
+    (zeros : v ≡ replicate (length (take (3080 - (8 + 24 * n)) (drop (8 + 24 * n) (put_mid 8 3072 t u)))) (pos 0))
+    {altered : Bool} (a : altered ≡ altered_in (not (eqb n used)) residue (take (24 * n) (take 3072 (drop 8 t)))) where
   abbrev two : List ℤ
-  two = put_mid (8 + 24 * n) (length one - (8 + 24 * n)) one v
+  two = put_mid (8 + 24 * n) (3080 - (8 + 24 * n)) (put_mid 8 3072 t u) v
 
-  cleared : v ≡ replicate (3072 - 24 * n) (pos 0)
-  cleared =
-      let l = written_long n residue t long size few u v put in
-      let m : length (take (length one - (8 + 24 * n)) (drop (8 + 24 * n) one)) ≡ 3072 - 24 * n = omega (
-        arith,
-        l,
-        length-take (length one - (8 + 24 * n)) (drop (8 + 24 * n) one),
-        length-drop (8 + 24 * n) one,
-      ) in
-      zeros ∙ ap (λ k. replicate k (pos 0)) m
+  pub gone_altered : altered ≡ other_units used residue t
+  gone_altered = altered_is n used residue t long size few' (rw (behind n residue t long size few u v put) at a)
 
-  module _ {altered : Bool} (a : altered ≡ altered_in (not (eqb n used)) residue
-      (take (24 * n) (take (length t - 8) (drop 8 t)))) where
-    pub gone_altered : altered ≡ other_units used residue t
-    gone_altered = altered_is n used residue t long size few'
-        (rw (take_all (length t - 8) (drop 8 t) (rw (length-drop 8 t) (omega arith))) at a)
+  -- z is `time` as the program reads it
+  gone_on_lem : {time z moved cell : ℤ} {left : List ℤ} → z ≡ time
+      → moved ≡ cond altered z (get_or two 5 (pos 0)) → cell ≡ pos n
+      → left ≡ (pos 1 ∷ time ∷ pos 0 ∷ pos 0 ∷ cell ∷ moved ∷ pos 0 ∷ pos 0 ∷ []) ++ drop 8 two
+      → left ≡ gone_on time used n residue t
+  unfolding gone_on padded
+  gone_on_lem {time = time} r m c e =
+      let moved-too = m ∙ ap₂ (cond altered) r (whole_moved n residue t long size few u v put zeros)
+      ∙ ap (λ b. cond b time (get_or t 5 (pos 0))) gone_altered in
+      let rest : 3072 - 24 * n ≡ 3080 - length (replicate 8 (pos 0) ++ residue) = omega arith in
+      rw (c, moved-too, whole_units n residue t long size few u v put zeros, rest) at e
 
-    -- z is `time` as the program reads it
-    gone_on_lem : {time z moved cell : ℤ} {left : List ℤ} → z ≡ time
-        → moved ≡ cond altered z (get_or two 5 (pos 0)) → cell ≡ pos n
-        → left ≡ (pos 1 ∷ time ∷ pos 0 ∷ pos 0 ∷ cell ∷ moved ∷ pos 0 ∷ pos 0 ∷ []) ++ drop 8 two
-        → left ≡ gone_on time used n residue t
-    unfolding gone_on padded
-    gone_on_lem {time = time} r m c e =
-        let moved-too = m ∙ ap₂ (cond altered) r (whole_moved n residue t long size few u v put cleared)
-        ∙ ap (λ b. cond b time (get_or t 5 (pos 0))) gone_altered in
-        let rest : 3072 - 24 * n ≡ 3080 - length (replicate 8 (pos 0) ++ residue) = omega arith in
-        rw (c, moved-too, whole_units n residue t long size few u v put cleared, rest) at e
-
-    pub headed_lem : {time z moved cell : ℤ} {head : List ℤ} → z ≡ time
-        → moved ≡ cond altered z (get_or two 5 (pos 0)) → cell ≡ pos n
-        → head ≡ pos 1 ∷ time ∷ pos 0 ∷ pos 0 ∷ cell ∷ moved ∷ pos 0 ∷ pos 0 ∷ []
-        → put_mid 0 8 two head ≡ gone_on time used n residue t
-    headed_lem r m c e = gone_on_lem r m c (ap (λ h. h ++ drop 8 two) e)
+  pub headed_lem : {time z moved cell : ℤ} {head : List ℤ} → z ≡ time
+      → moved ≡ cond altered z (get_or two 5 (pos 0)) → cell ≡ pos n
+      → head ≡ pos 1 ∷ time ∷ pos 0 ∷ pos 0 ∷ cell ∷ moved ∷ pos 0 ∷ pos 0 ∷ []
+      → put_mid 0 8 two head ≡ gone_on time used n residue t
+  headed_lem r m c e = gone_on_lem r m c (ap (λ h. h ++ drop 8 two) e)

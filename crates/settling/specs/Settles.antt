@@ -1,17 +1,23 @@
 -- A run's table after a reading.
 use Rattle.residues.specs.Reduces.{units_of, Is}
 use Rattle.std.specs.Prelude.{◌≡◌, Bool, cond, not, List, [], ◌∷◌, ◌++◌, ℕ, ◌*◌, ◌≤◌, ℤ, pos, length, get_or, take}
-use Rattle.std.specs.Prelude.{drop}
+use Rattle.std.specs.Prelude.{drop, Option, Some, None}
 use Rattle.csl.specs.Run.{same_numbers}
 use Rattle.csl.specs.Table.{padded}
 use Rattle.cells.specs.Reduce as cells
 use Rattle.cells.specs.Tables.{alters, stepped_table}
 use Rattle.residues.specs.declared.Reduced.{Reduced}
+use Rattle.parties.specs.declared.breach.Breach.{Breach}
 
 -- a residue that a table can hold stands whole in `out`
 pub record Whole (r : Reduced) (out : List ℤ) : Type 0 where
   pub few : units_of r ≤ 128
   pub room : 24 * units_of r ≤ length out
+
+-- the head of a run that ends at `time`, fulfilled or with a breach
+abbrev pub ended : ℤ → Option Breach → List ℤ
+ended time None = pos 2 ∷ time ∷ pos 0 ∷ pos 0 ∷ pos 0 ∷ time ∷ pos 0 ∷ pos 0 ∷ []
+ended time (Some b) = pos 3 ∷ time ∷ pos b.time ∷ pos b.parties ∷ pos 0 ∷ time ∷ pos 0 ∷ pos 0 ∷ []
 
 -- the residue's cells are not those of the units that were in use
 unfoldable pub other_units : ℕ → List ℤ → List ℤ → Bool

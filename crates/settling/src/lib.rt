@@ -6,10 +6,10 @@ ghost use Rattle.std.specs.Prelude.{get_or, take};
 ghost use Rattle.csl.specs.Run.{same_numbers};
 ghost use Rattle.csl.specs.Table.{padded};
 ghost use Rattle.cells.specs.Across.{nat_of};
-ghost use Rattle.settling.specs.Settles.{Settles, Whole, gone_on, other_units};
-ghost use Rattle.residues.specs.Reduces.{bits_in};
+ghost use Rattle.settling.specs.Settles.{Settles, Whole, ended, gone_on, other_units};
 
-use cells::{HEAD_CELLS, LAST_MOVED, UNIT_CELLS};
+use cells::{HEAD_CELLS, LAST_MOVED, TABLE_CELLS, UNIT_CELLS};
+use parties::Breach;
 use residues::{Reduced, fill};
 
 // A run's state, by the number in its table's first cell.
@@ -19,17 +19,19 @@ const FULFILLED: i64 = 2;
 
 const BREACHED: i64 = 3;
 
-// The table of a run that ends at `time`: a head, and no unit.
-fn end_run(table: &mut [i64], state: i64, time: i64, breach: i64, parties: usize)
-    requires { (length table.old ≡ 3080) × (parties < 65_536) }
-    ensures { table.new ≡ padded 3080 (state ∷ time ∷ breach ∷ pos parties ∷ pos 0 ∷ time ∷ pos 0 ∷ pos 0 ∷ []) }
+// The table of a run that ends at `time`, fulfilled or with a breach: a head, and no unit.
+fn end_run(table: &mut [i64; TABLE_CELLS], time: i64, breach: Option<Breach>)
+    ensures { table.new ≡ padded 3080 (ended time breach) }
 {
-    let bits = parties as i64;
-    let head = [state, time, breach, bits, 0, time, 0, 0];
+    let (state, at, parties) = match breach {
+        None => (FULFILLED, 0, 0),
+        Some(b) => (BREACHED, b.time as i64, b.parties.bits() as i64),
+    };
+    let head = [state, time, at, parties, 0, time, 0, 0];
     fill(table, &head);
 }
 
-// The cells are those of the unit.
+// The cells are those of the unit. (`==` on the slices takes 132 instructions for a unit, this takes 74.)
 fn same(cells: &[i64], unit: &[i64]) -> bool
     requires { (length cells.now ≡ 24) × (length unit.now ≡ 24) }
     ensures { result ≡ same_numbers cells.now unit.now }
@@ -38,16 +40,16 @@ fn same(cells: &[i64], unit: &[i64]) -> bool
 }
 
 // One unit's 24 cells. They are written where something has altered before them or in them; the answer says so.
+#[tactic(auto, using(crate::proofs::Units::sameness))]
 fn put_unit(unit: &mut [i64], cells: &[i64], altered: bool) -> bool
     requires { (length unit.old ≡ 24) × (length cells.now ≡ 24) }
     ensures { (unit.new ≡ cells.now) × (result ≡ (altered || not (same_numbers cells.now unit.old))) }
 {
-    if altered || !same(cells, unit) {
+    let altered = altered || !same(cells, unit);
+    if altered {
         unit.copy_from_slice(cells);
-        true
-    } else {
-        false
     }
+    altered
 }
 
 // A residue's n units go to the front of the table's, unit by unit. The answer is whether something has altered.
@@ -70,8 +72,7 @@ fn put_units(units: &mut [i64], residue: &[i64], n: usize, known: bool) -> bool
 }
 
 // When the run last moved: at `time`, or when the table says.
-fn last_moved(table: &[i64], time: i64, altered: bool) -> i64
-    requires { length table.now ≡ 3080 }
+fn last_moved(table: &[i64; TABLE_CELLS], time: i64, altered: bool) -> i64
     ensures { result ≡ cond altered time (get_or table.now 5 (pos 0)) }
 {
     if altered { time } else { table[LAST_MOVED] }
@@ -79,8 +80,8 @@ fn last_moved(table: &[i64], time: i64, altered: bool) -> i64
 
 // The table of a run that goes on with a residue's n units where so many were in use. It has moved unless they are the
 // same, which the answer says; other units in use have altered without looking further.
-fn go_on(table: &mut [i64], used: usize, time: i64, residue: &[i64], n: usize) -> bool
-    requires { (length table.old ≡ 3080) × (length residue.now ≡ 24 * n) × (n ≤ 128) × (used ≤ 128) }
+fn go_on(table: &mut [i64; TABLE_CELLS], used: usize, time: i64, residue: &[i64], n: usize) -> bool
+    requires { (length residue.now ≡ 24 * n) × (n ≤ 128) × (used ≤ 128) }
     ensures { (table.new ≡ gone_on time used n residue.now table.old)
         × (result ≡ other_units used residue.now table.old) }
 {
@@ -95,17 +96,23 @@ fn go_on(table: &mut [i64], used: usize, time: i64, residue: &[i64], n: usize) -
 
 // Writes the table of a run at `time`, whose residue stands whole at the end of `out`; `used` units were in use before.
 // The answer is whether a unit or the state has altered.
-pub fn settle(table: &mut [i64], used: usize, time: i64, r: Reduced, out: &[i64]) -> bool
-    requires { (length table.old ≡ 3080) × (used ≤ 128) × Whole r out.now × (time ≡ pos (nat_of time)) × (bits_in r < 65_536) }
+pub fn settle(
+    table: &mut [i64; TABLE_CELLS],
+    used: usize,
+    time: i64,
+    r: Reduced,
+    out: &[i64],
+) -> bool
+    requires { (used ≤ 128) × Whole r out.now × (time ≡ pos (nat_of time)) }
     ensures { Settles (nat_of time) used r out.now table.old table.new result }
 {
     match r {
         Reduced::Done => {
-            end_run(table, FULFILLED, time, 0, 0);
+            end_run(table, time, None);
             true
         }
-        Reduced::Breach { at: t, by: b } => {
-            end_run(table, BREACHED, time, t, b);
+        Reduced::Breach(b) => {
+            end_run(table, time, Some(b));
             true
         }
         Reduced::Running(n) => {

@@ -1,3 +1,4 @@
+pub mod Tests
 pub mod Trees
 pub mod Heads
 pub mod Shows

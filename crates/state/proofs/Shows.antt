@@ -11,7 +11,7 @@ use lib.IntN.{ℤ, pos, negsuc}
 use lib.ListN.{length, get_or, take, drop, length-drop}
 use lib.Seq.{take_all, drop-drop}
 use Rattle.arith.proofs.Lists.{take_drop}
-use borrow.Author.Tests.{ne_eqb}
+use borrow.Author.Tests.{ne_eqb, eq-eqb}
 use Rattle.csl.specs.Lists.{all}
 use Rattle.csl.specs.Bytes.{le32}
 use Rattle.csl.specs.Parties.{bits_of, members, subset}
@@ -26,14 +26,19 @@ use Rattle.laws.proofs.Residues.{single_is}
 use Rattle.parties.proofs.Masks.{within_subset, bits_members}
 use Rattle.csl.specs.Check.{mains_of}
 use Rattle.units.specs.Cells.{number_below}
-use Rattle.units.specs.Units.{sight_numbers}
+use Rattle.cells.specs.Sights.{sights_in}
+use Rattle.cells.specs.declared.Sight.{Sight}
 use Rattle.units.proofs.Cells.{below_is, below_not}
 use Rattle.units.proofs.Waits.{option_none}
 use Rattle.std.specs.Prelude.{Option as Maybe, Some, None}
 use Rattle.state.specs.declared.State.TheVariants.{Running, Fulfilled, Breached}
+use Rattle.std.specs.Bool.{then_some}
+use Rattle.parties.specs.declared.breach.Breach.{Breach}
+use Rattle.state.specs.declared.State.{State}
 use Rattle.state.specs.declared.Tree.{Tree}
+use Rattle.state.proofs.Tests.{by_then}
 use Rattle.state.specs.Tree.{ReadsAs, TreeAs, WalkIs}
-use Rattle.state.specs.Shown.{RunShows, Shows, TimeIs, run_in, HeadAt}
+use Rattle.state.specs.Shown.{RunShows, BreachedAs, Shows, TimeIs, run_in, HeadAt}
 use Rattle.state.proofs.Trees.{AllRead, trees_read, tree_first, reads_same}
 use Rattle.state.proofs.Heads.{RunFacts, run_facts, run_is, eight}
 
@@ -48,7 +53,7 @@ unfolding is_zero
 is_zero_lem z e = rw e tt
 
 module _ (cells : List ℤ) (l : length cells ≡ 3080) where
-  -- cells 2 and 3, 2 to 4, and 4
+  -- cells 2 and 3, and 4
   two_zeros : T (all is_zero (take 2 (drop 2 cells)))
       → (get_or cells 2 (pos 0) ≡ pos 0) × (get_or cells 3 (pos 0) ≡ pos 0)
   unfolding all
@@ -75,12 +80,25 @@ module _ (cells : List ℤ) (l : length cells ≡ 3080) where
   zeros_one = eight (λ zs. get_or zs 4 (pos 0) ≡ pos 0 → T (all is_zero (take 1 (drop 4 zs))))
       (λ a b c d e f g h zs p. T-both (is_zero e) _ (is_zero_lem e p) tt) cells (omega arith)
 
+  -- cells 2 to 4
+  three_cells : all is_zero (take 3 (drop 2 cells))
+      ≡ (all is_zero (take 2 (drop 2 cells)) && all is_zero (take 1 (drop 4 cells)))
+  unfolding all
+  three_cells = eight (λ zs. all is_zero (take 3 (drop 2 zs))
+      ≡ (all is_zero (take 2 (drop 2 zs)) && all is_zero (take 1 (drop 4 zs))))
+      (λ a b c d e f g h zs. three (is_zero c) (is_zero d) (is_zero e)) cells (omega arith)
+    where
+      three : (x y z : Bool) → (x && (y && (z && true))) ≡ ((x && (y && true)) && (z && true))
+      three true true z = refl
+      three true false z = refl
+      three false y z = refl
+
   unit_cells : take 3072 (drop 8 cells) ≡ drop 8 cells
   unit_cells = take_all 3072 (drop 8 cells) (omega (arith, length-drop 8 cells))
 
   -- ---- no run is read
   module _ (A : List ℕ) where
-    pub shown_none : (sights : List ℕ) → ((q : Run) → RunFacts A cells q → ⊥)
+    pub shown_none : (sights : List Sight) → ((q : Run) → RunFacts A cells q → ⊥)
         → Shows (run_in A cells) cells sights None
     unfolding Shows
     shown_none sights f = option_none (run_in A cells) (λ q e. f q (run_facts A cells (omega arith) q e))
@@ -129,7 +147,7 @@ module _ (cells : List ℤ) (l : length cells ≡ 3080) where
 
 -- ---- fulfilled
 module _ (cells : List ℤ) (l : length cells ≡ 3080) (A : List ℕ) {time : ℕ} (h : HeadAt A cells 2 time)
-    (sights : List ℕ) where
+    (sights : List Sight) where
   record Done : Type 0 where
     pub timeless : get_or cells 2 (pos 0) ≡ pos 0
     pub blameless : get_or cells 3 (pos 0) ≡ pos 0
@@ -152,36 +170,33 @@ module _ (cells : List ℤ) (l : length cells ≡ 3080) (A : List ℕ) {time : �
         rest = z;
       }
 
-  pub fulfilled_head : {b : Bool} → b ≡ all is_zero (take 2 (drop 2 cells)) → b ≡ false
-      → Shows (run_in A cells) cells sights None
-  fulfilled_head {b} e g = shown_none cells l A sights λ q f. let d = done_facts f in
-      true_not_false (T→true (all is_zero (take 2 (drop 2 cells))) (zeros_two cells l d.timeless d.blameless))
-      (sym e ∙ g)
-
-  pub fulfilled_used : {b : Bool} → b ≡ all is_zero (take 1 (drop 4 cells)) → b ≡ false
-      → Shows (run_in A cells) cells sights None
-  fulfilled_used {b} e g = shown_none cells l A sights λ q f. true_not_false
-      (T→true (all is_zero (take 1 (drop 4 cells))) (zeros_one cells l (done_facts f).unused)) (sym e ∙ g)
-
-  pub fulfilled_rest : {b : Bool} → b ≡ all is_zero (take 3072 (drop 8 cells)) → b ≡ false
-      → Shows (run_in A cells) cells sights None
-  fulfilled_rest {b} e g = shown_none cells l A sights λ q f. true_not_false
-      (T→true (all is_zero (drop 8 cells)) (done_facts f).rest)
-      (ap (all is_zero) (sym (unit_cells cells l)) ∙ sym e ∙ g)
-
-  pub fulfilled_is : {a b c : Bool} → a ≡ all is_zero (take 2 (drop 2 cells)) → a ≡ true
-      → b ≡ all is_zero (take 1 (drop 4 cells)) → b ≡ true → c ≡ all is_zero (take 3072 (drop 8 cells)) → c ≡ true
-      → Shows (run_in A cells) cells sights (Some Fulfilled)
+  pub fulfilled_is : {b : Bool} {r : Maybe State}
+      → b ≡ (all is_zero (take 3 (drop 2 cells)) && all is_zero (take 3072 (drop 8 cells))) → r ≡ then_some b Fulfilled
+      → Shows (run_in A cells) cells sights r
   unfolding Shows read_state
-  fulfilled_is {a} {b} e g i j k m =
-      let two = two_zeros cells l (true→T (sym e ∙ g)) in
-      let one = one_zero cells l (true→T (sym i ∙ j)) in
-      let rest : T (all is_zero (drop 8 cells)) = true→T (ap (all is_zero) (sym (unit_cells cells l)) ∙ sym k ∙ m) in
-      shows cells l A h done two.0 two.1 one (passes (all is_zero (drop 8 cells)) _ rest)
+  fulfilled_is {b} e g = by_then (Shows (run_in A cells) cells sights) g
+      (λ t. both_true (two && one) rest (true→T (sym is ∙ t)) λ z u. both_true two one z λ v w.
+      let head = two_zeros cells l v in
+      shows cells l A h done head.0 head.1 (one_zero cells l w) (passes rest _ u))
+      (λ f. shown_none cells l A sights λ q k. let d = done_facts k in
+      true_not_false (T→true (two && one && rest) (T-both (two && one) rest
+      (T-both two one (zeros_two cells l d.timeless d.blameless) (zeros_one cells l d.unused)) d.rest)) (sym is ∙ f))
+    where
+      two : Bool
+      two = all is_zero (take 2 (drop 2 cells))
+
+      one : Bool
+      one = all is_zero (take 1 (drop 4 cells))
+
+      rest : Bool
+      rest = all is_zero (drop 8 cells)
+
+      is : b ≡ (two && one && rest)
+      is = e ∙ ap₂ ◌&&◌ (three_cells cells l) (ap (all is_zero) (unit_cells cells l))
 
 -- ---- breached
 module _ (cells : List ℤ) (l : length cells ≡ 3080) (A : List ℕ) {time : ℕ} (h : HeadAt A cells 3 time)
-    (sights : List ℕ) where
+    (sights : List Sight) where
   record Broken : Type 0 where
     pub when : ℕ
     pub bits : ℕ
@@ -228,85 +243,78 @@ module _ (cells : List ℤ) (l : length cells ≡ 3080) (A : List ℕ) {time : �
   broken_none : (Broken → ⊥) → Shows (run_in A cells) cells sights None
   broken_none k = shown_none cells l A sights λ q f. k (broken_facts f)
 
-  pub breached_late : None ≡ number_below (time + 1) (get_or cells 2 (pos 0))
+  pub breached_late : None ≡ number_below 4_294_967_296 (get_or cells 2 (pos 0))
       → Shows (run_in A cells) cells sights None
   breached_late e = broken_none λ b. omega
-      (arith, below_not (time + 1) b.when (get_or cells 2 (pos 0)) e b.is_when, b.to)
-
-  module _ {when : ℕ} (e : Some when ≡ number_below (time + 1) (get_or cells 2 (pos 0))) where
-    is_when_lem : get_or cells 2 (pos 0) ≡ pos when
-    is_when_lem = (below_is (time + 1) when (get_or cells 2 (pos 0)) e).0
-
-    until : when ≤ time
-    until = omega (arith, (below_is (time + 1) when (get_or cells 2 (pos 0)) e).1)
-
-    pub breached_before : {start : ℕ} → start ≡ le32 A 4 → when < start → Shows (run_in A cells) cells sights None
-    breached_before s k = broken_none λ b. let same : b.when ≡ when = pos_inj (sym b.is_when ∙ is_when_lem) in
-        omega (arith, b.from)
+      (arith, below_not 4_294_967_296 b.when (get_or cells 2 (pos 0)) e b.is_when, b.to, h.times.to)
 
   pub breached_wide : None ≡ number_below 65_536 (get_or cells 3 (pos 0))
       → Shows (run_in A cells) cells sights None
   breached_wide e = broken_none λ b. omega
       (arith, below_not 65_536 b.bits (get_or cells 3 (pos 0)) e b.is_bits, b.small)
 
-  module _ {bits : ℕ} (e : Some bits ≡ number_below 65_536 (get_or cells 3 (pos 0))) where
+  module _ {when start bits mains : ℕ} (dated : Some when ≡ number_below 4_294_967_296 (get_or cells 2 (pos 0)))
+      (from : start ≡ le32 A 4) (named : Some bits ≡ number_below 65_536 (get_or cells 3 (pos 0)))
+      (among : mains ≡ bits_of (mains_of A)) where
     narrow : bits < 65_536
-    narrow = (below_is 65_536 bits (get_or cells 3 (pos 0)) e).1
+    narrow = (below_is 65_536 bits (get_or cells 3 (pos 0)) named).1
 
-    is_bits_lem : get_or cells 3 (pos 0) ≡ pos bits
-    is_bits_lem = (below_is 65_536 bits (get_or cells 3 (pos 0)) e).0
-
-    same_bits : (b : Broken) → b.bits ≡ bits
-    same_bits b = pos_inj (sym b.is_bits ∙ is_bits_lem)
-
-    pub breached_nobody : bits ≡ 0 → Shows (run_in A cells) cells sights None
-    breached_nobody k = broken_none λ b. b.some_party (same_bits b ∙ k)
-
-    in_mains : {mains : ℕ} {t : Bool} → mains ≡ bits_of (mains_of A) → t ≡ eqb (bit_or bits mains) mains
-        → t ≡ subset (members bits) (mains_of A)
+    in_mains : eqb (bit_or bits mains) mains ≡ subset (members bits) (mains_of A)
     unfolding members
-    in_mains m k = k ∙ rw m (ap (λ (n : ℕ). eqb (bit_or n (bits_of (mains_of A))) (bits_of (mains_of A)))
+    in_mains = rw among (ap (λ (n : ℕ). eqb (bit_or n (bits_of (mains_of A))) (bits_of (mains_of A)))
         (sym (bits_members bits narrow)) ∙ within_subset (members bits) (mains_of A)
         (λ q t. omega (arith, members_within 16 0 bits q t)))
 
-    pub breached_others : {mains : ℕ} {t : Bool} → mains ≡ bits_of (mains_of A) → t ≡ eqb (bit_or bits mains) mains
-        → t ≡ false → Shows (run_in A cells) cells sights None
-    breached_others {t = t} m k n = broken_none λ b. true_not_false
-        (T→true (subset (members b.bits) (mains_of A)) b.of_mains)
-        (ap (λ (y : ℕ). subset (members y) (mains_of A)) (same_bits b) ∙ sym (in_mains m k) ∙ n)
+    -- the code's tests, one after the other
+    abbrev breached_tests : Bool
+    breached_tests = (leb start when && leb when time) && not (eqb bits 0) && eqb (bit_or bits mains) mains
+        && all is_zero (take 1 (drop 4 cells)) && all is_zero (take 3072 (drop 8 cells))
 
-  pub breached_used : {b : Bool} → b ≡ all is_zero (take 1 (drop 4 cells)) → b ≡ false
-      → Shows (run_in A cells) cells sights None
-  breached_used {b} e g = broken_none λ f. true_not_false
-      (T→true (all is_zero (take 1 (drop 4 cells))) (zeros_one cells l f.unused)) (sym e ∙ g)
+    breached_passed : Broken → T breached_tests
+    breached_passed b =
+        let same_when : b.when ≡ when = pos_inj (sym b.is_when ∙ (below_is 4_294_967_296 when _ dated).0) in
+        let same_bits : b.bits ≡ bits = pos_inj (sym b.is_bits ∙ (below_is 65_536 bits _ named).0) in
+        let some_party : (bits ≡ 0 → ⊥) = λ e. b.some_party (same_bits ∙ e) in
+        T-both ((leb start when && leb when time) && not (eqb bits 0) && eqb (bit_or bits mains) mains
+        && all is_zero (take 1 (drop 4 cells))) _
+        (T-both ((leb start when && leb when time) && not (eqb bits 0) && eqb (bit_or bits mains) mains) _
+        (T-both ((leb start when && leb when time) && not (eqb bits 0)) _
+        (T-both (leb start when && leb when time) _
+        (T-both (leb start when) _ (le→leb start when (omega (arith, b.from))) (le→leb when time (omega (arith, b.to))))
+        (subst (λ (y : Bool). T (not y)) (sym (ne_eqb bits 0 some_party)) tt))
+        (subst T (sym (in_mains)) (subst (λ (n : ℕ). T (subset (members n) (mains_of A))) same_bits b.of_mains)))
+        (zeros_one cells l b.unused))
+        (subst (λ xs. T (all is_zero xs)) (sym (unit_cells cells l)) b.rest)
 
-  pub breached_rest : {b : Bool} → b ≡ all is_zero (take 3072 (drop 8 cells)) → b ≡ false
-      → Shows (run_in A cells) cells sights None
-  breached_rest {b} e g = broken_none λ f. true_not_false (T→true (all is_zero (drop 8 cells)) f.rest)
-      (ap (all is_zero) (sym (unit_cells cells l)) ∙ sym e ∙ g)
-
-  module _ {when start bits mains : ℕ} {s v w : Bool} where
-    pub breached_is : Some when ≡ number_below (time + 1) (get_or cells 2 (pos 0)) → start ≡ le32 A 4
-        → start ≤ when → Some bits ≡ number_below 65_536 (get_or cells 3 (pos 0)) → (bits ≡ 0 → ⊥)
-        → mains ≡ bits_of (mains_of A) → s ≡ eqb (bit_or bits mains) mains → s ≡ true
-        → v ≡ all is_zero (take 1 (drop 4 cells)) → v ≡ true → w ≡ all is_zero (take 3072 (drop 8 cells)) → w ≡ true
-        → Shows (run_in A cells) cells sights (Some (Breached when bits))
-    unfolding Shows read_state agreement_of
-    breached_is e a b c n m k s₁ p v₁ q w₁ =
-        let rest : T (all is_zero (drop 8 cells)) = true→T
-        (ap (all is_zero) (sym (unit_cells cells l)) ∙ sym q ∙ w₁) in
+    shown_breach : T breached_tests → BreachedAs (run_in A cells) cells when bits
+    unfolding read_state agreement_of
+    shown_breach t =
+        both_true ((leb start when && leb when time) && not (eqb bits 0) && eqb (bit_or bits mains) mains
+        && all is_zero (take 1 (drop 4 cells))) _ t λ t₁ rest.
+        both_true ((leb start when && leb when time) && not (eqb bits 0) && eqb (bit_or bits mains) mains) _ t₁
+        λ t₂ used.
+        both_true ((leb start when && leb when time) && not (eqb bits 0)) _ t₂ λ t₃ of_mains.
+        both_true (leb start when && leb when time) _ t₃ λ t₄ some_party.
+        both_true (leb start when) _ t₄ λ begun until.
         record {
-          small = narrow c;
-          shows = shows cells l A h (breach when (members bits)) (is_when_lem e) (is_bits_lem c)
-              (one_zero cells l (true→T (sym p ∙ v₁)))
-              (passes (leb (le32 A 4) when) _ (le→leb (le32 A 4) when (omega arith))
-              ∙ passes (leb when time) _ (le→leb when time (until e))
-              ∙ passes (ltb bits (2 ^ 16)) _ (lt→ltb bits (2 ^ 16) (narrow c))
-              ∙ passes (not (eqb bits 0)) _ (subst (λ (y : Bool). T (not y)) (sym (ne_eqb bits 0 n)) tt)
-              ∙ passes (subset (members bits) (mains_of A)) _ (true→T (sym (in_mains c m k) ∙ s₁))
+          small = narrow;
+          shows = shows cells l A h (breach when (members bits)) (below_is 4_294_967_296 when _ dated).0
+              (below_is 65_536 bits _ named).0 (one_zero cells l used)
+              (passes (leb (le32 A 4) when) _ (subst (λ (n : ℕ). T (leb n when)) from begun)
+              ∙ passes (leb when time) _ until
+              ∙ passes (ltb bits (2 ^ 16)) _ (lt→ltb bits (2 ^ 16) narrow)
+              ∙ passes (not (eqb bits 0)) _ some_party
+              ∙ passes (subset (members bits) (mains_of A)) _ (subst T in_mains of_mains)
               ∙ passes (eqb 0 0) _ tt
-              ∙ passes (all is_zero (drop 8 cells)) _ rest);
+              ∙ passes (all is_zero (drop 8 cells)) _ (subst (λ xs. T (all is_zero xs)) (unit_cells cells l) rest));
         }
+
+    pub breached_is : {b : Bool} {r : Maybe State} (found : Breach) → b ≡ breached_tests → found.time ≡ when
+        → found.parties ≡ bits → r ≡ then_some b (Breached found) → Shows (run_in A cells) cells sights r
+    unfolding Shows
+    breached_is found e is_time is_parties g = by_then (Shows (run_in A cells) cells sights) g
+        (λ t. rw (is_time, is_parties) (shown_breach (true→T (sym e ∙ t))))
+        (λ f. broken_none λ b. true_not_false (T→true breached_tests (breached_passed b)) (sym e ∙ f))
 
 -- ---- running
 module _ (cells : List ℤ) (l : length cells ≡ 3080) (A : List ℕ) {time : ℕ} (h : HeadAt A cells 1 time) where
@@ -345,16 +353,10 @@ module _ (cells : List ℤ) (l : length cells ≡ 3080) (A : List ℕ) {time : �
             (same_now cells l A h f) a₄;
       }
 
-  waits_none : (sights : List ℕ) → (Waits → ⊥) → Shows (run_in A cells) cells sights None
+  waits_none : (sights : List Sight) → (Waits → ⊥) → Shows (run_in A cells) cells sights None
   waits_none sights k = shown_none cells l A sights λ q f. k (waits_facts f)
 
-  pub running_head : {b : Bool} (sights : List ℕ) → b ≡ all is_zero (take 2 (drop 2 cells)) → b ≡ false
-      → Shows (run_in A cells) cells sights None
-  running_head {b} sights e g = waits_none sights λ w. true_not_false
-      (T→true (all is_zero (take 2 (drop 2 cells))) (zeros_two cells l w.timeless w.blameless))
-      (sym e ∙ g)
-
-  pub running_many : (sights : List ℕ) → None ≡ number_below 129 (get_or cells 4 (pos 0))
+  pub running_many : (sights : List Sight) → None ≡ number_below 129 (get_or cells 4 (pos 0))
       → Shows (run_in A cells) cells sights None
   running_many sights e = waits_none sights λ w. omega
       (arith, below_not 129 w.used (get_or cells 4 (pos 0)) e w.is_used, w.few)
@@ -388,7 +390,7 @@ module _ (cells : List ℤ) (l : length cells ≡ 3080) (A : List ℕ) {time : �
         let k : 3072 - 24 * n ≡ 3080 - (8 + 24 * n) = omega (arith, fewer) in
         take_drop (24 * n) 3072 (drop 8 cells) ∙ ap₂ take k (drop-drop (24 * n) 8 cells)
 
-    module _ (sights : List ℕ) {r : Maybe Tree} (k : WalkIs A time n (take 3072 (drop 8 cells)) sights r) where
+    module _ (sights : List Sight) {r : Maybe Tree} (k : WalkIs A time n (take 3072 (drop 8 cells)) sights r) where
       pub running_torn : r ≡ None → Shows (run_in A cells) cells sights None
       unfolding WalkIs
       running_torn t = waits_none sights λ w.
@@ -397,51 +399,59 @@ module _ (cells : List ℤ) (l : length cells ≡ 3080) (A : List ℕ) {time : �
           none_some (sym (none_there w.residue is.0 (omega (arith, is.1))) ∙ w.have)
 
       module _ {tree : Tree} (t : r ≡ Some tree) where
-        tree_there : TreeAs A time n (take 3072 (drop 8 cells)) sights tree.units tree.bits
+        tree_there : TreeAs A time n (take 3072 (drop 8 cells)) sights tree.units tree.parties
         unfolding WalkIs
         tree_there = rw t at k
 
-        pub running_other : (tree.units ≡ n → ⊥) → Shows (run_in A cells) cells sights None
-        running_other f = waits_none sights λ w.
+        -- the code's tests, one after the other
+        abbrev running_tests : Bool
+        running_tests = eqb tree.units n && all is_zero (take 2 (drop 2 cells))
+            && all is_zero (take (3080 - (8 + 24 * n)) (drop (8 + 24 * n) cells))
+
+        running_passed : Waits → T running_tests
+        running_passed w =
             let is = residue_read w in
             let same = reads_same (agreement_of A) tree_there.residue w.residue (take 3072 (drop 8 cells))
             tree_there.reads is.0 in
-            f (tree_there.count ∙ ap units same ∙ is.1)
+            T-both (eqb tree.units n && all is_zero (take 2 (drop 2 cells))) _
+            (T-both (eqb tree.units n) _ (true→T (eq-eqb tree.units n (tree_there.count ∙ ap units same ∙ is.1)))
+            (zeros_two cells l w.timeless w.blameless))
+            (true→T (ap (all is_zero) (sym rest_cells) ∙ is.2))
 
-        module _ (f : tree.units ≡ n) {z : Bool}
-            (e₂ : z ≡ all is_zero (take (3080 - (8 + 24 * n)) (drop (8 + 24 * n) cells)))
-          where
-            pub running_more : z ≡ false → Shows (run_in A cells) cells sights None
-            running_more g = waits_none sights λ w. true_not_false (residue_read w).2
-                (ap (all is_zero) rest_cells ∙ sym e₂ ∙ g)
+        shown : T running_tests → Shows (run_in A cells) cells sights (Some (Running n))
+        unfolding Shows read_state single trees
+        shown t =
+            both_true (eqb tree.units n && all is_zero (take 2 (drop 2 cells))) _ t λ t₁ z.
+            both_true (eqb tree.units n) _ t₁ λ f two.
+            let same : tree.units ≡ n = eqb→eq tree.units n f in
+            let x = tree_there.residue in
+            let head = two_zeros cells l two in
+            let count : n ≡ units x = sym same ∙ tree_there.count in
+            let count₀ : n ≡ units x + 0 = omega (arith, count) in
+            let none-behind : trees (agreement_of A) 0 (drop (24 * units x) (take 3072 (drop 8 cells))) ≡ some
+            [] = passes (all is_zero (drop (24 * units x) (take 3072 (drop 8 cells)))) _
+            (true→T (ap (λ (k : ℕ). all is_zero (drop (24 * k) (take 3072 (drop 8 cells)))) (sym count)
+            ∙ ap (all is_zero) rest_cells ∙ T→true _ z)) in
+            let are : trees (agreement_of A) n (drop 8 cells) ≡ some (x ∷ []) = ap₂ (trees (agreement_of A)) count₀
+            (sym (unit_cells cells l)) ∙ tree_first (agreement_of A) x 0 (take 3072 (drop 8 cells)) []
+            tree_there.reads none-behind in
+            record {
+              residue = x;
+              shows = shows cells l A h (running x) head.0 head.1 is_used_lem
+                  (passes (leb n 128) _ (le→leb n 128 fewer)
+                  ∙ some_bind (trees (agreement_of A) n (drop 8 cells)) _ (x ∷ []) are
+                  ∙ some_bind (single (x ∷ [])) _ x refl
+                  ∙ some_bind (residue_parties (agreement_of A) (mains_of A) time x) _ tree_there.parties.parties
+                  tree_there.parties.are);
+              count = count;
+              few = fewer;
+              sighted = subst (λ (k : ℕ). take k sights ≡ sights_in x) same tree_there.sighted;
+            }
 
-            pub running_is : {b : Bool} → b ≡ all is_zero (take 2 (drop 2 cells)) → b ≡ true → z ≡ true
-                → Shows (run_in A cells) cells sights (Some (Running n))
-            unfolding Shows read_state single trees
-            running_is {b} p q g =
-                let x = tree_there.residue in
-                let two = two_zeros cells l (true→T (sym p ∙ q)) in
-                let count : n ≡ units x = sym f ∙ tree_there.count in
-                let count₀ : n ≡ units x + 0 = omega (arith, count) in
-                let none-behind : trees (agreement_of A) 0 (drop (24 * units x) (take 3072 (drop 8 cells))) ≡ some
-                [] = passes (all is_zero (drop (24 * units x) (take 3072 (drop 8 cells)))) _
-                (true→T (ap (λ (k : ℕ). all is_zero (drop (24 * k) (take 3072 (drop 8 cells)))) (sym count)
-                ∙ ap (all is_zero) rest_cells ∙ sym e₂ ∙ g)) in
-                let are : trees (agreement_of A) n (drop 8 cells) ≡ some (x ∷ []) = ap₂ (trees (agreement_of A)) count₀
-                (sym (unit_cells cells l)) ∙ tree_first (agreement_of A) x 0 (take 3072 (drop 8 cells)) []
-                tree_there.reads none-behind in
-                record {
-                  residue = x;
-                  shows = shows cells l A h (running x) two.0 two.1 is_used_lem
-                      (passes (leb n 128) _ (le→leb n 128 fewer)
-                      ∙ some_bind (trees (agreement_of A) n (drop 8 cells)) _ (x ∷ []) are
-                      ∙ some_bind (single (x ∷ [])) _ x refl
-                      ∙ some_bind (residue_parties (agreement_of A) (mains_of A) time x) _ tree_there.parties.parties
-                      tree_there.parties.are);
-                  count = count;
-                  few = fewer;
-                  sighted = subst (λ (k : ℕ). take (2 * k) sights ≡ sight_numbers x) f tree_there.sighted;
-                }
+        pub running_is : {b : Bool} {q : Maybe State} → b ≡ running_tests → q ≡ then_some b (Running n)
+            → Shows (run_in A cells) cells sights q
+        running_is e g = by_then (Shows (run_in A cells) cells sights) g (λ u. shown (true→T (sym e ∙ u)))
+            (λ f. waits_none sights λ w. true_not_false (T→true running_tests (running_passed w)) (sym e ∙ f))
 
 -- ---- the head
 state_in_lem : (A : List ℕ) (d : HeadNumbers) (cells : List ℤ) (n : ℕ) (o : Outcome)
@@ -453,7 +463,7 @@ state_in_lem A d cells (suc (suc zero)) o e = (omega arith, omega arith)
 state_in_lem A d cells (suc (suc (suc zero))) o e = (omega arith, omega arith)
 state_in_lem A d cells (suc (suc (suc (suc n)))) o e = none_some e
 
-module _ (cells : List ℤ) (l : length cells ≡ 3080) (A : List ℕ) (sights : List ℕ) where
+module _ (cells : List ℤ) (l : length cells ≡ 3080) (A : List ℕ) (sights : List Sight) where
   pub head_none : None ≡ number_below 4 (get_or cells 0 (pos 0)) → Shows (run_in A cells) cells sights None
   head_none e = shown_none cells l A sights λ q f.
       let s = state_in_lem A f.head (drop 8 cells) f.head.state f.outcome f.reads in

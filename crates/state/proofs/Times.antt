@@ -1,28 +1,28 @@
 -- The head's times, as they are read: the last reading time, when the run last moved, and zeros behind them.
 use mathlib.Core.Path.{◌≡◌, sym, ◌∙◌}
-use mathlib.Core.Bool.{Bool, true, false}
+use mathlib.Core.Bool.{Bool, ◌&&◌}
 use mathlib.Core.List.{List}
-use Prim.Native.Nat.{ℕ, ◌≤◌, ◌<◌}
+use Prim.Native.Nat.{ℕ}
 use native.Mathlib.Omega.{arith}
+use lib.Dec.{leb, leb→le, le→leb}
 use lib.IntN.{ℤ, pos}
 use lib.ListN.{get_or, take, drop}
 use Rattle.csl.specs.Lists.{all}
 use Rattle.csl.specs.Bytes.{le32}
 use Rattle.csl.specs.Table.{is_zero}
-use Rattle.laws.proofs.Bools.{T→true, true→T, true_not_false}
+use Rattle.laws.proofs.Bools.{T-both, both_true, T→true, true→T, true_not_false}
 use Rattle.units.specs.Cells.{number_below}
 use Rattle.units.proofs.Cells.{below_is, below_not}
 use Rattle.laws.proofs.Integers.{pos_inj}
-use Rattle.std.specs.Prelude.{Some, None}
+use Rattle.std.specs.Prelude.{Option as Maybe, Some, None}
+use Rattle.std.specs.Bool.{then_some}
+use Rattle.state.proofs.Tests.{by_then}
 use Rattle.state.specs.Shown.{TimeIs, TimesAt}
 
 module _ (a : List ℕ) (cells : List ℤ) where
   none : ((time : ℕ) → TimesAt a cells time → ⊥) → TimeIs a cells None
   unfolding TimeIs
   none f = f
-
-  pub times_zeros : {b : Bool} → b ≡ all is_zero (take 2 (drop 6 cells)) → b ≡ false → TimeIs a cells None
-  times_zeros {b} e g = none λ u x. true_not_false (T→true (all is_zero (take 2 (drop 6 cells))) x.zeros) (sym e ∙ g)
 
   pub timeless : None ≡ number_below 4_294_967_296 (get_or cells 1 (pos 0)) → TimeIs a cells None
   timeless e = none λ u x. omega
@@ -46,22 +46,25 @@ module _ (a : List ℕ) (cells : List ℤ) where
     moved_same : {u : ℕ} (x : TimesAt a cells u) → moved ≡ x.moved
     moved_same x = pos_inj (sym is_moved ∙ x.is_moved)
 
-    pub times_later : time < moved → TimeIs a cells None
-    times_later h = none λ u x. omega (arith, time_same x, moved_same x, x.until)
-
     module _ {start : ℕ} (s : start ≡ le32 a 4) where
-      pub times_earlier : moved < start → TimeIs a cells None
-      times_earlier h = none λ u x. omega (arith, moved_same x, x.from)
+      -- the code's tests, one after the other
+      abbrev tested : Bool
+      tested = (leb start moved && leb moved time) && all is_zero (take 2 (drop 6 cells))
 
-      pub times_are : {b : Bool} → moved ≤ time → start ≤ moved → b ≡ all is_zero (take 2 (drop 6 cells))
-          → b ≡ true → TimeIs a cells (Some time)
+      pub times_are : {b : Bool} {r : Maybe ℕ} → b ≡ tested → r ≡ then_some b time → TimeIs a cells r
       unfolding TimeIs
-      times_are le from e g = record {
-        is_now = is_time;
-        moved = moved;
-        is_moved = is_moved;
-        from = omega arith;
-        until = le;
-        to = (below_is 4_294_967_296 time (get_or cells 1 (pos 0)) t).1;
-        zeros = true→T (sym e ∙ g);
-      }
+      times_are e g = by_then (TimeIs a cells) g
+          (λ yes. both_true (leb start moved && leb moved time) _ (true→T (sym e ∙ yes)) λ between z.
+          both_true (leb start moved) _ between λ from until.
+          record {
+            is_now = is_time;
+            moved = moved;
+            is_moved = is_moved;
+            from = omega (arith, leb→le start moved from);
+            until = leb→le moved time until;
+            to = (below_is 4_294_967_296 time (get_or cells 1 (pos 0)) t).1;
+            zeros = z;
+          })
+          (λ f. none λ u x. true_not_false (T→true tested (T-both (leb start moved && leb moved time) _
+          (T-both (leb start moved) _ (le→leb start moved (omega (arith, moved_same x, x.from)))
+          (le→leb moved time (omega (arith, time_same x, moved_same x, x.until)))) x.zeros)) (sym e ∙ f))

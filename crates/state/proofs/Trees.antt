@@ -11,10 +11,10 @@ use native.Mathlib.Omega.{arith}
 use lib.Bits.{bit_or}
 use lib.Dec.{T, leb, ltb, leb→le}
 use lib.IntN.{ℤ, pos, negsuc}
-use lib.ListN.{length, get_or, take, drop, set, length-drop, length-append}
+use lib.ListN.{length, get_or, take, drop}
 use borrow.Rule.Slice.PartMut.{put_mid}
-use Rattle.arith.proofs.Lists.{tail_put, take_drop}
-use lib.Seq.{take-add, drop-append-le, take_at, drop-drop, drop_at, length-take-le}
+use Rattle.arith.proofs.Lists.{tail_put}
+use lib.Seq.{take-add, take-append-le, take_at, drop-drop, drop_at, length-take-le}
 use Rattle.csl.specs.Lists.{◌>>=◌, need, all, at, split}
 use Rattle.csl.specs.Syntax.{Join, and, or, Agreement}
 use Rattle.csl.specs.Parties.{member, member_count, bits_of}
@@ -22,16 +22,18 @@ use Rattle.csl.specs.Decode.{agreement_of}
 use Rattle.csl.specs.Typing.{join_ok}
 use Rattle.csl.specs.Places.{clause_at}
 use Rattle.csl.specs.Values.{as_nat, values_of}
-use Rattle.csl.specs.Outcomes.{Sort, an_obligation, a_choice, Sight, Residue, unit, both, units}
+use Rattle.csl.specs.Outcomes as csl
+use Rattle.csl.specs.Outcomes.{Sort, an_obligation, a_choice, Residue, unit, both, units}
 use Rattle.csl.specs.Table.{is_zero, as_nats, is_sort, waiting_unit, push, UnitSort, waiting, joining, unit_sort}
 use Rattle.csl.specs.Table.{add_unit}
 use Rattle.csl.specs.Table.{trees, residue_parties}
 use Rattle.laws.proofs.Options.{from_bind, from_need, some_bind, passes, some_inj, none_some}
 use Rattle.laws.proofs.PartyBits.{member_append}
+use Rattle.laws.proofs.Lists.{part_from}
 use Rattle.laws.proofs.Residues.{some_units}
 use Rattle.laws.proofs.Bools.{T→true}
 use Rattle.parties.specs.Masks.{mask_of, ValidMembers}
-use Rattle.parties.proofs.Masks.{mask_bits, bits_small}
+use Rattle.parties.proofs.Masks.{mask_bits}
 use Rattle.csl.specs.Check.{mains_of}
 use Rattle.std.specs.Prelude.{Option as Maybe, Some, None}
 use Rattle.std.specs.Prelude.{Result, Ok, Err}
@@ -49,11 +51,13 @@ use Rattle.units.proofs.Blames.{at_past, joined_bits}
 use Rattle.units.proofs.Waits.{option_none, split_takes, split_is}
 use Rattle.state.specs.declared.Tree.{Tree}
 use Rattle.state.specs.declared.First.{First}
-use Rattle.state.specs.declared.First.TheVariants.{Waits, Joins}
+use Rattle.state.specs.declared.First.TheVariants as kind
+use Rattle.cells.specs.Sights.{join_as, sights_in}
+use Rattle.cells.specs.declared.Sight.{Sight}
+use Rattle.cells.specs.declared.Sight.TheVariants.{Waits, Joins}
+use Rattle.std.specs.Bool.{then_some}
+use Rattle.state.proofs.Tests.{by_then}
 use Rattle.state.specs.Tree.{WaitsFirst, JoinsFirst, ReadsAs, FirstIs, TreeAs, WalkIs, SidesAs}
-
-bits_below : {n : ℕ} (ps : List ℕ) → n ≡ bits_of ps → n < 1_048_576
-bits_below ps e = omega (arith, bits_small ps)
 
 -- ---- the rule for joins
 pub join_and : {bits : ℕ} (ps : List ℕ) → ((q : ℕ) → member q ps ≡ true → q < 16) → bits ≡ bits_of ps
@@ -104,12 +108,19 @@ sort_waiting : (w : WaitKind) → unit_sort (pos (wait_number w)) ≡ some (wait
 sort_waiting Obligation = unfold unit_sort as_nat ◌>>=◌ need at in refl
 sort_waiting Choice = unfold unit_sort as_nat ◌>>=◌ need at in refl
 
--- ---- the two numbers before the others
-sights_put : (x y n : ℕ) (sights : List ℕ) → 2 ≤ length sights → take (2 * suc n) (set (set sights 0 x) 1 y) ≡ x ∷ y
-    ∷ take (2 * n) (drop 2 sights)
-sights_put x y n [] l = absurd (omega arith)
-sights_put x y n (p ∷ []) l = absurd (omega arith)
-sights_put x y n (p ∷ q ∷ sights) l = let e : 2 * suc n ≡ suc (suc (2 * n)) = omega arith in rw e refl
+-- ---- what is in sight at one unit, and at a join
+sight_of : (r : Residue) {n c : ℕ} → units r ≡ 1 → sight_numbers r ≡ n ∷ c ∷ [] → sights_in r ≡ Waits n c ∷ []
+unfolding sight_numbers sights_in units
+sight_of (unit s p a e) {n = n} {c = c} one h =
+    let params : length e.params ≡ n = cc in
+    let values : length e.values ≡ c = cc in
+    ap₂ (λ x y. Waits x y ∷ []) params values
+sight_of (both j l r) one h = absurd (omega (arith, some_units l, some_units r))
+
+same_join : (j : kinds.Join) → join_as (join_in j) ≡ j
+unfolding join_as
+same_join And = refl
+same_join Or = refl
 
 -- ---- a unit by its sort
 abbrev sorts : List (Option UnitSort)
@@ -176,7 +187,7 @@ no_sort n f g = option_none (unit_sort (pos n)) (λ u h. let s = sort_from n u h
 module _ (ag : Agreement) where
   -- what is read of a waiting unit is one unit
   waits_one : {C : Type 0} (s : Sort) (zs : List ℤ) (r : Residue) → waiting_unit ag s zs ≡ some r
-      → ((p a : ℕ) (e : Sight) → r ≡ unit s p a e → C) → C
+      → ((p a : ℕ) (e : csl.Sight) → r ≡ unit s p a e → C) → C
   unfolding waiting_unit
   waits_one s zs r e k =
       from_bind (split 2 zs) _ r e λ h _ e₁.
@@ -371,18 +382,18 @@ no_kind cells e ag (unit s p t v) w = none_some (sym e ∙ w.is_sort)
 no_kind cells e ag (both j l r) w = none_some (sym e ∙ w.0.is_sort)
 
 -- r is what the code found
-pub is_waits : (cells : List ℤ) {r : Maybe First} {w : WaitKind} → FirstIs cells r → r ≡ Some (Waits w)
+pub is_waits : (cells : List ℤ) {r : Maybe First} {w : WaitKind} → FirstIs cells r → r ≡ Some (kind.Waits w)
     → get_or cells 0 (pos 0) ≡ pos (wait_number w)
 unfolding FirstIs
 is_waits cells h e = rw e at h
 
-pub is_joins : (cells : List ℤ) {r : Maybe First} {j : kinds.Join} → FirstIs cells r → r ≡ Some (Joins j)
+pub is_joins : (cells : List ℤ) {r : Maybe First} {j : kinds.Join} → FirstIs cells r → r ≡ Some (kind.Joins j)
     → JoinsFirst (join_in j) cells
 unfolding FirstIs
 is_joins cells h e = rw e at h
 
 pub waits_first : (cells : List ℤ) {n : ℕ} (w : WaitKind) → get_or cells 0 (pos 0) ≡ pos n → wait_number w ≡ n
-    → FirstIs cells (Some (Waits w))
+    → FirstIs cells (Some (kind.Waits w))
 unfolding FirstIs
 waits_first cells w e h = e ∙ ap pos (sym h)
 
@@ -391,25 +402,26 @@ module _ (cells : List ℤ) {n : ℕ} (first : get_or cells 0 (pos 0) ≡ pos n)
   is_joining : unit_sort (get_or cells 0 (pos 0)) ≡ some (joining (join_in j))
   is_joining = ap unit_sort (first ∙ ap pos (sym k)) ∙ sort_joining j
 
-  pub joins_cells : t ≡ false → FirstIs cells None
+  joins_not_zero : t ≡ false → FirstIs cells None
   unfolding FirstIs ReadsAs
-  joins_cells f ag (unit s p u v) w = sort_not ag w.is_sort is_joining
-  joins_cells f ag (both i l r) w = absurd (true≢false (sym w.0.zeros ∙ sym h ∙ f))
+  joins_not_zero f ag (unit s p u v) w = sort_not ag w.is_sort is_joining
+  joins_not_zero f ag (both i l r) w = absurd (true≢false (sym w.0.zeros ∙ sym h ∙ f))
 
-  pub joins_first : 24 ≤ length cells → t ≡ true → FirstIs cells (Some (Joins j))
+  pub joins_first : 24 ≤ length cells → {r : Maybe First} → r ≡ then_some t (kind.Joins j) → FirstIs cells r
   unfolding FirstIs
-  joins_first room f = record { room = room; is_sort = is_joining; zeros = sym h ∙ f }
+  joins_first room e = by_then (FirstIs cells) e
+      (λ f. record { room = room; is_sort = is_joining; zeros = sym h ∙ f }) (λ f. joins_not_zero f)
 
 -- ---- the code's answers
 module _ (a : List ℕ) (now n : ℕ) (cells : List ℤ) where
   abbrev ag : Agreement
   ag = agreement_of a
 
-  pub no_units : (sights : List ℕ) → n ≡ 0 → WalkIs a now n cells sights None
+  pub no_units : (sights : List Sight) → n ≡ 0 → WalkIs a now n cells sights None
   unfolding WalkIs
   no_units sights e r w few = absurd (omega (arith, some_units r))
 
-  pub no_first : (sights : List ℕ) → FirstIs cells None → WalkIs a now n cells sights None
+  pub no_first : (sights : List Sight) → FirstIs cells None → WalkIs a now n cells sights None
   unfolding WalkIs FirstIs
   no_first sights f r w few = absurd (f ag r w)
 
@@ -417,7 +429,7 @@ module _ (a : List ℕ) (now n : ℕ) (cells : List ℤ) where
     is_waiting : unit_sort (get_or cells 0 (pos 0)) ≡ some (waiting (sort_in wait))
     is_waiting = ap unit_sort first ∙ sort_waiting wait
 
-    pub waits_not : {r : Maybe Waiting} (sights : List ℕ) → WaitingIs a now (sort_in wait) (cells_in cells 1 24) r
+    pub waits_not : {r : Maybe Waiting} (sights : List Sight) → WaitingIs a now (sort_in wait) (cells_in cells 1 24) r
         → r ≡ None → WalkIs a now n cells sights None
     unfolding WalkIs WaitingIs ReadsAs
     waits_not sights h g q w few = go q w
@@ -434,21 +446,20 @@ module _ (a : List ℕ) (now n : ℕ) (cells : List ℤ) where
         go (unit s p t v) w = there (unit s p t v) w
         go (both j l r) w = sort_not ag is_waiting w.0.is_sort
 
-    pub waits_of : {r : Maybe Waiting} {u : Waiting} {tree : Tree} (sights : List ℕ) → 24 ≤ length cells → 0 < n
-        → 2 ≤ length sights → WaitingIs a now (sort_in wait) (cells_in cells 1 24) r → r ≡ Some u
-        → tree.units ≡ 1 → tree.bits ≡ u.parties
-        → WalkIs a now n cells (set (set sights 0 u.params) 1 u.count) (Some tree)
+    pub waits_of : {r : Maybe Waiting} {u : Waiting} {bits : ℕ} (sights : List Sight) → 24 ≤ length cells → 0 < n
+        → WaitingIs a now (sort_in wait) (cells_in cells 1 24) r → r ≡ Some u → bits ≡ u.parties
+        → WalkIs a now n cells (Waits u.params u.count ∷ sights) (Some (record { units = 1; parties = bits }))
     unfolding WalkIs WaitingIs
-    waits_of {u = u} sights room Some-of two h g i j =
-        rw (i, j)
+    waits_of {u = u} sights room Some-of h g same =
         let w = rw g at h in
+        rw same
         record {
           residue = w.residue;
           reads = (reads_unit ag (sort_in wait) cells w.residue room is_waiting w.is).0;
           count = sym w.one;
           few = omega arith;
           parties = w.parties;
-          sighted = sights_put u.params u.count 0 sights two ∙ sym w.sights;
+          sighted = sym (sight_of w.residue w.one w.sights);
         }
 
   -- the sides
@@ -465,14 +476,14 @@ module _ (a : List ℕ) (now n : ℕ) (cells : List ℤ) where
       from_bind (residue_parties ag (mains_of a) now r) _ ps f₁ λ rs g _. none_some (sym e ∙ g)
 
   module _ {j : Join} (first : JoinsFirst j cells) where
-    pub left_damaged : (sights sights₂ : List ℕ) {w : Maybe Tree} → WalkIs a now (n - 1) (drop 24 cells) sights w
+    pub left_damaged : (sights sights₂ : List Sight) {w : Maybe Tree} → WalkIs a now (n - 1) (drop 24 cells) sights w
         → w ≡ None → WalkIs a now n cells sights₂ None
     unfolding WalkIs ReadsAs units
     left_damaged sights sights₂ h e (unit s p u v) q few = sort_not ag q.is_sort first.is_sort
     left_damaged sights sights₂ h e (both i l r) q few = let none_there = rw e at h in
         left_none i l r (none_there l q.1 (omega (arith, some_units r)))
 
-    pub right_damaged : (sights₂ sights₃ : List ℕ) {sights : List ℕ} {k x : ℕ} {w : Maybe Tree}
+    pub right_damaged : (sights₂ sights₃ : List Sight) {sights : List Sight} {k x : ℕ} {w : Maybe Tree}
         → TreeAs a now (n - 1) (drop 24 cells) sights k x
         → WalkIs a now (n - 1 - k) (drop (24 + 24 * k) cells) sights₂ w → w ≡ None
         → WalkIs a now n cells sights₃ None
@@ -484,19 +495,19 @@ module _ (a : List ℕ) (now n : ℕ) (cells : List ℤ) where
         right_none i l r (none_there r (subst (λ (y : ℕ). ReadsAs ag r (drop (24 + 24 * y) cells)) (sym same) q.2)
         (omega (arith, same)))
 
-pub tree_of : {a : List ℕ} {now n : ℕ} {cells : List ℤ} {sights : List ℕ} {w : Maybe Tree} {t : Tree}
-    → WalkIs a now n cells sights w → w ≡ Some t → TreeAs a now n cells sights t.units t.bits
+pub tree_of : {a : List ℕ} {now n : ℕ} {cells : List ℤ} {sights : List Sight} {w : Maybe Tree} {t : Tree}
+    → WalkIs a now n cells sights w → w ≡ Some t → TreeAs a now n cells sights t.units t.parties
 unfolding WalkIs
 tree_of h e = rw e at h
 
-pub tree_bits : {a : List ℕ} {now n : ℕ} {cells : List ℤ} {sights : List ℕ} {k x : ℕ}
-    → TreeAs a now n cells sights k x → x < 1_048_576
-tree_bits t = bits_below t.parties.parties t.parties.same
-
-module _ (a : List ℕ) (now n : ℕ) (j : Join) (cells : List ℤ) {sights : List ℕ} {left right : Tree} {bits : ℕ}
-    {ok : Bool} (t : SidesAs a now n j cells sights left right) (u : bits ≡ bit_or left.bits right.bits)
-    (o : (ps : List ℕ) → ((q : ℕ) → member q ps ≡ true → q < 16) → bits ≡ bits_of ps → ok ≡ join_ok j ps)
+module _ (a : List ℕ) (now n : ℕ) (join : kinds.Join) (cells : List ℤ) {sights : List Sight} {left right : Tree}
+    {bits : ℕ} {ok : Bool} (t : SidesAs a now n (join_in join) cells sights left right)
+    (u : bits ≡ bit_or left.parties right.parties)
+    (o : (ps : List ℕ) → ((q : ℕ) → member q ps ≡ true → q < 16) → bits ≡ bits_of ps → ok ≡ join_ok (join_in join) ps)
   where
+    abbrev j : Join
+    j = join_in join
+
     abbrev l : Residue
     l = t.of_left.residue
 
@@ -515,69 +526,73 @@ module _ (a : List ℕ) (now n : ℕ) (j : Join) (cells : List ℤ) {sights : Li
     allowed = o _ (both_small a now j t.of_left.parties t.of_right.parties u)
         (both_bits a now j t.of_left.parties t.of_right.parties u)
 
-    pub joins_not : ok ≡ false → (sights₂ : List ℕ) → WalkIs a now n cells sights₂ None
+    joins_not : ok ≡ false → (sights₂ : List Sight) → WalkIs a now n cells sights₂ None
     unfolding WalkIs
     joins_not g sights₂ q w few = subst (λ (z : Residue). residue_parties (agreement_of a) (mains_of a) now z ≡ none)
         (reads_same (agreement_of a) (both j l r) q cells whole_reads w)
         (both_none a now j t.of_left.parties t.of_right.parties u allowed g)
 
-    pub joins_both : ok ≡ true → 2 ≤ length sights → {tree : Tree} → tree.units ≡ 1 + left.units + right.units
-        → tree.bits ≡ bits → WalkIs a now n cells (set (set sights 0 left.units) 1 0) (Some tree)
-    unfolding WalkIs units sight_numbers
-    joins_both g two v w =
+    joins_both : ok ≡ true → WalkIs a now n cells (Joins join left.units ∷ sights)
+        (Some (record { units = 1 + left.units + right.units; parties = bits }))
+    unfolding WalkIs units sights_in
+    joins_both g =
         let k = left.units in
         let m = right.units in
-        rw (v, w)
         let more : 1 + k + m ≡ suc (k + m) = omega arith in
-        let twice : 2 * (k + m) ≡ 2 * k + 2 * m = omega arith in
         record {
           residue = both j l r;
           reads = whole_reads;
           count = omega (arith, t.of_left.count, t.of_right.count);
           few = omega (arith, t.some_units, t.of_left.few, t.of_right.few);
-          parties = both_parties a now j t.of_left.parties t.of_right.parties u allowed
-              g;
-          sighted = ap (λ (i : ℕ). take (2 * i) (set (set sights 0 k) 1 0)) more ∙ sights_put k 0 (k + m) sights two
-              ∙ ap₂ (λ (i : ℕ) (z : List ℕ). i ∷ 0 ∷ z) t.of_left.count
-              (ap (λ (i : ℕ). take i (drop 2 sights)) twice ∙ take-add (2 * k) (2 * m) (drop 2 sights)
-              ∙ ap₂ ◌++◌ t.of_left.sighted (ap (take (2 * m)) (drop-drop (2 * k) 2 sights)
-              ∙ t.of_right.sighted));
+          parties = both_parties a now j t.of_left.parties t.of_right.parties u allowed g;
+          sighted = ap (λ i. take i (Joins join k ∷ sights)) more
+              ∙ ap₂ (λ i x. Joins i x ∷ take (k + m) sights) (sym (same_join join)) t.of_left.count
+              ∙ ap (λ xs. Joins (join_as j) (units l) ∷ xs)
+              (take-add k m sights ∙ ap₂ ◌++◌ t.of_left.sighted t.of_right.sighted);
         }
 
--- ---- the sights, lent from i on
-abbrev pub lent : ℕ → List ℕ → List ℕ → List ℕ
+    pub joined_is : {r : Maybe Tree}
+        → r ≡ then_some ok (record { units = 1 + left.units + right.units; parties = bits })
+        → WalkIs a now n cells (Joins join left.units ∷ sights) r
+    joined_is e = by_then (WalkIs a now n cells (Joins join left.units ∷ sights)) e joins_both (λ g. joins_not g _)
+
+-- in the rest of the cells
+pub rest_walk : (a : List ℕ) (now : ℕ) (out : List Sight) (w : Maybe Tree) (k : ℕ) (cells : List ℤ) {m n : ℕ}
+    → WalkIs a now m (take (length cells - k) (drop k cells)) out w → m ≡ n → WalkIs a now n (drop k cells) out w
+rest_walk a now out w k cells h e = rw (part_from k cells, e) at h
+
+-- with more sights behind those of the units
+pub more_sights : (a : List ℕ) (now n : ℕ) (cells : List ℤ) (sights more : List Sight) (w : Maybe Tree)
+    → n ≤ length sights → WalkIs a now n cells sights w → WalkIs a now n cells (sights ++ more) w
+unfolding WalkIs
+more_sights a now n cells sights more None h k = k
+more_sights a now n cells sights more (Some t) h k = record {
+  residue = k.residue;
+  reads = k.reads;
+  count = k.count;
+  few = k.few;
+  parties = k.parties;
+  sighted = take-append-le t.units sights more (omega (arith, k.few)) ∙ k.sighted;
+}
+
+-- ---- the sights behind the first, lent from i on
+abbrev pub lent : ℕ → List Sight → List Sight → List Sight
 lent i xs ys = put_mid i (length xs - i) xs ys
 
-module _ (i : ℕ) (xs ys : List ℕ) (h : i ≤ length xs) where
-  pub lent_back : drop i (lent i xs ys) ≡ ys
+module _ (i : ℕ) (xs ys : List Sight) (h : i ≤ length xs) where
+  lent_back : drop i (lent i xs ys) ≡ ys
   lent_back = ap (drop i) (tail_put i xs ys h) ∙ drop_at (take i xs) ys i (length-take-le i xs h)
 
-  pub lent_length : length ys ≡ length xs - i → length (lent i xs ys) ≡ length xs
-  lent_length e = ap length (tail_put i xs ys h) ∙ length-append (take i xs) ys ∙ omega (arith, length-take-le i xs h)
-
-  pub lent_front : (k : ℕ) → i ≡ 2 + 2 * k → take (2 * k) (drop 2 (lent i xs ys)) ≡ take (2 * k) (drop 2 xs)
-  lent_front k e =
-      let less : i - 2 ≡ 2 * k = omega arith in
-      ap (λ (z : List ℕ). take (2 * k) (drop 2 z)) (tail_put i xs ys h)
-      ∙ ap (take (2 * k)) (drop-append-le 2 (take i xs) ys (omega (arith, length-take-le i xs h))
-      ∙ ap (λ (z : List ℕ). z ++ ys) (take_drop 2 i xs ∙ ap (λ (j : ℕ). take j (drop 2 xs)) less))
-      ∙ take_at (take (2 * k) (drop 2 xs)) ys (2 * k)
-      (length-take-le (2 * k) (drop 2 xs) (omega (arith, length-drop 2 xs)))
-
-  pub lent_room : 2 ≤ i → 2 ≤ length (lent i xs ys)
-  lent_room e = rw (tail_put i xs ys h) (omega (arith, length-append (take i xs) ys, length-take-le i xs h))
+  lent_front : take i (lent i xs ys) ≡ take i xs
+  lent_front = ap (take i) (tail_put i xs ys h) ∙ take_at (take i xs) ys i (length-take-le i xs h)
 
 -- both sides, in the sights that were lent to each
-pub sides_read : {a : List ℕ} {now n : ℕ} {j : Join} {cells : List ℤ} (left right : Tree) (sights ls rs : List ℕ)
-    → JoinsFirst j cells → 0 < n → 2 + 2 * left.units ≤ length sights → length ls ≡ length sights - 2
-    → TreeAs a now (n - 1) (drop 24 cells) ls left.units left.bits
-    → TreeAs a now (n - 1 - left.units) (drop (24 + 24 * left.units) cells) rs right.units right.bits
-    → SidesAs a now n j cells (lent (2 + 2 * left.units) (lent 2 sights ls) rs) left right
-sides_read left right sights ls rs first Some-of room long l r =
-    let k = left.units in
-    let two : 2 ≤ length sights = omega arith in
-    let same : length (lent 2 sights ls) ≡ length sights = lent_length 2 sights ls two long in
-    let enough : 2 + 2 * k ≤ length (lent 2 sights ls) = omega (arith, same) in
+pub sides_read : {a : List ℕ} {now n : ℕ} {j : Join} {cells : List ℤ} (left right : Tree) (ls rs : List Sight)
+    → JoinsFirst j cells → 0 < n → left.units ≤ length ls
+    → TreeAs a now (n - 1) (drop 24 cells) ls left.units left.parties
+    → TreeAs a now (n - 1 - left.units) (drop (24 + 24 * left.units) cells) rs right.units right.parties
+    → SidesAs a now n j cells (lent left.units ls rs) left right
+sides_read left right ls rs first Some-of room l r =
     record {
       joins = first;
       some_units = Some-of;
@@ -587,8 +602,7 @@ sides_read left right sights ls rs first Some-of room long l r =
         count = l.count;
         few = l.few;
         parties = l.parties;
-        sighted = lent_front (2 + 2 * k) (lent 2 sights ls) rs enough k refl
-            ∙ ap (take (2 * k)) (lent_back 2 sights ls two) ∙ l.sighted;
+        sighted = lent_front left.units ls rs room ∙ l.sighted;
       };
-      of_right = rw (lent_back (2 + 2 * k) (lent 2 sights ls) rs enough) r;
+      of_right = rw (lent_back left.units ls rs room) r;
     }

@@ -1,5 +1,5 @@
 -- The state that a table shows.
-use Rattle.std.specs.Prelude.{◌≡◌, List, ℕ, ◌*◌, ◌≤◌, ◌<◌, T, ℤ, pos, get_or, take, drop}
+use Rattle.std.specs.Prelude.{◌≡◌, List, ℕ, ◌≤◌, ◌<◌, T, ℤ, pos, get_or, take, drop}
 use Rattle.std.specs.Prelude.{Option as Maybe, Some, None}
 use Rattle.std.proofs.Math.Option.{Option, none, some}
 use Rattle.csl.specs.Lists.{all}
@@ -9,7 +9,8 @@ use Rattle.csl.specs.Decode.{agreement_of}
 use Rattle.csl.specs.Outcomes.{Residue, units, Outcome, done, breach, running}
 use Rattle.csl.specs.Table.{Run, is_zero, run_of}
 use Rattle.csl.specs.Check.{mains_of}
-use Rattle.units.specs.Units.{sight_numbers}
+use Rattle.cells.specs.Sights.{sights_in}
+use Rattle.cells.specs.declared.Sight.{Sight}
 use Rattle.state.specs.declared.State.{State}
 use Rattle.state.specs.declared.State.TheVariants.{Running, Fulfilled, Breached}
 
@@ -20,24 +21,23 @@ pub record RunShows (o : Option Run) (cells : List ℤ) (out : Outcome) : Type 0
   pub is : o ≡ some (record { last_time = now; last_moved = moved; outcome = out })
   pub cell : get_or cells 1 (pos 0) ≡ pos now
 
--- running with n units; the sights hold two numbers for each unit: its party parameters and its values in sight, or
--- for a join the units of its left side and 0
-pub record RunningAs (o : Option Run) (cells : List ℤ) (sights : List ℕ) (n : ℕ) : Type 0 where
+-- running with n units, which the sights show too
+pub record RunningAs (o : Option Run) (cells : List ℤ) (sights : List Sight) (n : ℕ) : Type 0 where
   pub residue : Residue
   pub shows : RunShows o cells (running residue)
   pub count : n ≡ units residue
   pub few : n ≤ 128
-  pub sighted : take (2 * n) sights ≡ sight_numbers residue
+  pub sighted : take n sights ≡ sights_in residue
 
 pub record BreachedAs (o : Option Run) (cells : List ℤ) (time bits : ℕ) : Type 0 where
   pub small : bits < 65_536
   pub shows : RunShows o cells (breach time (members bits))
 
-unfoldable pub Shows : Option Run → List ℤ → List ℕ → Maybe State → Type 0
+unfoldable pub Shows : Option Run → List ℤ → List Sight → Maybe State → Type 0
 Shows o cells sights None = o ≡ none
 Shows o cells sights (Some (Running n)) = RunningAs o cells sights n
 Shows o cells sights (Some Fulfilled) = RunShows o cells done
-Shows o cells sights (Some (Breached t bits)) = BreachedAs o cells t bits
+Shows o cells sights (Some (Breached b)) = BreachedAs o cells b.time b.parties
 
 -- the run that csl reads
 abbrev pub run_in : List ℕ → List ℤ → Option Run
@@ -65,5 +65,5 @@ pub record HeadAt (a : List ℕ) (cells : List ℤ) (state time : ℕ) : Type 0 
 
 -- what a table with a fulfilled state shows
 abbrev pub FulfilledIs : List ℤ → Maybe State → Type 0
-FulfilledIs cells r = (a : List ℕ) (time : ℕ) (sights : List ℕ) → HeadAt a cells 2 time
+FulfilledIs cells r = (a : List ℕ) (time : ℕ) (sights : List Sight) → HeadAt a cells 2 time
     → Shows (run_in a cells) cells sights r

@@ -5,12 +5,13 @@ ghost use Rattle.std.specs.Prelude.{◌≡◌, true, List, ℕ, ◌≤◌, ◌<�
 ghost use Rattle.csl.specs.Parties.{member, bits_of};
 ghost use Rattle.csl.specs.Typing.{join_ok};
 ghost use Rattle.kinds.specs.Kinds.{join_in};
-ghost use Rattle.state.specs.Tree.{UnitFirst, TreeRoom, FirstIs, JoinedIs, WalkIs};
+ghost use Rattle.cells.specs.declared.Sight.{Sight};
+ghost use Rattle.state.specs.Tree.{UnitFirst, UnitIs, TreeRoom, FirstIs, JoinedIs, WalkIs};
 ghost use Rattle.state.specs.Shown.{Shows, run_in, HeadAt, TimeIs, FulfilledIs};
 
-use cells::{HEAD_CELLS, LAST_MOVED, LAST_TIME, TABLE_CELLS, UNIT_CELLS};
+use cells::{HEAD_CELLS, LAST_MOVED, LAST_TIME, Sight, TABLE_CELLS, UNIT_CELLS};
 use kinds::{Join, WaitKind};
-use parties::{is_subset, member_count, union};
+use parties::{Breach, PartySet};
 use places::Accepted;
 use records::Agreement;
 use units::{number_below, waiting_unit, zeros};
@@ -31,68 +32,68 @@ enum First {
     Joins(Join),
 }
 
-// A tree of units at the front: how many they are, and its parties by bit.
+// A tree of units at the front: how many they are, and its parties.
 #[derive(Clone, Copy, Debug, PartialEq, Eq)]
 struct Tree {
     units: usize,
-    bits: usize,
+    parties: PartySet,
 }
 
-// What a table shows: running with so many units, fulfilled, or breached at a time by parties by bit.
+// What a table shows: running with so many units, fulfilled, or breached.
 #[derive(Clone, Copy, Debug, PartialEq, Eq)]
 pub enum State {
     Running(usize),
     Fulfilled,
-    Breached { time: usize, parties: usize },
+    Breached(Breach),
 }
 
-// A waiting unit at the front of the cells.
+// A waiting unit at the front of the cells, and what is in sight there.
 fn read_unit(
     accepted: &Accepted<'_>,
     time: usize,
     wait: WaitKind,
     cells: &[i64],
-    sights: &mut [usize],
+    sight: &mut Sight,
 ) -> Option<Tree>
-    requires { UnitFirst time wait cells.now sights.old }
-    ensures { (n : ℕ) → 0 < n → WalkIs accepted.now time n cells.now sights.new result }
+    requires { UnitFirst time wait cells.now }
+    ensures { UnitIs accepted.now time cells.now sight.new result }
 {
     let unit = waiting_unit(accepted, time, wait, &cells[1..UNIT_CELLS])?;
-    sights[0] = unit.params;
-    sights[1] = unit.count;
+    *sight = Sight::Waits {
+        params: unit.params,
+        values: unit.count,
+    };
     Some(Tree {
         units: 1,
-        bits: unit.parties,
+        parties: unit.parties,
     })
 }
 
 // 'The two sides of an `or` together have at most one member': of the parties of both sides.
-fn join_ok(join: Join, bits: usize) -> bool
-    requires { bits < 1_048_576 }
-    ensures { (ps : List ℕ) → ((q : ℕ) → member q ps ≡ true → q < 16) → bits ≡ bits_of ps → result ≡ join_ok (join_in join) ps }
+fn join_ok(join: Join, parties: PartySet) -> bool
+    ensures { (ps : List ℕ) → ((q : ℕ) → member q ps ≡ true → q < 16) → parties ≡ bits_of ps → result ≡ join_ok (join_in join) ps }
 {
     match join {
         Join::And => true,
-        Join::Or => member_count(bits) <= 1,
+        Join::Or => parties.count() <= 1,
     }
 }
 
-// A join of two sides; where its right side begins goes into the sights.
-fn read_join(join: Join, left: Tree, right: Tree, sights: &mut [usize]) -> Option<Tree>
-    requires bits { (left.bits < 1_048_576) × (right.bits < 1_048_576) }
-    requires units { (left.units ≤ 128) × (right.units ≤ 128) × (2 ≤ length sights.old) }
-    ensures { JoinedIs (join_in join) left right sights.old sights.new result }
+// A join of two sides.
+fn read_join(join: Join, left: Tree, right: Tree, sight: &mut Sight) -> Option<Tree>
+    requires { (left.units ≤ 128) × (right.units ≤ 128) }
+    ensures { JoinedIs join left right sight.new result }
 {
-    let bits = union(left.bits, right.bits);
-    if !join_ok(join, bits) {
-        return None;
-    }
-    sights[0] = left.units;
-    sights[1] = 0;
-    Some(Tree {
+    *sight = Sight::Joins {
+        join,
+        left: left.units,
+    };
+    let parties = left.parties | right.parties;
+    let tree = Tree {
         units: 1 + left.units + right.units,
-        bits,
-    })
+        parties,
+    };
+    join_ok(join, parties).then_some(tree)
 }
 
 // The first unit, by its kind; a join's other cells are zero.
@@ -105,136 +106,98 @@ fn first_unit(cells: &[i64]) -> Option<First>
         return Some(First::Waits(wait));
     }
     let join = Join::try_from(kind).ok()?;
-    if !zeros(&cells[1..UNIT_CELLS]) {
-        return None;
-    }
-    Some(First::Joins(join))
+    zeros(&cells[1..UNIT_CELLS]).then_some(First::Joins(join))
 }
 
-// The tree at the front of n units: a unit that waits, or a join with its left side behind it and then its right side.
+// The tree at the front of units, as many as there are sights: a unit that waits, or a join with its left side behind
+// it and then its right side.
 fn walk_tree(
     accepted: &Accepted<'_>,
     time: usize,
     cells: &[i64],
-    n: usize,
-    sights: &mut [usize],
+    sights: &mut [Sight],
 ) -> Option<Tree>
-    requires { TreeRoom time n cells.now sights.old }
-    ensures { WalkIs accepted.now time n cells.now sights.new result }
+    requires { TreeRoom time (length sights.old) cells.now }
+    ensures { WalkIs accepted.now time (length sights.old) cells.now sights.new result }
 {
-    if n == 0 {
-        return None;
-    }
+    let (sight, rest) = sights.split_first_mut()?;
     match first_unit(cells)? {
-        First::Waits(wait) => read_unit(accepted, time, wait, cells, sights),
+        First::Waits(wait) => read_unit(accepted, time, wait, cells, sight),
         First::Joins(join) => {
-            let rest = &cells[UNIT_CELLS..];
-            let m = n - 1;
-            let left = walk_tree(accepted, time, rest, m, &mut sights[2..])?;
+            let left = walk_tree(accepted, time, &cells[UNIT_CELLS..], rest)?;
             let more = &cells[UNIT_CELLS + UNIT_CELLS * left.units..];
-            let at = 2 + 2 * left.units;
-            let i = m - left.units;
-            let right = walk_tree(accepted, time, more, i, &mut sights[at..])?;
-            read_join(join, left, right, sights)
+            let right = walk_tree(accepted, time, more, &mut rest[left.units..])?;
+            read_join(join, left, right, sight)
         }
     }
 }
 
 // Fulfilled: all other cells are zero.
-fn fulfilled(table: &[i64]) -> Option<State>
-    requires { length table.now ≡ 3080 }
+fn fulfilled(table: &[i64; TABLE_CELLS]) -> Option<State>
     ensures { FulfilledIs table.now result }
 {
-    if !zeros(&table[2..4]) {
-        return None;
-    }
-    if !zeros(&table[4..5]) {
-        return None;
-    }
-    if !zeros(&table[HEAD_CELLS..TABLE_CELLS]) {
-        return None;
-    }
-    Some(State::Fulfilled)
+    let is_sound = zeros(&table[2..5]) && zeros(&table[HEAD_CELLS..]);
+    is_sound.then_some(State::Fulfilled)
 }
 
 // Breached: by someone of the main clause, at a time from the start to the last reading time.
-fn breached(accepted: &Accepted<'_>, time: usize, table: &[i64]) -> Option<State>
-    requires { (length table.now ≡ 3080) × HeadAt accepted.now table.now 3 time }
-    ensures { (sights : List ℕ) → Shows (run_in accepted.now table.now) table.now sights result }
+fn breached(accepted: &Accepted<'_>, time: usize, table: &[i64; TABLE_CELLS]) -> Option<State>
+    requires { HeadAt accepted.now table.now 3 time }
+    ensures { (sights : List Sight) → Shows (run_in accepted.now table.now) table.now sights result }
 {
-    let when = number_below(table[2], time + 1)?;
-    if when < accepted.agreement().start() {
-        return None;
-    }
+    let when = number_below(table[2], TIMES)?;
     let bits = number_below(table[3], PARTIES)?;
-    if bits == 0 {
-        return None;
-    }
-    if !is_subset(bits, accepted.mains()) {
-        return None;
-    }
-    if !zeros(&table[4..5]) {
-        return None;
-    }
-    if !zeros(&table[HEAD_CELLS..TABLE_CELLS]) {
-        return None;
-    }
-    Some(State::Breached {
+    let parties = PartySet::of_bits(bits);
+    let mains = accepted.mains();
+    let is_sound = (accepted.agreement().start()..=time).contains(&when)
+        && !parties.is_empty()
+        && parties.is_subset(mains)
+        && zeros(&table[4..5])
+        && zeros(&table[HEAD_CELLS..]);
+    let breach = Breach {
         time: when,
-        parties: bits,
-    })
+        parties,
+    };
+    is_sound.then_some(State::Breached(breach))
 }
 
 // Running: the units show one residue.
 fn running(
     accepted: &Accepted<'_>,
     time: usize,
-    table: &[i64],
-    sights: &mut [usize],
+    table: &[i64; TABLE_CELLS],
+    sights: &mut [Sight],
 ) -> Option<State>
-    requires room { (length table.now ≡ 3080) × (256 ≤ length sights.old) }
+    requires room { 128 ≤ length sights.old }
     requires head_at { HeadAt accepted.now table.now 1 time }
     ensures { Shows (run_in accepted.now table.now) table.now sights.new result }
 {
-    if !zeros(&table[2..4]) {
-        return None;
-    }
-    let n = number_below(table[4], COUNTS)?;
-    let units = &table[HEAD_CELLS..TABLE_CELLS];
-    let tree = walk_tree(accepted, time, units, n, sights)?;
-    if tree.units != n {
-        return None;
-    }
-    if !zeros(&table[HEAD_CELLS + UNIT_CELLS * n..TABLE_CELLS]) {
-        return None;
-    }
-    Some(State::Running(n))
+    let used = number_below(table[4], COUNTS)?;
+    let tree = walk_tree(accepted, time, &table[HEAD_CELLS..], &mut sights[..used])?;
+    let is_sound = tree.units == used
+        && zeros(&table[2..4])
+        && zeros(&table[HEAD_CELLS + UNIT_CELLS * used..]);
+    is_sound.then_some(State::Running(used))
 }
 
 // The last reading time; the run last moved from the start to it.
-fn last_time(agreement: &Agreement<'_>, table: &[i64]) -> Option<usize>
-    requires { length table.now ≡ 3080 }
+fn last_time(agreement: &Agreement<'_>, table: &[i64; TABLE_CELLS]) -> Option<usize>
     ensures { TimeIs agreement.now table.now result }
 {
     let time = number_below(table[LAST_TIME], TIMES)?;
     let moved = number_below(table[LAST_MOVED], TIMES)?;
-    if time < moved {
-        return None;
-    }
-    if moved < agreement.start() {
-        return None;
-    }
-    if !zeros(&table[LAST_MOVED + 1..HEAD_CELLS]) {
-        return None;
-    }
-    Some(time)
+    let is_sound = (agreement.start()..=time).contains(&moved)
+        && zeros(&table[LAST_MOVED + 1..HEAD_CELLS]);
+    is_sound.then_some(time)
 }
 
-// The state that a table shows, where it shows one. The sights get two numbers for each unit: its party parameters and
-// its values in sight, or for a join the units of its left side and 0. (They stay numbers: who steps the units reads
-// them by unit, as it reads the cells.)
-pub fn state_of(accepted: &Accepted<'_>, table: &[i64], sights: &mut [usize]) -> Option<State>
-    requires { (length table.now ≡ 3080) × (256 ≤ length sights.old) }
+// The state that a table shows, where it shows one; a running run's units go into the sights.
+pub fn state_of(
+    accepted: &Accepted<'_>,
+    table: &[i64; TABLE_CELLS],
+    sights: &mut [Sight],
+) -> Option<State>
+    requires { 128 ≤ length sights.old }
     ensures { Shows (run_in accepted.now table.now) table.now sights.new result }
 {
     let time = last_time(accepted.agreement(), table)?;

@@ -1,1 +1,3 @@
 pub mod Says
+pub mod Shows
+pub mod Tells

@@ -1,14 +1,17 @@
 // The line that a start or a reading tells.
 #![tactic(auto)]
 
-ghost use Rattle.std.specs.Prelude.{◌≡◌, ◌∷◌, ◌++◌, ◌+◌, ◌≤◌, pos, length, get_or};
-ghost use Rattle.lines.specs.Text.{decimal, fields, line, space, dash};
-ghost use Rattle.lines.specs.Lines.{forecast_fields, verdict_fields, reading_time, refusal_fields};
-ghost use Rattle.lines.specs.Put.{Put};
-ghost use Rattle.monitor.specs.Answers.{forecast_answer};
-ghost use Rattle.telling.specs.Told.{line_room, Begins, Follows};
+ghost use Rattle.std.specs.Prelude.{◌≡◌, [], ◌∷◌, ◌++◌, ◌≤◌, eqb, not, is_some, length};
+ghost use Rattle.csl.specs.Entries.{forecast_of};
+ghost use Rattle.lines.specs.Text.{fields, newline};
+ghost use Rattle.lines.specs.Lines.{forecast_fields, verdict_fields, reading_time};
+ghost use Rattle.lines.specs.Put.{put};
+ghost use Rattle.lines.specs.Shown.{shown_time};
+ghost use Rattle.monitor.specs.Answers.{number_of};
+ghost use Rattle.telling.specs.Told.{Begins, Follows};
+ghost use Rattle.telling.specs.Verdicts.{shown_breach, shown_forecast, shown_verdict};
 
-use lines::{put_bytes, put_decimal, put_next, put_refusal};
+use lines::{Line, Page, Put};
 use monitor::{Breach, Refusal, Refused};
 use octets::unsigned32;
 use records::START_AT;
@@ -16,140 +19,131 @@ use records::START_AT;
 // No line is longer.
 pub const LINE_ROOM: usize = 96;
 
-// A forecast's time and parties, or NONE, and the line's end.
-fn put_forecast(out: &mut [u8], at: usize, foretold: Result<Option<Breach>, Refusal>) -> usize
-    requires { at + 43 ≤ length out.old }
-    ensures puts { Put (fields (forecast_fields (forecast_answer foretold))) out.old at out.new result }
-    ensures room { result ≤ at + 43 }
-{
-    match foretold {
-        Ok(Some(Breach { time, parties })) => {
-            let a = put_next(out, at, time);
-            let b = put_next(out, a, parties as u64);
-            put_bytes(out, b, b"\n")
+// What the entry `forecast` answers. A table that start or a reading left has a forecast, so that no refusal occurs
+// here, and nothing is shown for it.
+#[derive(Clone, Copy, Debug, PartialEq, Eq)]
+pub struct Forecast(pub Result<Option<Breach>, Refusal>);
+
+impl Put for Forecast {
+    ghost text = { shown_forecast };
+
+    fn put_on(&self, page: &mut Page) {
+        match self.0 {
+            Ok(Some(breach)) => put_breach(breach, page),
+            Ok(None) => page.put_bytes(b" NONE"),
+            Err(_) => page.put_bytes(b""),
         }
-        Ok(None) => put_bytes(out, at, b" NONE\n"),
-        Err(_) => put_bytes(out, at, b"\n"),
     }
 }
 
-// The table's first cell.
-fn state_of(table: &[i64]) -> i64
-    ensures { result ≡ get_or table.now 0 (pos 0) }
+// The time, and the parties by bit.
+fn put_breach(breach: Breach, page: &mut Page)
+    ensures { page.new ≡ put page.old (shown_breach breach) }
 {
-    if table.len() > 0 { table[0] } else { 0 }
+    page.put_next(breach.time);
+    page.put_next(breach.parties as u64);
 }
 
-// The word for a table's state, and the forecast unless it is fulfilled.
-fn put_verdict(out: &mut [u8], at: usize, agreement: &[u8], table: &[i64]) -> usize
-    requires { at + 50 ≤ length out.old }
-    ensures puts { Put (fields (verdict_fields agreement.now table.now)) out.old at out.new result }
-    ensures room { result ≤ at + 50 }
+// What a table says: it runs or is breached, with its forecast, or it is fulfilled.
+#[derive(Clone, Copy, Debug, PartialEq, Eq)]
+pub enum Verdict {
+    Live(Forecast),
+    Done,
+    Breach(Forecast),
+}
+
+impl Put for Verdict {
+    ghost text = { shown_verdict };
+
+    fn put_on(&self, page: &mut Page) {
+        match *self {
+            Verdict::Live(forecast) => {
+                page.put_bytes(b"LIVE");
+                forecast.put_on(page);
+            }
+            Verdict::Done => page.put_bytes(b"DONE"),
+            Verdict::Breach(forecast) => {
+                page.put_bytes(b"BREACH");
+                forecast.put_on(page);
+            }
+        }
+    }
+}
+
+fn forecast_on(agreement: &[u8], table: &[i64]) -> Forecast
+    ensures shows { shown_forecast result ++ (newline ∷ []) ≡ fields (forecast_fields (forecast_of agreement.now table.now)) }
+    ensures room { length (shown_forecast result) ≤ 42 }
 {
-    let state = state_of(table);
+    Forecast(monitor::forecast(agreement, table))
+}
+
+// The verdict on a table, by its state: 2 is fulfilled, and 1 runs.
+fn verdict_on(agreement: &[u8], table: &[i64]) -> Verdict
+    ensures shows { fields (shown_verdict result ∷ []) ≡ fields (verdict_fields agreement.now table.now) }
+    ensures room { length (shown_verdict result) ≤ 48 }
+{
+    let state = table.first().copied().unwrap_or(0);
     if state == 2 {
-        return put_bytes(out, at, b" DONE\n");
+        return Verdict::Done;
     }
-    let foretold = monitor::forecast(agreement, table);
+    let forecast = forecast_on(agreement, table);
     if state == 1 {
-        let a = put_bytes(out, at, b" LIVE");
-        return put_forecast(out, a, foretold);
+        return Verdict::Live(forecast);
     }
-    let a = put_bytes(out, at, b" BREACH");
-    put_forecast(out, a, foretold)
+    Verdict::Breach(forecast)
 }
 
-// A line's number and time.
-fn put_time(out: &mut [u8], at: usize, n: u64, time: usize) -> usize
-    requires { at + 41 ≤ length out.old }
-    ensures puts { Put (decimal n ++ (space ∷ decimal time)) out.old at out.new result }
-    ensures room { result ≤ at + 41 }
-{
-    let a = put_decimal(out, at, n);
-    put_next(out, a, time as u64)
-}
-
-// A line's number, and `-` for a record that has no time.
-fn put_timeless(out: &mut [u8], at: usize, n: u64) -> usize
-    requires { at + 22 ≤ length out.old }
-    ensures puts { Put (decimal n ++ (space ∷ dash)) out.old at out.new result }
-    ensures room { result ≤ at + 22 }
-{
-    let a = put_decimal(out, at, n);
-    put_bytes(out, a, b" -")
-}
-
-// Whether to go on, and how many bytes of the output's buffer are in use.
-#[derive(Clone, Copy)]
-pub struct Told {
-    pub go: bool,
-    pub at: usize,
-}
-
-// The agreement is started, and its line put.
-pub fn begin(agreement: &[u8], table: &mut [i64], out: &mut [u8]) -> Told
-    requires { line_room ≤ length out.old }
-    ensures { Begins agreement.now table.old table.new out.old out.new result }
+// Starts the agreement.
+pub fn begin(agreement: &[u8], table: &mut [i64]) -> Line<Verdict>
+    ensures { Begins agreement.now table.old table.new result }
 {
     match monitor::start(agreement, table) {
-        Err(why) => {
-            let a = put_timeless(out, 0, 0);
-            Told {
-                go: false,
-                at: put_refusal(out, a, u32::from(why)),
-            }
-        }
-        Ok(()) => {
-            let a = put_time(out, 0, 0, unsigned32(agreement, START_AT));
-            Told {
-                go: true,
-                at: put_verdict(out, a, agreement, table),
-            }
-        }
+        Ok(()) => Line {
+            number: 0,
+            time: Some(unsigned32(agreement, START_AT)),
+            says: Ok(verdict_on(agreement, table)),
+        },
+        Err(why) => Line {
+            number: 0,
+            time: None,
+            says: Err(u32::from(why)),
+        },
     }
 }
 
-// The line of a refused reading: one refused with 8 has no time.
-fn put_refused(out: &mut [u8], at: usize, n: u64, reading: &[u8], number: u32) -> usize
-    requires { at + line_room ≤ length out.old }
-    ensures puts { Put (line n (reading_time reading.now number ∷ refusal_fields number)) out.old at out.new result }
-    ensures room { result ≤ at + line_room }
-{
-    if number == 8 {
-        let a = put_timeless(out, at, n);
-        return put_refusal(out, a, number);
-    }
-    let a = put_time(out, at, n, unsigned32(reading, 4));
-    put_refusal(out, a, number)
-}
-
-// One reading: taken, and its line put.
-pub fn follow(
-    agreement: &[u8],
-    table: &mut [i64],
-    reading: &[u8],
-    out: &mut [u8],
-    at: usize,
-    n: u64,
-) -> Told
-    requires { at + line_room ≤ length out.old }
-    ensures { Follows agreement.now table.old table.new n
-        reading.now out.old at out.new result }
+// Takes a reading.
+pub fn follow(agreement: &[u8], table: &mut [i64], reading: &[u8], number: u64) -> Line<Verdict>
+    ensures { Follows agreement.now table.old table.new number reading.now result }
 {
     match monitor::reading(agreement, table, reading) {
-        Err(Refused { why, cost: _ }) => {
-            let number = u32::from(why);
-            Told {
-                at: put_refused(out, at, n, reading, number),
-                go: number != 8,
-            }
-        }
-        Ok(_) => {
-            let a = put_time(out, at, n, unsigned32(reading, 4));
-            Told {
-                go: true,
-                at: put_verdict(out, a, agreement, table),
-            }
-        }
+        Ok(_) => Line {
+            number,
+            time: Some(unsigned32(reading, 4)),
+            says: Ok(verdict_on(agreement, table)),
+        },
+        Err(Refused { why, cost: _ }) => Line {
+            number,
+            time: time_of(reading, why),
+            says: Err(u32::from(why)),
+        },
     }
+}
+
+// The time of a refused reading: bytes that are no reading have none.
+fn time_of(reading: &[u8], why: Refusal) -> Option<usize>
+    ensures shows { shown_time result ≡ reading_time reading.now (number_of why) }
+    ensures some { is_some result ≡ not (eqb (number_of why) 8) }
+    ensures room { length (shown_time result) ≤ 20 }
+{
+    match why {
+        Refusal::ReadingForm => None,
+        _ => Some(unsigned32(reading, 4)),
+    }
+}
+
+// Whether the run goes on behind a line: a refused start, and bytes that are no reading, have no time and end it.
+pub fn goes_on(line: &Line<Verdict>) -> bool
+    ensures { result ≡ is_some line.now.time }
+{
+    line.time.is_some()
 }

@@ -27,10 +27,10 @@ use Rattle.kinds.specs.declared.«Type».{«Type»}
 use Rattle.kinds.specs.Kinds.{ty_in}
 use Rattle.records.specs.Index.{ValueTypes, head_at, piece_at, template_place}
 use Rattle.records.proofs.Index.{heads_in_lem, heads_at, heads_past}
-use Rattle.parties.specs.Masks.{mask_of, mask_end, may_blame, BlameMask}
+use Rattle.parties.specs.Masks.{mask_of, may_blame}
 use Rattle.parties.proofs.Masks.{mask_lt, mask_nil, mask_append, mask_members}
 use Rattle.typing.specs.Clauses.{names_in, is_typed, arguments_as, arguments_of, blames_of, typed_as}
-use Rattle.typing.proofs.Sights.{has_is, parties_is}
+use Rattle.typing.proofs.Sights.{has_is, parties_is, not_there, there}
 
 -- ---- parties that code has found
 pub from_typed : {C : Type 0} (o : Option (List ℕ)) {m : ℕ} → Some m ≡ typed_as o
@@ -47,9 +47,6 @@ from_untyped (some ps) e = impossible cc
 pub untyped : {o : Option (List ℕ)} → o ≡ none → None ≡ typed_as o
 unfolding typed_as
 untyped e = rw e
-
-pub small_typed : (o : Option (List ℕ)) {m : ℕ} → Some m ≡ typed_as o → m < mask_end
-small_typed o e = from_typed o e (λ ps h i. omega (arith, mask_lt ps))
 
 -- ---- arguments
 go : (b : Bool) (o : Option (Unit {0})) (n : ℕ) → arguments_as (need b >>= λ _. o) n ≡ cond b (arguments_as o n) None
@@ -131,33 +128,26 @@ module _ (ps params : ℕ) (bs : List ℕ) where
   unfolding all
   blamed_none = record { allowed = refl; mask = sym mask_nil }
 
-  pub blamed_small : {k m : ℕ} → Blamed k m → m < mask_end
-  blamed_small {k} x = omega (arith, x.mask, mask_lt (take k bs))
-
   pub blamed_all : {k m : ℕ} → length bs ≤ k → Blamed k m → Some m ≡ typed_as (blames_of ps params bs)
   unfolding blames_of typed_as need ◌>>=◌
   blamed_all {k} l x =
       let whole = take_all k bs l in
       rw (rw whole at x.allowed) (ap Some (rw whole at x.mask))
 
-  module _ {k b v : ℕ} (l : k < length bs) (p : b ≡ get_or bs k 0) (j : BlameMask ps params b v) where
-    pub blamed_off : v ≡ 0 → None ≡ typed_as (blames_of ps params bs)
+  module _ {k b : ℕ} (l : k < length bs) (p : b ≡ get_or bs k 0) where
+    pub blamed_off : None ≡ cond (may_blame ps params b) (Some (mask_of (b ∷ []))) None
+        → None ≡ typed_as (blames_of ps params bs)
     unfolding blames_of typed_as need ◌>>=◌
-    blamed_off z =
-        let may : may_blame ps params (get_or bs k 0) ≡ false =
-        rw p at (sym (not-not (may_blame ps params b)) ∙ ap not (sym j.refused ∙ eq-eqb v 0 z)) in
-        rw (all_off (may_blame ps params) bs k l may)
+    blamed_off j = rw (all_off (may_blame ps params) bs k l (rw p at (not_there (mask_of (b ∷ [])) j)))
 
-    pub blamed_more : {m r : ℕ} → (v ≡ 0 → ⊥) → Blamed k m
+    pub blamed_more : {m v r : ℕ} → Some v ≡ cond (may_blame ps params b) (Some (mask_of (b ∷ []))) None → Blamed k m
         → ((ps qs : List ℕ) → m ≡ mask_of ps → v ≡ mask_of qs → r ≡ mask_of (ps ++ qs)) → Blamed (k + 1) r
-    blamed_more z x u =
-        let may : may_blame ps params b ≡ true = sym (not-not (may_blame ps params b)) ∙ ap not
-        (sym j.refused ∙ ne_eqb v 0 z) in
-        let bit : v ≡ mask_of (b ∷ []) = j.is ∙ rw may in
+    blamed_more j x u =
+        let h = there j in
         let more : take (k + 1) bs ≡ take k bs ++ (b ∷ []) = rw (add-one k, p) (take-suc bs k 0 l) in
         record {
-          allowed = rw more (all_snoc (may_blame ps params) (take k bs) b x.allowed may);
-          mask = rw more (u (take k bs) (b ∷ []) x.mask bit);
+          allowed = rw more (all_snoc (may_blame ps params) (take k bs) b x.allowed h.0);
+          mask = rw more (u (take k bs) (b ∷ []) x.mask h.1);
         }
 
 -- ---- the value types of template k, as code has their bytes

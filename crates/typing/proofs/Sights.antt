@@ -26,7 +26,7 @@ use Rattle.records.proofs.Index.{readings_past}
 use Rattle.typing.specs.Types.{type_as, ty_as}
 use Rattle.typing.specs.Clauses.{names_in, seen_as, then_of, has, is_typed, wait_typed, wait_sight, first_sight}
 use Rattle.typing.specs.Clauses.{JoinedSight}
-use Rattle.parties.specs.Masks.{BlameMask, may_blame}
+use Rattle.parties.specs.Masks.{may_blame}
 use Rattle.typing.proofs.Exprs.{same_as}
 
 -- ---- no bytes are no expression
@@ -200,56 +200,51 @@ module _ (g bs : List ℕ) (d : ℕ) (s : List ℕ) (i : ℕ) {k : ℕ} (p : k �
     unfolding seen_as
     wait_no q = wait_is ∙ rw (sym told ∙ q)
 
+-- ---- what is there by a test
+pub not_there : {A : Type 0} {b : Bool} (x : A) → None ≡ cond b (Some x) None → b ≡ false
+not_there {b = b} x e = go b e
+  where
+    go : (b : Bool) → None ≡ cond b (Some x) None → b ≡ false
+    go true e = impossible cc
+    go false e = refl
+
+pub there : {A : Type 0} {b : Bool} {x y : A} → Some y ≡ cond b (Some x) None → (b ≡ true) × (y ≡ x)
+there {b = b} {x} {y} e = go b e
+  where
+    go : (b : Bool) → Some y ≡ cond b (Some x) None → (b ≡ true) × (y ≡ x)
+    go true e = (refl, cc)
+    go false e = impossible cc
+
 -- ---- what the first clause part sees
 module _ (g : List ℕ) (m : ℕ) (env : List Ty) (f : List ℕ → Expr) (k : ℕ) (s : List ℕ) where
-  module _ {b ps v : ℕ} (e : k ≡ 17) (h : ps ≡ byte g 8) (p : b ≡ byte s 4) (j : BlameMask ps m b v) where
-    blame_is : blame_ok (names_in g m) (byte s 4) ≡ not (eqb v 0)
-    unfolding blame_ok names_of
-    blame_is = rw (parties_is g, ← h, ← p, j.refused) (sym (not-not (may_blame ps m b)))
+  module _ (e : k ≡ 17) where
+    pub first_refused : may_blame (byte g 8) m (byte s 4) ≡ false → first_sight (names_in g m) env f k s ≡ none
+    unfolding first_sight ◌>>=◌ need blame_ok names_of
+    first_refused z = rw (e, parties_is g, z)
 
-    pub first_refused : v ≡ 0 → first_sight (names_in g m) env f k s ≡ seen_as None
-    unfolding first_sight seen_as ◌>>=◌ need
-    first_refused z = rw (e, blame_is, z)
-
-    pub first_wait : {t : Option (List Ty)} → (v ≡ 0 → ⊥) → wait_sight (names_in g 0) env (wait_at f 0 s 5) ≡ t
-        → first_sight (names_in g m) env f k s ≡ t
-    unfolding first_sight ◌>>=◌ need wait_sight type_wait names_of
-    first_wait z q = rw (e, blame_is, ne_eqb v 0 z) q
+    pub first_wait : {t : Option (List Ty)} → may_blame (byte g 8) m (byte s 4) ≡ true
+        → wait_sight (names_in g 0) env (wait_at f 0 s 5) ≡ t → first_sight (names_in g m) env f k s ≡ t
+    unfolding first_sight ◌>>=◌ need wait_sight type_wait blame_ok names_of agreement_of
+    first_wait z q = rw (e, parties_is g, z) q
 
   pub first_choice : {t : Option (List Ty)} → k ≡ 18 → wait_sight (names_in g 0) env (wait_at f 0 s 4) ≡ t
       → first_sight (names_in g m) env f k s ≡ t
   unfolding first_sight wait_sight type_wait names_of
   first_choice e q = rw e q
 
-  module _ {ps c : ℕ} {b : Bool} (e : k ≡ 19) (h : ps ≡ byte g 8) (p : c ≡ record_end s 4)
-      (q : b ≡ is_typed ps env (f (part s 4 c)) truth) where
-    pub first_untrue : b ≡ false → first_sight (names_in g m) env f k s ≡ seen_as None
-    unfolding first_sight seen_as ◌>>=◌ need names_of
-    first_untrue z = rw (
-      e,
-      has_is (agreement_of g).parties env (f (part s 4 (record_end s 4))) truth,
-      parties_is g,
-      ← h,
-      ← p,
-      ← q,
-      z,
-    )
+  module _ {c : ℕ} {b : Bool} (e : k ≡ 19) (p : c ≡ record_end s 4)
+      (q : b ≡ is_typed (byte g 8) env (f (part s 4 c)) truth) where
+    told_of : has_type (agreement_of g).parties env (f (part s 4 (record_end s 4))) truth ≡ need b
+    told_of = has_is (agreement_of g).parties env (f (part s 4 (record_end s 4))) truth ∙ rw (parties_is g, ← p, ← q)
 
-    pub first_true : {t : Option (List Ty)} → b ≡ true → some env ≡ t → first_sight (names_in g m) env f k s ≡ t
+    pub first_untrue : b ≡ false → first_sight (names_in g m) env f k s ≡ none
     unfolding first_sight ◌>>=◌ need names_of
-    first_true z t = rw (
-      e,
-      has_is (agreement_of g).parties env (f (part s 4 (record_end s 4))) truth,
-      parties_is g,
-      ← h,
-      ← p,
-      ← q,
-      z,
-    ) t
+    first_untrue z = rw (e, told_of, z)
 
-  pub first_join : {t : Option (List Ty)} → (k ≡ 17 → ⊥) × (k ≡ 18 → ⊥) × (k ≡ 19 → ⊥) → some env ≡ t
-      → first_sight (names_in g m) env f k s ≡ t
+    pub first_true : b ≡ true → first_sight (names_in g m) env f k s ≡ some env
+    unfolding first_sight ◌>>=◌ need names_of
+    first_true z = rw (e, told_of, z)
+
+  pub first_join : (k ≡ 17 → ⊥) → (k ≡ 18 → ⊥) → (k ≡ 19 → ⊥) → first_sight (names_in g m) env f k s ≡ some env
   unfolding first_sight
-  first_join e t = rw (ne_eqb k 17 e.0, ne_eqb k 18 e.1, ne_eqb k 19 e.2) t
-
-pub ruleset firsts = (first_refused, first_wait, first_choice, first_untrue, first_true, first_join)
+  first_join p q r = rw (ne_eqb k 17 p, ne_eqb k 18 q, ne_eqb k 19 r)

@@ -31,13 +31,23 @@ use Rattle.records.specs.Index.{Lists, first_clause}
 use Rattle.records.proofs.Trees.{kind_fulfilled, kind_instance, kind_no_clause_low, kind_no_clause_high, sided}
 use Rattle.records.proofs.Trees.{sided_choice, sided_if, sided_join, body_wait, body_two}
 use Rattle.records.proofs.Index.{heads_in_lem}
-use Rattle.parties.specs.Masks.{mask_of, BlameMask, ValidMembers}
+use Rattle.parties.specs.Masks.{mask_of, may_blame, ValidMembers}
 use Rattle.parties.proofs.Masks.{mask_nil, mask_append, mask_count, valid_append}
 use Rattle.parties.proofs.Typed.{valid_typed, declared_valid}
 use Rattle.typing.specs.Types.{record_kind}
-use Rattle.typing.specs.Clauses.{names_in, seen_as, wait_sight, first_sight, first_end, typed_as, fulfilled_as}
+use Rattle.typing.specs.Clauses.{
+  names_in,
+  seen_as,
+  is_typed,
+  wait_sight,
+  wait_in,
+  first_sight,
+  typed_as,
+  fulfilled_as,
+}
 use Rattle.typing.specs.Clauses.{sides_as}
-use Rattle.typing.proofs.Exprs.{kind_found}
+use Rattle.typing.proofs.Exprs.{kind_found, deep, fewer, room}
+use Rattle.typing.proofs.Sights.{first_refused, first_wait, first_choice, first_untrue, not_there, there}
 use Rattle.typing.proofs.Instances.{from_typed, from_untyped, untyped}
 
 -- ---- a clause's type does not go by its place
@@ -235,22 +245,6 @@ unfolding typed_as type_clause
 four n env true = ap Some (sym mask_nil)
 four n env false = refl
 
--- the blame byte's bit, where it is allowed
-allowed : (b : Bool) (o : Option (List Ty)) (ts : List Ty) → (need b >>= λ _. o) ≡ some ts → b ≡ true
-unfolding need ◌>>=◌
-allowed true o ts e = refl
-allowed false o ts e = impossible cc
-
-blame_allowed : (n : Names) (env : List Ty) (e : List ℕ → Expr) (s : List ℕ) (ts : List Ty)
-    → first_sight n env e 17 s ≡ some ts → blame_ok n (byte s 4) ≡ true
-unfolding first_sight
-blame_allowed n env e s ts q = allowed (blame_ok n (byte s 4)) (wait_sight n env (wait_at e 0 s 5)) ts q
-
-bit_is : (g : List ℕ) (params : ℕ) (s : List ℕ) {b ps v : ℕ} → b ≡ byte s 4 → ps ≡ byte g 8 → BlameMask ps params b v
-    → blame_ok (names_in g params) (byte s 4) ≡ true → v ≡ mask_of (byte s 4 ∷ [])
-unfolding blame_ok names_of agreement_of
-bit_is g params s {b} {ps} p w j h = j.is ∙ rw (p, w, h)
-
 pub valid : {g : List ℕ} (x : Lists g) (params : ℕ) → params ≤ 4 → (env : List Ty) (c : Clause) (ps : List ℕ)
     → type_clause (names_in g params) env c ≡ some ps → ValidMembers ps
 unfolding names_of agreement_of
@@ -285,70 +279,125 @@ module _ (g : List ℕ) (params : ℕ) (bs : List ℕ) (d : ℕ) (s : List ℕ) 
     unfolding clause_body type_clause
     clause_high h l = untyped (rw (clause_is (heads_of g) d 0 s e, kind_no_clause_high k (omega arith)))
 
-    module _ (n : k ≡ 16 → ⊥) (l : 16 ≤ k) (u : k < 22) where
-      pub clause_refused : first_sight (names_in g params) (tys_of bs) (expr (d - 1)) k s ≡ seen_as None → None ≡
-          of_clause
-      unfolding seen_as
-      clause_refused q = untyped (typed_none (names_in g params) (tys_of bs) (heads_of g) d s e (omega arith) u q)
+    clause_refused : 17 ≤ k → k < 22 → first_sight (names_in g params) (tys_of bs) (expr (d - 1)) k s ≡ none
+        → None ≡ of_clause
+    clause_refused l u q = untyped (typed_none (names_in g params) (tys_of bs) (heads_of g) d s e l u q)
 
-      -- ys are the types that the first clause part sees, and a is where that part ends
-      module _ (v : ArrayVec ℕ) (q : first_sight (names_in g params) (tys_of bs) (expr (d - 1)) k s ≡ seen_as (Some v))
-          {ys : List ℕ} (y : ys ≡ v.items) {c a : ℕ} (i : c ≡ first_clause k s) (j : a ≡ first_end k s c) where
-        abbrev first_part : Option (List ℕ)
-        first_part = type_clause (names_in g params) (tys_of ys) (clause (heads_of g) (d - 1) 0 (part s c a))
+    -- ---- an obligation: b is its blame byte
+    module _ (h : k ≡ 17) {b : ℕ} (p : b ≡ byte s 4) where
+      pub clause_unblamed : None ≡ cond (may_blame (byte g 8) params b) (Some (mask_of (b ∷ []))) None
+          → None ≡ of_clause
+      clause_unblamed j = clause_refused (omega arith) (omega arith)
+          (first_refused g params (tys_of bs) (expr (d - 1)) k s h (rw p at (not_there (mask_of (b ∷ [])) j)))
 
-        abbrev second_part : Option (List ℕ)
-        second_part = type_clause (names_in g params) (tys_of bs) (clause (heads_of g) (d - 1) 0 (part s a (length s)))
+      module _ {w : ℕ} (j : Some w ≡ cond (may_blame (byte g 8) params b) (Some (mask_of (b ∷ []))) None) where
+        bit : w ≡ mask_of (byte s 4 ∷ [])
+        bit = rw p at (there j).1
 
-        sees : first_sight (names_in g params) (tys_of bs) (expr (d - 1)) k s ≡ some (tys_of ys)
+        sees : {t : Option (List Ty)} → wait_in g bs (d - 1) s 5 ≡ t
+            → first_sight (names_in g params) (tys_of bs) (expr (d - 1)) k s ≡ t
+        sees = first_wait g params (tys_of bs) (expr (d - 1)) k s h (rw p at (there j).0)
+
+        pub clause_unwaited : wait_in g bs (d - 1) s 5 ≡ seen_as None → None ≡ of_clause
         unfolding seen_as
-        sees = q ∙ rw y
+        clause_unwaited q = clause_refused (omega arith) (omega arith) (sees q)
 
-        by_wait : k ≡ 17 → type_clause (names_in g params) (tys_of bs) (clause (heads_of g) d 0 s)
-            ≡ (first_part >>= λ ps. some (byte s 4 ∷ ps))
-        by_wait h =
-            let end : a ≡ length s = j ∙ rw (eq-eqb k 17 h) in
-            rw end (typed_wait (names_in g params) (tys_of bs) (heads_of g) d s e h i
-            ∙ some_bind (first_sight (names_in g params) (tys_of bs) (expr (d - 1)) k s)
-            (after_first (names_in g params) (clause (heads_of g) (d - 1) 0 (part s c (length s))) (byte s 4))
-            (tys_of ys) sees)
+        -- ys are the types that its `then` sees
+        module _ (v : ArrayVec ℕ) (q : wait_in g bs (d - 1) s 5 ≡ seen_as (Some v)) {ys : List ℕ} (y : ys ≡ v.items)
+            {c : ℕ} (i : c ≡ first_clause k s) where
+          abbrev then_part : Option (List ℕ)
+          then_part = type_clause (names_in g params) (tys_of ys) (clause (heads_of g) (d - 1) 0 (part s c
+              (length s)))
 
-        by_two : (k ≡ 17 → ⊥) → type_clause (names_in g params) (tys_of bs) (clause (heads_of g) d 0 s)
-            ≡ both_sides k first_part second_part
-        by_two h =
-            let end : a ≡ record_end s c = j ∙ rw (ne_eqb k 17 h) in
-            typed_two (names_in g params) (tys_of bs) (heads_of g) d s e (omega arith) u i end
-            ∙ some_bind (first_sight (names_in g params) (tys_of bs) (expr (d - 1)) k s)
-            (λ ts. both_sides k (type_clause (names_in g params) ts (clause (heads_of g) (d - 1) 0 (part s c a)))
-            second_part) (tys_of ys) sees
+          by_wait : type_clause (names_in g params) (tys_of bs) (clause (heads_of g) d 0 s)
+              ≡ (then_part >>= λ ps. some (byte s 4 ∷ ps))
+          unfolding seen_as
+          by_wait =
+              typed_wait (names_in g params) (tys_of bs) (heads_of g) d s e h i
+              ∙ some_bind (first_sight (names_in g params) (tys_of bs) (expr (d - 1)) k s)
+              (after_first (names_in g params) (clause (heads_of g) (d - 1) 0 (part s c (length s))) (byte s 4))
+              (tys_of ys) (sees (q ∙ rw y))
 
-        pub clause_first_none : None ≡ typed_as first_part → None ≡ of_clause
-        unfolding ◌>>=◌
-        clause_first_none f = pick (dec_le k 17)
-          where
-            pick : Dec (k ≤ 17) → None ≡ of_clause
-            pick (yes h) = untyped (by_wait (omega arith) ∙ rw (from_untyped first_part f))
-            pick (no h) = untyped (by_two (λ z. h (omega arith)) ∙ rw (from_untyped first_part f))
+          pub clause_then_none : None ≡ typed_as then_part → None ≡ of_clause
+          unfolding ◌>>=◌
+          clause_then_none f = untyped (by_wait ∙ rw (from_untyped then_part f))
 
-        module _ {m : ℕ} (f : Some m ≡ typed_as first_part) where
-          pub clause_wait : {b ps w r : ℕ} → k ≡ 17 → b ≡ byte s 4 → ps ≡ byte g 8 → BlameMask ps params b w
-              → r ≡ bit_or w m → Some r ≡ of_clause
+          pub clause_then : {m r : ℕ} → Some m ≡ typed_as then_part → r ≡ bit_or w m → Some r ≡ of_clause
           unfolding typed_as ◌>>=◌
-          clause_wait {w = w} h p z y x =
-              let bit : w ≡ mask_of (byte s 4 ∷ []) = bit_is g params s p z y
-              (blame_allowed (names_in g params) (tys_of bs) (expr (d - 1)) s (tys_of ys) (rw h at sees)) in
-              from_typed first_part f (λ ps o t. rw (by_wait h, o)
+          clause_then f x = from_typed then_part f (λ ps o t. rw (by_wait, o)
               (ap Some (x ∙ rw (bit, t) (sym (mask_append (byte s 4 ∷ []) ps)))))
 
-          pub clause_second_none : (k ≡ 17 → ⊥) → None ≡ typed_as second_part → None ≡ of_clause
-          unfolding ◌>>=◌
-          clause_second_none h w = from_typed first_part f (λ ps o t.
-              untyped (by_two h ∙ rw (o, from_untyped second_part w)))
+    -- ---- two sides: ys are the types that the first one sees, and a is where it ends
+    pub choice_refused : k ≡ 18 → wait_in g bs (d - 1) s 4 ≡ seen_as None → None ≡ of_clause
+    unfolding seen_as
+    choice_refused h q = clause_refused (omega arith) (omega arith)
+        (first_choice g params (tys_of bs) (expr (d - 1)) k s h q)
 
-          pub clause_two : {o : ℕ} {r : prelude.Option ℕ} → Lists g → params ≤ 4 → (k ≡ 17 → ⊥)
-              → Some o ≡ typed_as second_part → r ≡ sides_as k m o → r ≡ of_clause
-          clause_two x few h w z = from_typed first_part f (λ ps o t. from_typed second_part w (λ qs o₂ t₂.
-              let both : type_clause (names_in g params) (tys_of bs) (clause (heads_of g) d 0 s)
-              ≡ both_sides k (some ps) (some qs) = by_two h ∙ rw (o, o₂) in
-              z ∙ rw (t, t₂, both) (joined_typed k ps qs (valid x params few (tys_of ys) _ ps o)
-              (valid x params few (tys_of bs) _ qs o₂))))
+    pub choice_sees : (v : ArrayVec ℕ) {ys : List ℕ} → k ≡ 18 → wait_in g bs (d - 1) s 4 ≡ seen_as (Some v)
+        → ys ≡ v.items → first_sight (names_in g params) (tys_of bs) (expr (d - 1)) k s ≡ some (tys_of ys)
+    unfolding seen_as
+    choice_sees v h q y = first_choice g params (tys_of bs) (expr (d - 1)) k s h q ∙ rw y
+
+    pub if_refused : {c : ℕ} {b : Bool} → k ≡ 19 → c ≡ record_end s 4
+        → b ≡ is_typed (byte g 8) (tys_of bs) (expr (d - 1) (part s 4 c)) truth → b ≡ false → None ≡ of_clause
+    if_refused h p q z = clause_refused (omega arith) (omega arith)
+        (first_untrue g params (tys_of bs) (expr (d - 1)) k s h p q z)
+
+    module _ (l : 18 ≤ k) (u : k < 22) (ys : List ℕ)
+        (sees : first_sight (names_in g params) (tys_of bs) (expr (d - 1)) k s ≡ some (tys_of ys))
+        {c a : ℕ} (i : c ≡ first_clause k s) (j : a ≡ record_end s c) where
+      abbrev first_part : Option (List ℕ)
+      first_part = type_clause (names_in g params) (tys_of ys) (clause (heads_of g) (d - 1) 0 (part s c a))
+
+      abbrev second_part : Option (List ℕ)
+      second_part = type_clause (names_in g params) (tys_of bs) (clause (heads_of g) (d - 1) 0 (part s a (length s)))
+
+      by_two : type_clause (names_in g params) (tys_of bs) (clause (heads_of g) d 0 s)
+          ≡ both_sides k first_part second_part
+      by_two =
+          typed_two (names_in g params) (tys_of bs) (heads_of g) d s e l u i j
+          ∙ some_bind (first_sight (names_in g params) (tys_of bs) (expr (d - 1)) k s)
+          (λ ts. both_sides k (type_clause (names_in g params) ts (clause (heads_of g) (d - 1) 0 (part s c a)))
+          second_part) (tys_of ys) sees
+
+      pub clause_first_none : None ≡ typed_as first_part → None ≡ of_clause
+      unfolding ◌>>=◌
+      clause_first_none f = untyped (by_two ∙ rw (from_untyped first_part f))
+
+      module _ {m : ℕ} (f : Some m ≡ typed_as first_part) where
+        pub clause_second_none : None ≡ typed_as second_part → None ≡ of_clause
+        unfolding ◌>>=◌
+        clause_second_none w = from_typed first_part f (λ ps o t. untyped (by_two ∙ rw (
+          o,
+          from_untyped
+              second_part w,
+        )))
+
+        pub clause_two : {o : ℕ} {r : prelude.Option ℕ} → Lists g → params ≤ 4 → Some o ≡ typed_as second_part
+            → r ≡ sides_as k m o → r ≡ of_clause
+        clause_two x few w z = from_typed first_part f (λ ps o t. from_typed second_part w (λ qs o₂ t₂.
+            let both : type_clause (names_in g params) (tys_of bs) (clause (heads_of g) d 0 s)
+            ≡ both_sides k (some ps) (some qs) = by_two ∙ rw (o, o₂) in
+            z ∙ rw (t, t₂, both) (joined_typed k ps qs (valid x params few (tys_of ys) _ ps o)
+            (valid x params few (tys_of bs) _ qs o₂))))
+
+-- the sides of a choice may have many members
+pub sides_choice : (k a b : ℕ) {r : ℕ} → k ≡ 18 → r ≡ bit_or a b → Some r ≡ sides_as k a b
+sides_choice k a b h e = rw (h, e)
+
+pub ruleset clauses = (
+  deep,
+  fewer,
+  room,
+  clause_untyped,
+  clause_fulfilled,
+  clause_instance,
+  clause_low,
+  clause_high,
+  clause_unblamed,
+  clause_unwaited,
+  clause_then_none,
+  clause_then,
+  choice_refused,
+  if_refused,
+)

@@ -70,13 +70,6 @@ first_sight n env e k s =
     (cond (eqb k 19) (has_type n.parties env (e (part s 4 (record_end s 4))) truth >>= λ _. some env)
     (some env)))
 
-abbrev pub first_in : List ℕ → ℕ → List ℕ → ℕ → ℕ → List ℕ → Option (List Ty)
-first_in g params types d k s = first_sight (names_in g params) (tys_of types) (expr d) k s
-
--- where it ends, if it begins at c
-abbrev pub first_end : ℕ → List ℕ → ℕ → ℕ
-first_end k s c = cond (eqb k 17) (length s) (record_end s c)
-
 -- ---- parties by bit
 unfoldable pub typed_as : Option (List ℕ) → prelude.Option ℕ
 typed_as none = None
@@ -107,10 +100,6 @@ abbrev pub arguments_in : ℕ → List ℕ → List ℕ → ℕ → List ℕ →
 arguments_in ps types values d s i =
     let n = length values in
     arguments_as (have_types ps (tys_of types) (arguments (expr d) n s i) (tys_of values)) (records_end n s i)
-
--- of an instance of template k
-abbrev pub arguments_at : List ℕ → ℕ → List ℕ → ℕ → List ℕ → prelude.Option ℕ
-arguments_at g k types d s = arguments_of (head_at g k) (byte g 8) (tys_of types) (expr d) s
 
 -- the clause that a record is, d depths being left
 abbrev pub clause_of : List ℕ → ℕ → List ℕ → Clause

@@ -15,7 +15,7 @@ ghost use Rattle.units.specs.Units.{CellsRead, FoundThere, LocatedIs, WaitingIs}
 use arrayvec::ArrayVec;
 use kinds::WaitKind;
 use octets::{byte, kind, record_end};
-use parties::{PARAMS_FROM, is_subset, party_bit, union};
+use parties::{PARAMS_FROM, PartySet};
 use places::{Accepted, Located, locate};
 use records::values::values_ok;
 use records::{Agreement, first_clause};
@@ -31,10 +31,10 @@ const CELLS: usize = cells::UNIT_CELLS - 1;
 // A template has at most so many party parameters.
 const PARAMS: usize = 4;
 
-// What a waiting unit shows: its parties by bit, and how many party parameters and values it has.
+// What a waiting unit shows: its parties, and how many party parameters and values it has.
 #[derive(Clone, Copy, Debug, PartialEq, Eq)]
 pub struct Waiting {
-    pub parties: usize,
+    pub parties: PartySet,
     pub params: usize,
     pub count: usize,
 }
@@ -81,30 +81,30 @@ fn stands_for(b: usize, params: &[usize]) -> usize
     params.get(b - PARAMS_FROM).copied().unwrap_or(0)
 }
 
-// The parties of a run of blame bytes, by bit.
-fn blame_bytes(s: &[u8], params: &[usize]) -> usize
+// The parties of a run of blame bytes.
+fn blame_bytes(s: &[u8], params: &[usize]) -> PartySet
     ensures { (result ≡ bits_of (stand_for params.now s.now)) × (result < 65_536) }
 {
-    let mut bits = 0;
+    let mut found = PartySet::empty();
     for b in s {
-        bits = union(bits, party_bit(stands_for(usize::from(*b), params)));
+        found |= PartySet::of(stands_for(usize::from(*b), params));
     }
-    bits
+    found
 }
 
 // An instance has its template's declared parties and those of its blames, which end it.
-fn instance_parties(agreement: &Agreement<'_>, s: &[u8], params: &[usize]) -> usize
+fn instance_parties(agreement: &Agreement<'_>, s: &[u8], params: &[usize]) -> PartySet
     requires { WholeIn agreement.now s.now × (kind_number s.now ≡ 22) }
     ensures { PartiesAre agreement.now s.now params.now result }
 {
     let k = byte(s, 4);
     let n = s.len() - agreement.param_count(k);
-    let own = blame_bytes(&s[n..], params);
-    union(agreement.declared_bits(k), own)
+    let declared = PartySet::of_bits(agreement.declared_bits(k));
+    declared | blame_bytes(&s[n..], params)
 }
 
-// The parties of a clause, by bit.
-fn clause_parties(agreement: &Agreement<'_>, s: &[u8], params: &[usize]) -> usize
+// The parties of a clause.
+fn clause_parties(agreement: &Agreement<'_>, s: &[u8], params: &[usize]) -> PartySet
     requires { WholeIn agreement.now s.now }
     ensures { PartiesAre agreement.now s.now params.now result }
 {
@@ -112,17 +112,17 @@ fn clause_parties(agreement: &Agreement<'_>, s: &[u8], params: &[usize]) -> usiz
     match k {
         17 => {
             let c = first_clause(s, k);
-            let own = party_bit(stands_for(byte(s, 4), params));
-            union(own, clause_parties(agreement, &s[c..], params))
+            let own = PartySet::of(stands_for(byte(s, 4), params));
+            own | clause_parties(agreement, &s[c..], params)
         }
         18..=21 => {
             let c = first_clause(s, k);
             let f = record_end(s, c);
             let left = clause_parties(agreement, &s[c..f], params);
-            union(left, clause_parties(agreement, &s[f..], params))
+            left | clause_parties(agreement, &s[f..], params)
         }
         22 => instance_parties(agreement, s, params),
-        _ => 0,
+        _ => PartySet::empty(),
     }
 }
 
@@ -165,12 +165,12 @@ fn located_unit(
     let own = unit_cells(cells, found.params, types, agreement.parties())?;
     let bytes = agreement.bytes();
     let e = record_end(bytes, place);
-    let bits = clause_parties(agreement, &bytes[place..e], &own);
-    if !is_subset(bits, accepted.mains()) {
+    let parties = clause_parties(agreement, &bytes[place..e], &own);
+    if !parties.is_subset(accepted.mains()) {
         return None;
     }
     Some(Waiting {
-        parties: bits,
+        parties,
         params: found.params,
         count: types.len(),
     })

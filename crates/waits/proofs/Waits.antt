@@ -13,9 +13,9 @@ use borrow.Author.Tests.{eq-eqb, ne_eqb, ltb-true, ltb-false}
 use mir.Syntax.{w64}
 use mir.Val.{Fits, SFits, to_z}
 use Rattle.laws.proofs.Timings.{timing_late, timing_early, timing_on_time}
-use Rattle.arith.specs.Near.{Near, far}
-use Rattle.arith.proofs.Ints.{seen, read, read! }
-use Rattle.arith.proofs.Numbers.{sizes, within_goal, held_fits, later_size}
+use Rattle.arith.specs.Near.{Near}
+use Rattle.arith.proofs.Ints.{seen, read, read!, abs_minus, small}
+use Rattle.arith.proofs.Numbers.{sizes, held_fits, later_size}
 use Rattle.csl.specs.Numbers.{Held, later_of}
 use Rattle.csl.specs.Bytes.{le16, part, record_end}
 use Rattle.csl.specs.Syntax.{Wait}
@@ -27,7 +27,9 @@ use Rattle.cells.specs.Reduce as cells
 use Rattle.cells.specs.Reduce.{activating, forecasting, following, first_of, last_of, window_of, takes, opens_later}
 use Rattle.cells.specs.Reduce.{fate}
 use Rattle.residues.specs.Reduces.{farthest}
-use Rattle.waits.specs.Fates.{WindowIs, FateIs, timing_is, condition_of}
+use denote.Ref.{Bor}
+use Rattle.readings.specs.declared.reading.Reading.{Reading}
+use Rattle.waits.specs.Fates.{WindowIs, FateIs, timing_is, condition_of, mode_of}
 use Rattle.waits.specs.declared.Window.{Window}
 use Rattle.waits.specs.declared.Timing.{Timing}
 use Rattle.waits.specs.declared.Timing.TheVariants.{Early, OnTime, Late as tooLate}
@@ -37,9 +39,6 @@ use Rattle.residues.proofs.Cells.{cell_of_lem}
 -- ---- sizes
 pub time_size : (n : ℕ) → n ≤ farthest → nat_abs (to_z w64 n) ≡ n
 time_size n h = ap nat_abs (cell_of_lem n h)
-
-pub time_within : (n : ℕ) → n ≤ farthest → Near far (to_z w64 n)
-time_within n h = within_goal far (to_z w64 n) (omega (arith, time_size n h))
 
 -- ---- a window
 module _ (vs : List ℤ) (s : List ℕ) (i a d : ℕ) (h : a ≤ farthest) {b c : ℕ} (eb : b ≡ record_end s (i + 1))
@@ -116,12 +115,14 @@ module _ (vs rs : List ℤ) (a t k : ℕ) (w : Wait) {r : Window} (x : WindowIs 
       follow_other n = fated e ∙ rw (ne_eqb w.wanted k (λ q. n (eb ∙ q))) refl
 
       module _ (ek : b ≡ k) {u : Bool} (eu : u ≡ is_true_cell (eval_cells (vs ++ rs) w.condition)) where
-        pub follow_taken : u ≡ true → FateIs (following t k rs) vs a w (Taken (seen r.last))
+        pub follow_taken : (d : Bor Reading) → following t k rs ≡ mode_of d.now → u ≡ true
+            → FateIs (following t k rs) vs a w (Taken d (seen r.last))
         unfolding FateIs takes
-        follow_taken q = (
+        follow_taken d m q = (
           fated e ∙ rw (eq-eqb w.wanted k (sym eb ∙ ek), sym eu ∙ q) refl,
           near_is.0,
           near_is.1,
+          m,
         )
 
         pub follow_false : u ≡ false → FateIs (following t k rs) vs a w Waits
@@ -187,9 +188,12 @@ condition_is s i d ea eb ev hx hr = hr ∙ ap is_true_cell
     (read (held_fits hx.1) ∙ hx.0 ∙ rw (ev, clamped s (i + 1) ea eb))
 
 -- the minutes that were left
-pub minus_is : (t : ℕ) → t ≤ farthest → {last z : ℤ} → SFits w64 last → mag z < 2 ^ 63 → z ≡ seen last -ℤ to_z w64 t
-    → seen z ≡ last -ℤ pos t
-minus_is t h f g e = read! g ∙ e ∙ rw (read f, cell_of_lem t h)
+module _ (t : ℕ) (h : t ≤ farthest) {last : ℤ} (near : Near (farthest + 2_000_000_000) last) where
+  pub minus_fits : SFits w64 (seen last -ℤ to_z w64 t)
+  minus_fits = small (omega (sizes, abs_minus (seen last) (to_z w64 t), time_size t h))
+
+  pub minus_is : SFits w64 last → seen (seen last -ℤ to_z w64 t) ≡ last -ℤ pos t
+  minus_is f = read minus_fits ∙ rw (read f, cell_of_lem t h)
 
 -- ---- the later of a time and a last minute, as the machine has it
 module _ (a : ℕ) (h : a ≤ farthest) {last r : ℤ} (f : SFits w64 last) (g : mag r < 2 ^ 63)

@@ -42,4 +42,5 @@ pub record WindowIs (vs : List ℤ) (a : ℕ) (w : Wait) (r : Window) : Type 0 w
 unfoldable pub FateIs : Mode → List ℤ → ℕ → Wait → Fate → Type 0
 FateIs m vs a w Waits = fate m vs a w ≡ waits
 FateIs m vs a w (Late l) = (fate m vs a w ≡ late) × (l ≡ last_of vs a w) × Near (a + 2_000_000_000) l
-FateIs m vs a w (Taken l) = (fate m vs a w ≡ taken) × (l ≡ last_of vs a w) × Near (a + 2_000_000_000) l
+FateIs m vs a w (Taken r l) = (fate m vs a w ≡ taken) × (l ≡ last_of vs a w) × Near (a + 2_000_000_000) l
+    × (m ≡ mode_of r.now)

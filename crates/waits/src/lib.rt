@@ -10,7 +10,6 @@ ghost use Rattle.cells.specs.Reduce.{first_of, following, opens_later, then_valu
 ghost use Rattle.residues.specs.Reduces.{farthest};
 ghost use Rattle.waits.specs.Fates.{mode_of, mode_at, FateIs, WindowIs, timing_is, condition_of};
 
-use arith::{exact_difference, exact_sum};
 use arrayvec::ArrayVec;
 use evaluation::{eval, is_true};
 use octets::{byte, record_end};
@@ -43,12 +42,12 @@ enum Timing {
     Late,
 }
 
-// What becomes of a wait, with its last minute.
-#[derive(Clone, Copy, Debug, PartialEq, Eq)]
-pub enum Fate {
+// What becomes of a wait, with its last minute; a reading takes it.
+#[derive(Clone, Copy)]
+pub enum Fate<'a> {
     Waits,
     Late(i64),
-    Taken(i64),
+    Taken(&'a Reading, i64),
 }
 
 // The minute that comes as long after another as an expression says.
@@ -57,7 +56,7 @@ fn minutes_after(from: i64, span: &[u8], values: &[i64], depth: usize) -> i64
     ensures { (result ≡ from +ℤ eval_cells values.now (expr depth span.now))
         × Near (nat_abs from + 1_000_000_000) result }
 {
-    exact_sum(from, eval(span, values, depth))
+    from + eval(span, values, depth)
 }
 
 // The window of the wait at i in the record s.
@@ -103,33 +102,33 @@ fn timing_of(w: Window, time: usize) -> Timing
 {
     let t = time as i64;
     if w.last < t {
-        return Timing::Late;
+        Timing::Late
+    } else if t < w.first {
+        Timing::Early
+    } else {
+        Timing::OnTime
     }
-    if t < w.first {
-        return Timing::Early;
-    }
-    Timing::OnTime
 }
 
 // What a reading makes of the wait at i in the record s.
-fn follow(reading: &Reading, s: &[u8], i: usize, values: &[i64], a: usize, depth: usize) -> Fate
+fn follow<'a>(
+    reading: &'a Reading,
+    s: &[u8],
+    i: usize,
+    values: &[i64],
+    a: usize,
+    depth: usize,
+) -> Fate<'a>
     requires { (i ≤ 5) × (a ≤ farthest) × (length values.now ≤ 16) }
     ensures { (p : ℕ) → FateIs (mode_of reading.now) values.now a (wait_at (expr depth) p s.now i) result }
 {
     let w = window_at(s, i, values, a, depth);
-    let last = w.last;
     match timing_of(w, reading.time) {
-        Timing::Late => Fate::Late(last),
+        Timing::Late => Fate::Late(w.last),
         Timing::Early => Fate::Waits,
-        Timing::OnTime => {
-            if byte(s, i) != reading.tag {
-                return Fate::Waits;
-            }
-            if holds(s, i, values, reading, depth) {
-                return Fate::Taken(last);
-            }
-            Fate::Waits
-        }
+        Timing::OnTime if byte(s, i) == reading.tag && holds(s, i, values, reading, depth) =>
+            Fate::Taken(reading, w.last),
+        Timing::OnTime => Fate::Waits,
     }
 }
 
@@ -157,19 +156,20 @@ pub fn opens_later(
     ensures { (p : ℕ) → result ≡ opens_later values.now a (wait_at (expr depth) p s.now i)
         reading.now.time reading.now.tag reading.now.values.items }
 {
-    if byte(s, i) != reading.tag {
-        return false;
-    }
-    let first = first_at(s, i, values, a, depth);
-    let at = reading.time as i64;
-    if at < first {
-        return holds(s, i, values, reading, depth);
-    }
-    false
+    byte(s, i) == reading.tag
+        && (reading.time as i64) < first_at(s, i, values, a, depth)
+        && holds(s, i, values, reading, depth)
 }
 
 // What becomes of the wait at i in the record s.
-pub fn becomes(event: Event<'_>, s: &[u8], i: usize, values: &[i64], a: usize, depth: usize) -> Fate
+pub fn becomes<'a>(
+    event: Event<'a>,
+    s: &[u8],
+    i: usize,
+    values: &[i64],
+    a: usize,
+    depth: usize,
+) -> Fate<'a>
     requires { (i ≤ 5) × (a ≤ farthest) × (length values.now ≤ 16) }
     ensures { (p : ℕ) → FateIs (mode_at event.entry) values.now a (wait_at (expr depth) p s.now i) result }
 {
@@ -189,7 +189,7 @@ pub fn then_values(values: &[i64], reading: &Reading, last: i64) -> ArrayVec<i64
     ensures { (result.items ≡ then_values values.now reading.now.values.items (last -ℤ pos reading.now.time))
         × (length result.items ≤ 16) }
 {
-    let left = exact_difference(last, reading.time as i64);
+    let left = last - reading.time as i64;
     let mut all = sight(values, reading);
     all.push(left);
     all.truncate(IN_SIGHT);

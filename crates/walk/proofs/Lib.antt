@@ -1,4 +1,4 @@
 pub mod Trees
-pub mod Sorts
+pub mod Cells
 pub mod WaitingUnits
 pub mod Opening

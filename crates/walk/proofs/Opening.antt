@@ -1,15 +1,16 @@
 -- Laws of the units that open later: the clause at a unit's place by its kind, and unit after unit.
-use mathlib.Core.Path.{◌≡◌, refl, sym, ap, ap₂, ◌∙◌}
-use mathlib.Core.Bool.{Bool, true, false, cond, false≢true, ◌||◌}
-use mathlib.Core.List.{List}
+use mathlib.Core.Path.{◌≡◌, refl, sym, ap, subst, ◌∙◌}
+use mathlib.Core.Bool.{Bool, true, false, cond, ◌||◌}
+use mathlib.Core.List.{List, [], ◌∷◌, ◌++◌}
 use mathlib.Core.Option.{Option, none, some}
-use Prim.Native.Nat.{ℕ, zero, suc, ◌+◌, ◌-◌, ◌*◌, ◌<◌}
+use Prim.Native.Nat.{ℕ, zero, suc, ◌+◌, ◌-◌, ◌*◌, ◌/◌, ◌≤◌, ◌<◌}
+use native.Mathlib.Nat.{not-suc-le-zero}
 use native.Mathlib.Omega.{arith}
 use borrow.Author.Tests.{ltb-true, ltb-false, ne_eqb}
 use lib.Dec.{eqb, ltb}
-use lib.IntN.{ℤ, pos}
-use lib.ListN.{length, get_or, take, drop}
-use lib.Seq.{drop-drop}
+use lib.IntN.{ℤ}
+use lib.ListN.{length, get_or, take, drop, length-take, length-drop, length-append}
+use lib.Seq.{drop-drop, get_or-take, get_or-drop, take_at, drop_at}
 use Rattle.csl.specs.Bytes.{byte, part}
 use Rattle.csl.specs.Lists.{at}
 use Rattle.csl.specs.Syntax.{Clause, Head, and, or, fulfilled, bad_clause, instance}
@@ -17,8 +18,23 @@ use Rattle.csl.specs.Decode.{ClauseKind, fulfilled_kind, if_kind, join_kind, ins
 use Rattle.csl.specs.Decode.{arguments, clause, clause_body, expr, instance_of, records_end}
 use Rattle.csl.specs.Outcomes.{Residue, unit, both, units}
 use Rattle.laws.proofs.Bools.{by_test}
-use Rattle.cells.specs.Across.{nat_of, clause_opens_later, unit_opens_later, some_open_later}
-use Rattle.walk.specs.Tree.{TreeOf, Front}
+use Rattle.cells.specs.Across.{clause_opens_later, unit_opens_later, some_open_later}
+use Rattle.cells.specs.Sights.{flat}
+use Rattle.cells.specs.declared.Sight.{Sight}
+use Rattle.cells.specs.declared.Sight.TheVariants.{Waits, Joins}
+use Rattle.readings.specs.declared.reading.Reading.{Reading}
+use Rattle.std.specs.declared.slice.ChunksExact.{ChunksExact}
+use Rattle.std.specs.declared.iter.Zip.{Zip}
+use Rattle.std.proofs.Common.{Iter}
+use Rattle.std.proofs.iter.Yields.{fronts}
+use Rattle.std.proofs.lemmas.Iterator.{YieldsList, zips, YieldsList-from_slice, YieldsList-from_zip}
+use Rattle.std.proofs.lemmas.Slice.Zip.{length-zip, get_or-zip}
+use Rattle.std.specs.Iterator.{AlwaysYields}
+use Rattle.std.specs.Iterator.Adapters.{zip_first, zip_second}
+use Rattle.std.specs.List.{list_any, zip}
+use Rattle.std.specs.Slice.Iter.{iter_rest, chunks_exact_size, chunks_exact_rest, chunks_exact_steps}
+use Rattle.walk.specs.Tree.{Seen, TreeOf, opens_at}
+use Rattle.walk.proofs.Trees.{sort_at}
 
 -- ---- a clause of another kind than 17 and 18 waits for nothing
 module _ (t k : ℕ) (rs vs : List ℤ) (a : ℕ) where
@@ -59,63 +75,144 @@ module _ (t k : ℕ) (rs vs : List ℤ) (a : ℕ) where
     other_kind n f g = rw (ne_eqb n 17 f, ne_eqb n 18 g)
         (sym (by_kinds (eqb n 16) (eqb n 19) (eqb n 20) (eqb n 21) (eqb n 22)))
 
--- ---- every unit of a tree stands at the front of what is left
+-- ---- every unit of a tree is what its sight says
 module _ {A : Type 0} where
   dropped : (a b c : ℕ) (l : List A) → a + b ≡ c → drop b (drop a l) ≡ drop c l
   dropped a b c l e = drop-drop b a l ∙ ap (λ k. drop k l) e
 
-pub each_front : (size : ℕ) (res : Residue) (sights : List ℕ) (cs : List ℤ) → TreeOf size res sights cs
-    → (k : ℕ) → k < units res → Front size (drop (2 * k) sights) (drop (24 * k) cs)
+pub record UnitAt (size k : ℕ) (sights : List Sight) (cs : List ℤ) : Type 0 where
+  pub sight : k < length sights
+  pub cells : 24 * k + 24 ≤ length cs
+  pub is : (d : Sight) → Seen size (get_or sights k d) (take 24 (drop (24 * k) cs))
+
+pub each_unit : (size : ℕ) (res : Residue) (sights : List Sight) (cs : List ℤ) → TreeOf size res sights cs → (k : ℕ)
+    → k < units res → UnitAt size k sights cs
 unfolding TreeOf units
-each_front size (unit o p a e) sights cs t zero h = record { room = t.0; seen = t.1; waits = λ _. t.3 }
-each_front size (unit o p a e) sights cs t (suc k) h = absurd (omega arith)
-each_front size (both j l r) sights cs t zero h = record {
-  room = t.0;
-  seen = t.1;
-  waits = λ f. absurd (false≢true (sym t.2 ∙ f));
+each_unit size (unit o p a e) (Waits params values ∷ sights) cs t zero h = record {
+  sight = omega arith;
+  cells = t.0;
+  is = λ d. t.1;
 }
-each_front size (both j l r) sights cs t (suc k) h = by_test (ltb k (units l))
-    (λ f. rw (
-      ← dropped 2 (2 * k) (2 * suc k) sights (omega arith),
-      ← dropped 24 (24 * k) (24 * suc k) cs (omega arith),
-    ) (each_front size l (drop 2 sights) (drop 24 cs) t.4 k (ltb-true k (units l) f)))
+each_unit size (unit o p a e) (Waits params values ∷ sights) cs t (suc k) h = absurd (omega arith)
+each_unit size (both j l r) (Joins join left ∷ sights) cs t zero h = record {
+  sight = omega arith;
+  cells = t.0;
+  is = λ d. t.1;
+}
+each_unit size (both j l r) (Joins join left ∷ sights) cs t (suc k) h = by_test (ltb k left)
     (λ f.
-    let le = ltb-false k (units l) f in
-    rw (
-      ← dropped (2 + 2 * units l) (2 * (k - units l)) (2 * suc k) sights (omega arith),
-      ← dropped (24 + 24 * units l) (24 * (k - units l)) (24 * suc k) cs (omega arith),
-    ) (each_front size r (drop (2 + 2 * units l) sights) (drop (24 + 24 * units l) cs) t.5 (k - units l)
-    (omega arith)))
+    let u = each_unit size l sights (drop 24 cs) t.3 k (omega (arith, ltb-true k left f, t.2)) in
+    record {
+      sight = omega (arith, u.sight);
+      cells = omega (arith, u.cells, length-drop 24 cs);
+      is = λ d. subst (λ xs. Seen size (get_or sights k d) (take 24 xs))
+          (dropped 24 (24 * k) (24 * suc k) cs (omega arith)) (u.is d);
+    })
+    (λ f.
+    let le = ltb-false k left f in
+    let u = each_unit size r (drop left sights) (drop (24 + 24 * left) cs) t.4 (k - left) (omega (arith, t.2)) in
+    let at : left + (k - left) ≡ k = omega arith in
+    record {
+      sight = omega (arith, u.sight, length-drop left sights);
+      cells = omega (arith, u.cells, length-drop (24 + 24 * left) cs);
+      is = λ d. subst (λ xs. Seen size (get_or sights k d) (take 24 xs))
+          (dropped (24 + 24 * left) (24 * (k - left)) (24 * suc k) cs (omega arith))
+          (subst (λ x. Seen size x (take 24 (drop (24 * (k - left)) (drop (24 + 24 * left) cs))))
+          (get_or-drop left sights (k - left) d ∙ ap (λ i. get_or sights i d) at) (u.is d));
+    })
+each_unit size (unit o p a e) [] cs t k h = absurd t
+each_unit size (unit o p a e) (Joins join left ∷ sights) cs t k h = absurd t
+each_unit size (both j l r) [] cs t k h = absurd t
+each_unit size (both j l r) (Waits params values ∷ sights) cs t k h = absurd t
 
--- ---- unit after unit
-module _ (t k : ℕ) (rs : List ℤ) (s : List ℕ) (n : ℕ) (sights : List ℕ) (cs : List ℤ) where
-  abbrev later_from : ℕ → Bool
-  later_from i = some_open_later t k rs s (n - i) (drop (2 * i) sights) (drop (24 * i) cs)
+-- ---- the cells of n units, unit by unit
+pub chunks : ℕ → List ℤ → List (List ℤ)
+chunks zero cs = []
+chunks (suc n) cs = take 24 cs ∷ chunks n (drop 24 cs)
 
-  -- the answer for the unit at i
-  abbrev later_at : ℕ → Bool
-  later_at i = cond (ltb (nat_of (get_or (drop (24 * i) cs) 0 (pos 0))) 20)
-      (unit_opens_later t k rs s (get_or (drop (2 * i) sights) 1 0) (take 24 (drop (24 * i) cs))) false
+pub chunk_at : (n k : ℕ) (cs d : List ℤ) → k < n → get_or (chunks n cs) k d ≡ take 24 (drop (24 * k) cs)
+unfolding chunks
+chunk_at zero k cs d h = absurd (not-suc-le-zero h)
+chunk_at (suc n) zero cs d h = refl
+chunk_at (suc n) (suc k) cs d h = chunk_at n k (drop 24 cs) d (omega arith)
+    ∙ ap (take 24) (dropped 24 (24 * k) (24 * suc k) cs (omega arith))
 
-  unit_then : (i : ℕ) → i < n → later_from i ≡ (later_at i || later_from (i + 1))
-  unfolding some_open_later
-  unit_then i h =
-      let more : n - i ≡ suc (n - (i + 1)) = omega arith in
-      ap (λ m. some_open_later t k rs s m (drop (2 * i) sights) (drop (24 * i) cs)) more
-      ∙ ap₂ (λ q c. later_at i || some_open_later t k rs s (n - (i + 1)) q c)
-      (dropped (2 * i) 2 (2 * (i + 1)) sights (omega arith)) (dropped (24 * i) 24 (24 * (i + 1)) cs (omega arith))
+-- what `chunks_exact` gives of so many cells
+yields_chunks : (n : ℕ) (cs : List ℤ) (s : ChunksExact ℤ) → chunks_exact_size s ≡ 24 → chunks_exact_rest s ≡ cs
+    → 24 * n ≤ length cs → length cs < 24 * n + 24 → AlwaysYields chunks_exact_steps (λ x. x.now) s (chunks n cs)
+unfolding chunks
+yields_chunks zero cs s size rest low high = λ x j step. omega (
+  arith,
+  ap length (sym rest ∙ step.1.0),
+  length-append x.now (chunks_exact_rest j),
+  step.1.1,
+)
+yields_chunks (suc n) cs s size rest low high = (
+  λ j step. omega (arith, ap length rest, step.1.0),
+  λ x j step.
+      let e : cs ≡ x.now ++ chunks_exact_rest j = sym rest ∙ step.1.0 in
+      let l : length x.now ≡ 24 = step.1.1 ∙ size in (
+        sym (ap (take 24) e ∙ take_at x.now (chunks_exact_rest j) 24 l),
+        yields_chunks n (drop 24 cs) j (step.0 ∙ size)
+            (sym (ap (drop 24) e ∙ drop_at x.now (chunks_exact_rest j) 24 l)) (omega (arith, length-drop 24 cs))
+            (omega (arith, length-drop 24 cs)),
+      ),
+)
 
-  module _ (i : ℕ) (h : i < n) (inv : some_open_later t k rs s n sights cs ≡ later_from i) {b : Bool}
-      (is : b ≡ later_at i) where
-    pub later_found : b ≡ true → true ≡ some_open_later t k rs s n sights cs
-    later_found e = sym (inv ∙ unit_then i h ∙ ap (λ c. c || later_from (i + 1)) (sym is ∙ e))
+pub yields_units : (s : Zip (Iter Sight) (ChunksExact ℤ)) (sights : List Sight) (cs : List ℤ)
+    → iter_rest (zip_first s) ≡ sights → chunks_exact_size (zip_second s) ≡ 24 → chunks_exact_rest (zip_second s) ≡ cs
+    → YieldsList (zips fronts chunks_exact_steps) (λ p. (p.0.now, p.1.now)) s (zip sights (chunks (length cs / 24) cs))
+yields_units s sights cs first size rest = YieldsList-from_zip {others = chunks_exact_steps} {w = λ x. x.now}
+    (YieldsList-from_slice sights first)
+    (record { runs = yields_chunks (length cs / 24) cs (zip_second s) size rest (omega arith) (omega arith) })
 
-    pub later_next : b ≡ false → some_open_later t k rs s n sights cs ≡ later_from (i + 1)
-    later_next e = inv ∙ unit_then i h ∙ ap (λ c. c || later_from (i + 1)) (sym is ∙ e)
+-- what is given at a place
+module _ (size n m : ℕ) (sights : List Sight) (cs : List ℤ) (few : n ≤ m)
+    (each : (k : ℕ) → k < n → UnitAt size k sights cs) where
+  pub seen_at : (p : Sight × List ℤ) (k : ℕ) → k < length (zip (take n sights) (chunks m cs))
+      → p ≡ get_or (zip (take n sights) (chunks m cs)) k p → (length p.1 ≡ 24) × Seen size p.0 p.1
+  seen_at p k h e =
+      let both_long = length-zip (take n sights) (chunks m cs) in
+      let below_n : k < n = omega (arith, both_long, length-take n sights) in
+      let below_m : k < m = omega arith in
+      let u = each k below_n in
+      let at = e ∙ get_or-zip (take n sights) (chunks m cs) k p (omega (arith, both_long))
+      (omega (arith, both_long)) in
+      let sight : p.0 ≡ get_or sights k p.0 = ap (λ q. q.0) at ∙ get_or-take n sights k p.0 below_n in
+      let cells : p.1 ≡ take 24 (drop (24 * k) cs) = ap (λ q. q.1) at ∙ chunk_at m k cs p.1 below_m in (
+        ap length cells ∙ omega
+            (arith, length-take 24 (drop (24 * k) cs), length-drop (24 * k) cs, u.cells),
+        subst (λ x. Seen size x p.1) (sym sight) (subst (Seen size (get_or sights k p.0)) (sym cells) (u.is p.0)),
+      )
 
-  pub later_none : (i : ℕ) → i ≡ n → some_open_later t k rs s n sights cs ≡ later_from i
-      → false ≡ some_open_later t k rs s n sights cs
-  unfolding some_open_later
-  later_none i e inv =
-      let end : n - i ≡ 0 = omega arith in
-      sym (inv ∙ ap (λ m. some_open_later t k rs s m (drop (2 * i) sights) (drop (24 * i) cs)) end)
+-- behind the first
+behind : {size k : ℕ} {x : Sight} {sights : List Sight} {cs : List ℤ} → UnitAt size (suc k) (x ∷ sights) cs
+    → UnitAt size k sights (drop 24 cs)
+behind {size} {k} {sights = sights} {cs = cs} u = record {
+  sight = omega (arith, u.sight);
+  cells = omega (arith, u.cells, length-drop 24 cs);
+  is = λ d. subst (λ xs. Seen size (get_or sights k d) (take 24 xs))
+      (sym (dropped 24 (24 * k) (24 * suc k) cs (omega arith))) (u.is d);
+}
+
+-- ---- some unit opens later
+module _ (r : Reading) (s : List ℕ) (size : ℕ) where
+  abbrev pub opens : Sight × List ℤ → Bool
+  opens p = opens_at r s p.0 p.1
+
+  pub some_unit : (n m : ℕ) (sights : List Sight) (cs : List ℤ) → n ≤ m
+      → ((k : ℕ) → k < n → UnitAt size k sights cs)
+      → some_open_later r.time r.tag r.values.items s n (flat sights) cs
+      ≡ list_any opens (zip (take n sights) (chunks m cs))
+  unfolding some_open_later flat chunks
+  some_unit zero m sights cs h each = refl
+  some_unit (suc n) zero sights cs h each = absurd (not-suc-le-zero h)
+  some_unit (suc n) (suc m) [] cs h each = absurd (not-suc-le-zero (each 0 (omega arith)).sight)
+  some_unit (suc n) (suc m) (Waits params values ∷ sights) cs h each =
+      let first = (each 0 (omega arith)).is (Waits 0 0) in
+      rw (sort_at cs first.sort) (ap (λ b. unit_opens_later r.time r.tag r.values.items s values (take 24 cs) || b)
+      (some_unit n m sights (drop 24 cs) (omega arith) (λ k l. behind (each (suc k) (omega arith)))))
+  some_unit (suc n) (suc m) (Joins join left ∷ sights) cs h each =
+      let first = (each 0 (omega arith)).is (Waits 0 0) in
+      rw (sort_at cs first.sort)
+      (some_unit n m sights (drop 24 cs) (omega arith) (λ k l. behind (each (suc k) (omega arith))))

@@ -1,13 +1,15 @@
 // Whether some unit of a table wants a reading and opens later.
-ghost use Rattle.std.specs.Prelude.{◌≡◌, cond, false, List, ℕ, ◌≤◌, ltb, pos, length, get_or, take};
+ghost use Rattle.std.specs.Prelude.{◌≡◌, List, ℕ, ◌≤◌, length};
 ghost use Rattle.csl.specs.Syntax.{Head};
 ghost use Rattle.csl.specs.Decode.{clause};
 ghost use Rattle.residues.specs.Reduces.{farthest};
-ghost use Rattle.cells.specs.Across.{nat_of, clause_opens_later, unit_opens_later, some_open_later};
-ghost use Rattle.walk.specs.Tree.{Front, Tree};
+ghost use Rattle.cells.specs.Across.{clause_opens_later, some_open_later};
+ghost use Rattle.cells.specs.Sights.{flat};
+ghost use Rattle.walk.specs.Tree.{Seen, Tree, opens_at};
 
 use crate::clause_at;
-use crate::tree::Units;
+use crate::tree::{Units, natural};
+use cells::{FIRST_VALUE, Sight, UNIT_CELLS};
 use octets::{is_record, kind};
 use readings::Reading;
 use records::MAIN_DEPTH;
@@ -30,18 +32,19 @@ fn clause_opens_later(reading: &Reading, s: &[u8], vs: &[i64], a: usize) -> bool
     }
 }
 
-// The first unit waits for this reading, and opens later.
-fn unit_opens_later(agreement: &[u8], reading: &Reading, units: Units<'_>) -> bool
-    requires { Front (length agreement.now) units.sights.now units.cells.now }
-    ensures { result ≡ cond (ltb (nat_of (get_or units.entry.cells.now 0 (pos 0))) 20)
-        (unit_opens_later reading.now.time reading.now.tag reading.now.values.items agreement.now
-        (get_or units.entry.sights.now 1 0) (take 24 units.entry.cells.now)) false }
+// A unit waits for this reading, and opens later.
+fn unit_opens_later(agreement: &[u8], reading: &Reading, sight: Sight, unit: &[i64]) -> bool
+    requires { (length unit.now ≡ 24) × Seen (length agreement.now) sight unit.now }
+    ensures { result ≡ opens_at reading.now agreement.now sight unit.now }
 {
-    if !units.waits() {
-        return false;
+    match sight {
+        Sight::Waits { params: _, values } => {
+            let s = clause_at(agreement, natural(unit, 1));
+            let vs = &unit[FIRST_VALUE..FIRST_VALUE + values];
+            clause_opens_later(reading, s, vs, natural(unit, 2))
+        }
+        Sight::Joins { .. } => false,
     }
-    let s = clause_at(agreement, units.natural(1));
-    clause_opens_later(reading, s, units.values(), units.natural(2))
 }
 
 // Some unit does.
@@ -49,12 +52,9 @@ pub fn some_open_later(agreement: &[u8], reading: &Reading, units: Units<'_>) ->
     requires near { length agreement.now ≤ farthest }
     requires tree { Tree (length agreement.now) units.sights.now units.cells.now units.count }
     ensures { result ≡ some_open_later reading.now.time reading.now.tag reading.now.values.items agreement.now
-        units.entry.count units.entry.sights.now units.entry.cells.now }
+        units.entry.count (flat units.entry.sights.now) units.entry.cells.now }
 {
-    for k in 0..units.count {
-        if unit_opens_later(agreement, reading, units.part(k, units.count - k)) {
-            return true;
-        }
-    }
-    false
+    let sights = units.sights[..units.count].iter();
+    let cells = units.cells.chunks_exact(UNIT_CELLS);
+    sights.zip(cells).any(|(sight, unit)| unit_opens_later(agreement, reading, *sight, unit))
 }

@@ -4,19 +4,22 @@
 pub mod later;
 mod tree;
 
-ghost use Rattle.std.specs.Prelude.{◌≡◌, ◌+◌, ◌≤◌, length, get_or, take};
+ghost use Rattle.std.specs.Prelude.{◌≡◌, ◌+◌, ◌≤◌, length};
 ghost use Rattle.csl.specs.Bytes.{part, record_end};
 ghost use Rattle.residues.specs.Reduces.{farthest};
 ghost use Rattle.residues.specs.Tallies.{Reckons};
 ghost use Rattle.waits.specs.Fates.{mode_at};
-ghost use Rattle.walk.specs.Tree.{Waiting, Tree, tree_reckoned, unit_at};
+ghost use Rattle.cells.specs.Across.{unit_reckoned};
+ghost use Rattle.walk.specs.Tree.{Waiting, Tree, tree_reckoned};
 
-use activation::{Clause, Site, activate};
+use activation::{Clause, Placed, Site, activate};
+use cells::{FIRST_PARAM, FIRST_VALUE, Sight, UNIT_CELLS};
 use octets::record_end;
 use records::{Agreement, MAIN_DEPTH};
 use residues::tallies::join_tallies;
 use residues::{Reckoned, join, room_left};
 pub use tree::Units;
+use tree::natural;
 use waits::Event;
 
 // The bytes of the clause at a place.
@@ -29,35 +32,35 @@ fn clause_at(agreement: &[u8], place: usize) -> &[u8]
     &agreement[place..end]
 }
 
-// What the first unit becomes, which waits.
+// What a waiting unit becomes, with so many party parameters and values in sight.
 fn waiting_unit(
     agreement: &Agreement<'_>,
     event: Event<'_>,
-    units: Units<'_>,
+    params: usize,
+    values: usize,
+    unit: &[i64],
     out: &mut [i64],
 ) -> Reckoned
     requires room { (length out.old ≤ 3072) × (length agreement.now ≤ farthest) }
-    requires in_bounds { (24 ≤ length units.cells.now) × (2 ≤ length units.sights.now)
-        × Waiting (length agreement.now) (get_or units.sights.now 0 0) (get_or units.sights.now 1 0)
-        (take 24 units.cells.now) }
-    ensures { Reckons (unit_at (mode_at event.entry) agreement.now units.entry.sights.now
-        units.entry.cells.now) result out.new }
+    requires waits { (length unit.now ≡ 24) × Waiting (length agreement.now) params values unit.now }
+    ensures { Reckons (unit_reckoned (mode_at event.entry) agreement.now params values unit.now) result out.new }
 {
-    let place = units.natural(1);
+    let place = natural(unit, 1);
     let site = Site {
         below: agreement.template_count(),
         place,
-        a: units.natural(2),
+        a: natural(unit, 2),
         depth: MAIN_DEPTH,
     };
     let clause = Clause {
         agreement,
         site,
         bytes: clause_at(agreement.bytes(), place),
-        params: units.params(),
-        values: units.values(),
+        params: &unit[FIRST_PARAM..FIRST_PARAM + params],
+        values: &unit[FIRST_VALUE..FIRST_VALUE + values],
     };
-    activate(event, &clause, out)
+    let placed = Placed { clause };
+    activate(event, &placed, out)
 }
 
 // What becomes of the units, a tree, what runs of it standing at the end of `out`. A join is followed by all of its
@@ -73,18 +76,21 @@ pub fn across(
     ensures { Reckons (tree_reckoned (mode_at event.entry) agreement.now units.entry.count units.entry.sights.now
         units.entry.cells.now) result out.new }
 {
-    if units.waits() {
-        return waiting_unit(agreement, event, units, out);
-    }
-    let left = units.sights[0];
-    let right = units.part(1 + left, units.count - 1 - left);
-    let r = across(agreement, event, right, out);
-    let room = room_left(r.outcome, out.len());
-    let l = across(agreement, event, units.part(1, left), &mut out[..room]);
-    let kind = units.join();
-    let tally = join_tallies(kind, l.tally, r.tally);
-    Reckoned {
-        outcome: join(kind, l.outcome, r.outcome, out),
-        tally,
+    let sight = units.sights[0];
+    match sight {
+        Sight::Waits { params, values } => {
+            let unit = &units.cells[..UNIT_CELLS];
+            waiting_unit(agreement, event, params, values, unit, out)
+        }
+        Sight::Joins { join: kind, left } => {
+            let right = units.part(1 + left, units.count - 1 - left);
+            let r = across(agreement, event, right, out);
+            let room = room_left(r.outcome, out.len());
+            let l = across(agreement, event, units.part(1, left), &mut out[..room]);
+            Reckoned {
+                outcome: join(kind, l.outcome, r.outcome, out),
+                tally: join_tallies(kind, l.tally, r.tally),
+            }
+        }
     }
 }

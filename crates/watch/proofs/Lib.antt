@@ -1,5 +1,4 @@
 pub mod Taking
-pub mod Carried
 pub mod Opened
 pub mod Serving
 pub mod Begun

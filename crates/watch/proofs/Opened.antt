@@ -1,49 +1,44 @@
 -- The first record of the input, found among the bytes at hand, and what is written for the whole input then.
-use Rattle.std.proofs.Common.{◌≡◌, refl, sym, ap, ap₂, ◌∙◌, subst, Bool, true, false, cond, Option, arith}
-use Rattle.std.proofs.Common.{List, [], ◌++◌, length, take, ℕ, ◌-◌, ◌≤◌, ◌<◌}
-use Rattle.csl.specs.Bytes.{part}
-use Rattle.laws.proofs.Lists.{length_part}
+use Rattle.std.proofs.Common.{◌≡◌, refl, sym, ap, ap₂, ◌∙◌, Bool, true, false, cond, Option, arith}
+use Rattle.std.proofs.Common.{List, [], ◌++◌, length, ℕ, ◌-◌, ◌≤◌, ◌<◌}
+use Rattle.std.proofs.lemmas.List.{length-append}
 use Rattle.stream.specs.Records.{records_of}
 use Rattle.stream.specs.Next.{next_of}
+use Rattle.stream.specs.Hands.{AtHand, Comes as ComesTo}
 use Rattle.stream.specs.declared.Next.{Next}
 use Rattle.stream.specs.declared.Next.TheVariants.{Record, Wait, End}
-use Rattle.stream.proofs.Cuts.{Cut, known, no_records}
+use Rattle.stream.proofs.Cuts.{known, no_records}
 use Rattle.lines.specs.Lines.{lines_of}
 use Rattle.watch.specs.Watched.{watched, watched_records, zeros}
 use Rattle.watch.specs.Runs.{Carries, Opens}
-use Rattle.watch.proofs.Carried.{front_is}
 
-module _ (buf : List ℕ) (size : ℕ) (ended : Bool) {r : Next} (found : r ≡ next_of (part buf 0 size) ended) where
+module _ (hand : AtHand) {r : Next} (found : r ≡ next_of hand.bytes hand.ended) where
   -- a record that was found lies within the bytes at hand
-  pub found_within : {k : ℕ} → size ≤ length buf → r ≡ Record k → k ≤ size
-  found_within {k} h is =
-      omega (arith, ((known (part buf 0 size) ended).cut k (sym found ∙ is)).bounded, length_part buf 0 size h)
+  pub found_within : {k : ℕ} → r ≡ Record k → k ≤ length hand.bytes
+  found_within {k} is = ((known hand.bytes hand.ended).cut k (sym found ∙ is)).bounded
 
-  pub waits_open : r ≡ Wait → ended ≡ false
-  waits_open is = ((known (part buf 0 size) ended).wait (sym found ∙ is)).1
+  pub waits_open : r ≡ Wait → hand.ended ≡ false
+  waits_open is = ((known hand.bytes hand.ended).wait (sym found ∙ is)).1
 
-  module _ {coming coming₂ : Option (List ℕ)} (carried : Carries coming false [] coming₂ ended (take size buf)) where
+  module _ {coming coming₂ : Option (List ℕ)} (carried : Carries coming false [] coming₂ hand.ended hand.bytes) where
     -- the first record is the agreement's
-    pub opens_record : {k : ℕ} → r ≡ Record k
-        → Opens coming coming₂ buf (record { takes = k; size = size; ended = ended })
+    pub opens_record : {k : ℕ} → r ≡ Record k → Opens coming coming₂ hand k
     unfolding watched watched_records
     opens_record {k} is = record {
       opens = λ bytes e.
-          let cut = subst (λ hand. Cut hand ended k) (front_is buf size)
-          ((known (part buf 0 size) ended).cut k (sym found ∙ is)) in
+          let cut = (known hand.bytes hand.ended).cut k (sym found ∙ is) in
           let w = carried.carries bytes e (λ q. cc) in
           (w.0, w.1, w.2, ap watched_records (ap records_of w.3 ∙ cut.is w.0 w.2));
     }
 
     -- there is no byte
-    pub opens_end : r ≡ End → Opens coming coming₂ buf (record { takes = 0; size = size; ended = ended })
+    pub opens_end : r ≡ End → Opens coming coming₂ hand 0
     unfolding watched watched_records
     opens_end is = record {
       opens = λ bytes e.
-          let over = (known (part buf 0 size) ended).end (sym found ∙ is) in
+          let over = (known hand.bytes hand.ended).end (sym found ∙ is) in
           let w = carried.carries bytes e (λ q. cc) in
-          let none : take size buf ++ w.0 ≡ [] =
-          ap₂ (λ a b. a ++ b) (sym (front_is buf size) ∙ over.0) (w.2 over.1) in (
+          let none : hand.bytes ++ w.0 ≡ [] = ap₂ (λ a b. a ++ b) over.0 (w.2 over.1) in (
             w.0,
             w.1,
             w.2,
@@ -53,7 +48,12 @@ module _ (buf : List ℕ) (size : ℕ) (ended : Bool) {r : Next} (found : r ≡ 
     }
 
 -- each turn brings a byte or the end
-pub fewer : (size size₂ : ℕ) (ended ended₂ : Bool) → ended ≡ false → size < 65_535 → (ended₂ ≡ false → size < size₂)
-    → cond ended₂ 0 (65_537 - size₂) < cond ended 0 (65_537 - size)
-fewer size size₂ ended true e h g = rw e (omega arith)
-fewer size size₂ ended false e h g = rw e (let more : size < size₂ = g refl in omega arith)
+pub fewer : (hand hand₂ : AtHand) {coming left : Option (List ℕ)} → hand.ended ≡ false → length hand.bytes < 65_535
+    → ComesTo hand.bytes hand₂ coming left
+    → cond hand₂.ended 0 (65_537 - length hand₂.bytes) < cond hand.ended 0 (65_537 - length hand.bytes)
+fewer hand hand₂ going h c = rw going (go hand₂.ended refl)
+  where
+    go : (b : Bool) → hand₂.ended ≡ b → cond b 0 (65_537 - length hand₂.bytes) < 65_537 - length hand.bytes
+    go true e = omega arith
+    go false e = let came = c.some e in
+        omega (arith, ap length c.behind, length-append hand.bytes c.came)

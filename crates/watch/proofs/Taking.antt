@@ -1,31 +1,31 @@
--- A record taken from the input: what is put and what is left to write, together, stay the same.
+-- A record taken from the bytes at hand: what is put and what is left to write, together, stay the same.
 use mathlib.Core.Path.{◌≡◌, refl, sym, ap, ap₂, ◌∙◌, subst}
 use mathlib.Core.Bool.{Bool, true, false, not}
 use mathlib.Core.List.{List, [], ◌∷◌, ◌++◌, append_assoc}
-use Prim.Native.Nat.{ℕ, ◌+◌, ◌-◌, ◌≤◌, ◌<◌}
+use Prim.Native.Nat.{ℕ, ◌+◌, ◌≤◌, ◌<◌}
+use Rattle.std.proofs.Common.{is_some}
 use native.Mathlib.Omega.{arith}
 use lib.Dec.{eqb}
 use lib.IntN.{ℤ}
 use lib.ListN.{length, take, drop, length-drop}
-use lib.Seq.{take_all, drop-drop}
-use Rattle.csl.specs.Bytes.{part}
 use Rattle.csl.specs.Entries.{ReadingAnswer, reading_of}
 use Rattle.laws.proofs.Clash.{impossible}
-use Rattle.stream.specs.Records.{is_whole, records_of}
+use Rattle.stream.specs.Records.{records_of}
 use Rattle.stream.specs.Next.{next_of}
+use Rattle.stream.specs.Hands.{AtHand}
 use Rattle.stream.specs.declared.Next.{Next}
 use Rattle.stream.specs.declared.Next.TheVariants.{Record, Wait, End}
 use Rattle.stream.proofs.Cuts.{Cut, Known, known, no_records}
 use Rattle.lines.specs.Lines.{reading_line, reading_lines}
+use Rattle.lines.specs.Put.{page_room, put}
+use Rattle.lines.specs.declared.Line.{Line}
+use Rattle.lines.proofs.Puts.{put_all}
+use Rattle.telling.specs.declared.Verdict.{Verdict}
+use Rattle.telling.specs.Verdicts.{text_of}
+use Rattle.telling.specs.Told.{line_room, Follows}
 use Rattle.watch.specs.declared.Stage.{Stage}
 use Rattle.watch.specs.declared.Stage.TheVariants.{Ready, Waiting, Over}
-use Rattle.telling.specs.declared.Told.{Told}
-use Rattle.telling.specs.Told.{line_room, Follows}
 use Rattle.watch.specs.Steps.{left, Comes, stage_after, Turns}
-
--- the rest of a slice
-pub rest_is : (l : List ℕ) (from : ℕ) → part l from (length l) ≡ drop from l
-rest_is l from = take_all (length l - from) (drop from l) (omega (arith, length-drop from l))
 
 -- what is left after a reading is what its number says
 left_after : (s : List ℕ) (n : ℕ) (a : ReadingAnswer) (rest : List ℕ)
@@ -39,108 +39,80 @@ left_after s n a rest = go (eqb a.number 8)
     go true = refl
     go false = refl
 
--- ---- where the record that was found ends
-module _ (input : List ℕ) (ended : Bool) (from : ℕ) {r : Next}
-    (found : r ≡ next_of (part input from (length input)) ended) where
-  abbrev rest : List ℕ
-  rest = part input from (length input)
+never_waits : (b : Bool) → stage_after b ≡ Waiting → ⊥
+never_waits true q = impossible cc
+never_waits false q = impossible cc
 
-  told : Known rest ended r
-  told = subst (Known rest ended) (sym found) (known rest ended)
+-- ---- what was found next
+module _ (hand : AtHand) {r : Next} (found : r ≡ next_of hand.bytes hand.ended) where
+  told : Known hand.bytes hand.ended r
+  told = subst (Known hand.bytes hand.ended) (sym found) (known hand.bytes hand.ended)
 
-  module _ (h : from ≤ length input) where
-    module _ {k : ℕ} (is : r ≡ Record k) where
-      cut : Cut rest ended k
-      cut = told.cut k is
+  module _ {k : ℕ} (is : r ≡ Record k) where
+    pub cut : Cut hand.bytes hand.ended k
+    cut = told.cut k is
 
-      pub some : 0 < k
-      some = cut.some
+    -- the record's line is put, and the rest is left
+    module _ (s : List ℕ) (cells cells₂ : List ℤ) (n : ℕ) (b page page₂ : List ℕ) (hand₂ : AtHand)
+        (l : Line Verdict) (record_is : b ≡ take k hand.bytes) (f : Follows s cells cells₂ n b l)
+        (rest : hand₂.bytes ≡ drop k hand.bytes) (ended : hand₂.ended ≡ hand.ended) where
+      abbrev a : ReadingAnswer
+      a = reading_of s cells b
 
-      pub ends : from + k ≤ length input
-      ends = omega (arith, cut.bounded, ap length (rest_is input from), length-drop from input)
-
-      next_is : (more : List ℕ) → Comes ended more → records_of (drop from input ++ more) ≡ part input from (from + k)
-          ∷ records_of (drop (from + k) input ++ more)
-      next_is more c =
-          let e : from + k - from ≡ k = omega arith in
-          ap (λ l. records_of (l ++ more)) (sym (rest_is input from)) ∙ cut.is more c
-          ∙ rw (rest_is input from, drop-drop k from input, e)
-
-      -- the record's line is put, and the rest is left
-      module _ (s : List ℕ) (cells cells₂ : List ℤ) (n : ℕ) (out : List ℕ) (at : ℕ) (out₂ : List ℕ) (t : Told)
-          (f : Follows s cells cells₂ n (part input from (from + k)) out at out₂ t) where
-        record_same : (more : List ℕ) → Comes ended more → take at out
-            ++ left Ready s cells n (drop from input ++ more) ≡ take t.at out₂
-            ++ left (stage_after t.go) s cells₂ (n + 1) (drop (from + k) input ++ more)
-        unfolding reading_lines
-        record_same more c =
-            let b = part input from (from + k) in
-            let a = reading_of s cells b in
-            let later = drop (from + k) input ++ more in
-            let tail : List ℕ = elim (eqb a.number 8)
-            [ true ↦ [] | false ↦ reading_lines s a.table (n + 1) (records_of later) ] in
-            ap (λ rs. take at out ++ reading_lines s cells n rs) (next_is more c)
-            ∙ sym (append_assoc (take at out) (reading_line s n b a) tail)
-            ∙ ap (λ l. l ++ tail) (sym f.line.kept)
-            ∙ ap (λ l. take t.at out₂ ++ l) (left_after s n a later
-            ∙ ap₂ (λ g vs. left (stage_after g) s vs (n + 1) later) (sym f.goes) (sym f.table))
-
-        pub record_turns : {g : Stage} → g ≡ stage_after t.go → at + line_room ≤ length out
-            → Turns s cells cells₂ n input ended from out at out₂ (record {
-              stage = g;
-              from = from + k;
-              at = t.at;
-              line = n + 1;
-            })
-        record_turns {g} e room = record {
-          same = λ more c. record_same more c ∙ ap
-              (λ x. take t.at out₂ ++ left x s cells₂ (n + 1) (drop (from + k) input ++ more)) (sym e);
-          waits = λ w. absurd (never t.go (sym e ∙ w));
-          bounded = (omega arith, ends);
-          numbered = omega (arith, some);
-          fits = omega (arith, f.room);
-        }
-          where
-            never : (b : Bool) → stage_after b ≡ Waiting → ⊥
-            never true q = impossible cc
-            never false q = impossible cc
-
-    module _ (s : List ℕ) (cells : List ℤ) (n : ℕ) (out : List ℕ) (at : ℕ) (room : at ≤ length out) where
-      -- more input is needed
-      pub wait_turns : r ≡ Wait → (r ≡ Wait → length rest < 65_535)
-          → Turns s cells cells n input ended from out at out (record {
-            stage = Waiting;
-            from = from;
-            at = at;
-            line = n;
-          })
-      wait_turns e short = record {
-        same = λ more c. refl;
-        waits = λ _. (
-          ap is_whole (sym (rest_is input from)) ∙ (told.wait e).0,
-          (told.wait e).1,
-          omega (arith, short e, ap length (rest_is input from)),
-        );
-        bounded = (omega arith, h);
-        numbered = omega arith;
-        fits = room;
-      }
-
-      -- the input has ended after a whole record
-      pub end_turns : r ≡ End → Turns s cells cells n input ended from out at out (record {
-        stage = Over;
-        from = from;
-        at = at;
-        line = n;
-      })
+      record_same : page₂ ≡ page ++ reading_line s n b a → (more : List ℕ) → Comes hand.ended more
+          → page ++ left Ready s cells n (hand.bytes ++ more)
+          ≡ page₂ ++ left (stage_after (is_some l.time)) s cells₂ (n + 1) (hand₂.bytes ++ more)
       unfolding reading_lines
-      end_turns e =
-          let w = told.end e in
+      record_same puts more c =
+          let later = hand₂.bytes ++ more in
+          let tail : List ℕ = elim (eqb a.number 8)
+          [ true ↦ [] | false ↦ reading_lines s a.table (n + 1) (records_of later) ] in
+          let next : records_of (hand.bytes ++ more) ≡ b ∷ records_of later =
+          cut.is more c ∙ rw (record_is, rest) refl in
+          ap (λ rs. page ++ reading_lines s cells n rs) next
+          ∙ sym (append_assoc page (reading_line s n b a) tail)
+          ∙ ap (λ l. l ++ tail) (sym puts)
+          ∙ ap (λ l. page₂ ++ l) (left_after s n a later
+          ∙ ap₂ (λ g vs. left (stage_after g) s vs (n + 1) later) (sym f.goes) (sym f.table))
+
+      pub record_turns : length page + line_room ≤ page_room → page₂ ≡ put page (text_of l) → {g : Stage}
+          → g ≡ stage_after (is_some l.time)
+          → Turns s cells cells₂ n hand hand₂ page page₂ (record { stage = g; line = n + 1 })
+      record_turns room puts {g} e =
+          let all : put page (text_of l) ≡ page ++ text_of l = put_all page (text_of l) (omega (arith, room, f.room)) in
+          let put_is : page₂ ≡ page ++ reading_line s n b a = puts ∙ all ∙ ap (λ x. page ++ x) f.line in
+          let shorter = length-drop k hand.bytes in
           record {
-            same = λ more c. ap (λ rs. take at out ++ reading_lines s cells n rs)
-                (ap₂ (λ l m. records_of (l ++ m)) (sym (rest_is input from) ∙ w.0) (c w.1) ∙ no_records);
-            waits = λ q. impossible cc;
-            bounded = (omega arith, h);
-            numbered = omega arith;
-            fits = room;
+            same = λ more c. record_same put_is more c ∙ ap
+                (λ x. page₂ ++ left x s cells₂ (n + 1) (hand₂.bytes ++ more)) (sym e);
+            waits = λ w. absurd (never_waits (is_some l.time) (sym e ∙ w));
+            ended = ended;
+            bounded = omega (arith, ap length rest, cut.bounded);
+            numbered = omega (arith, ap length rest, cut.bounded, cut.some);
           }
+
+  module _ (s : List ℕ) (cells : List ℤ) (n : ℕ) (page : List ℕ) where
+    -- more input is needed
+    pub wait_turns : r ≡ Wait → length hand.bytes < 65_535
+        → Turns s cells cells n hand hand page page (record { stage = Waiting; line = n })
+    wait_turns e short = record {
+      same = λ more c. refl;
+      waits = λ _. ((told.wait e).0, (told.wait e).1, short);
+      ended = refl;
+      bounded = omega arith;
+      numbered = omega arith;
+    }
+
+    -- the input has ended after a whole record
+    pub end_turns : r ≡ End → Turns s cells cells n hand hand page page (record { stage = Over; line = n })
+    unfolding reading_lines
+    end_turns e =
+        let w = told.end e in
+        record {
+          same = λ more c. ap (λ rs. page ++ reading_lines s cells n rs)
+              (ap₂ (λ l m. records_of (l ++ m)) w.0 (c w.1) ∙ no_records);
+          waits = λ q. impossible cc;
+          ended = refl;
+          bounded = omega arith;
+          numbered = omega arith;
+        }

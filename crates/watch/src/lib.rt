@@ -2,126 +2,100 @@
 // waited for.
 #![tactic(auto)]
 
-ghost use Rattle.std.specs.Prelude.{◌≡◌, ◌++◌, ◌+◌, ◌^◌, ◌≤◌, ◌<◌, length, take, drop, false, IfOk, OnOk, IfSome};
+ghost use Rattle.std.specs.Prelude.{◌≡◌, [], ◌++◌, ◌+◌, ◌^◌, ◌≤◌, ◌<◌, length, take, false, IfOk, OnOk, IfSome};
 ghost use Rattle.std.specs.Io.KnownBytes.{Appends};
-ghost use Rattle.telling.specs.Told.{line_room};
 ghost use Rattle.stream.specs.Records.{records_of};
 ghost use Rattle.lines.specs.Lines.{reading_lines, lines_of};
+ghost use Rattle.lines.specs.Put.{page_room};
+ghost use Rattle.telling.specs.Told.{line_room};
 ghost use Rattle.watch.specs.Watched.{watched, zeros};
-ghost use Rattle.watch.specs.Steps.{stage_after, goes_on, Turns};
-ghost use Rattle.watch.specs.Runs.{Carries, Grows, Opens, Serves, Writes};
-ghost use Rattle.watch.specs.declared.Stage.TheVariants.{Ready, Waiting};
+ghost use Rattle.watch.specs.Steps.{Starts, Turns, Takes};
+ghost use Rattle.watch.specs.Runs.{Opens, Serves, Writes};
 
 use cells::TABLE_CELLS;
+use lines::{Page, Put};
 use std::io;
 use std::io::{Read, Write};
-use stream::{Got, Next, emit, keep, next_record, read_more};
-use telling::{LINE_ROOM, begin, follow};
+use stream::{Hand, Next, emit};
+use telling::{LINE_ROOM, begin, follow, goes_on};
 use thiserror::Error;
 
-// The bytes of each buffer: no record is longer, and input that is there is read in large pieces.
+// No record is longer.
 const ROOM: usize = 65_536;
 
+// A proved loop has to end, and nothing says that the input does.
+const MOST_TURNS: u64 = 140_737_488_355_328;
+
 // Where a run stands: a record may be there, or more input is needed, or it has ended.
-#[derive(Clone, Copy)]
+#[derive(Clone, Copy, Debug, PartialEq, Eq)]
 enum Stage {
     Ready,
     Waiting,
     Over,
 }
 
-// The stage; how many bytes of the input are taken, and of the output's buffer in use; the next line's number.
-#[derive(Clone, Copy)]
+// The stage, and the next line's number.
+#[derive(Clone, Copy, Debug, PartialEq, Eq)]
 struct Turn {
     stage: Stage,
-    from: usize,
-    at: usize,
     line: u64,
 }
 
-// The next record of an input from which `from` bytes were taken.
-fn step(
-    agreement: &[u8],
-    table: &mut [i64],
-    input: &[u8],
-    ended: bool,
-    from: usize,
-    out: &mut [u8],
-    at: usize,
-    line: u64,
-) -> Turn
-    requires { (from ≤ length input.now) × (at + line_room ≤ length out.old) × (line + length input.now < 2 ^ 64 + from) }
-    ensures turns { Turns agreement.now table.old table.new line input.now ended from out.old at out.new result }
-    ensures takes { result.stage ≡ Ready → from < result.from }
+// Starts the agreement, and puts its line. Whether the run goes on.
+fn start(agreement: &[u8], table: &mut [i64], page: &mut Page) -> bool
+    requires { length page.old + line_room ≤ page_room }
+    ensures { Starts agreement.now table.old table.new page.old page.new result }
 {
-    match next_record(&input[from..], ended) {
+    let told = begin(agreement, table);
+    told.put_on(page);
+    goes_on(&told)
+}
+
+// The next record of those at hand: its line is put.
+fn step(agreement: &[u8], table: &mut [i64], hand: &mut Hand, page: &mut Page, line: u64) -> Turn
+    requires { (length page.old + line_room ≤ page_room) × (line + length hand.old.bytes < 2 ^ 64) }
+    ensures turns { Turns agreement.now table.old table.new line hand.old hand.new page.old page.new result }
+    ensures takes { Takes hand.old hand.new result }
+{
+    match hand.next() {
         Next::Wait => Turn {
             stage: Stage::Waiting,
-            from,
-            at,
             line,
         },
         Next::End => Turn {
             stage: Stage::Over,
-            from,
-            at,
             line,
         },
         Next::Record(size) => {
-            let e = from + size;
-            let told = follow(agreement, table, &input[from..e], out, at, line);
-            Turn {
-                stage: stage_after(told.go),
-                from: e,
-                at: told.at,
-                line: line + 1,
-            }
+            let told = follow(agreement, table, &hand.bytes()[..size], line);
+            told.put_on(page);
+            hand.take(size);
+            let line = line + 1;
+            let stage = if goes_on(&told) {
+                Stage::Ready
+            } else {
+                Stage::Over
+            };
+            Turn { stage, line }
         }
     }
 }
 
-fn stage_after(go: bool) -> Stage
-    ensures { result ≡ stage_after go }
+// All records that are at hand, as long as the page has room for a line.
+fn drain(agreement: &[u8], table: &mut [i64], hand: &mut Hand, page: &mut Page, line: u64) -> Turn
+    requires { line + length hand.old.bytes < 2 ^ 64 }
+    ensures { Turns agreement.now table.old table.new line hand.old hand.new page.old page.new result }
 {
-    if go { Stage::Ready } else { Stage::Over }
-}
-
-// All records that are there, as long as a line has room: what is written stands at the front of out.
-fn drain(
-    agreement: &[u8],
-    table: &mut [i64],
-    input: &[u8],
-    ended: bool,
-    out: &mut [u8],
-    line: u64,
-) -> Turn
-    requires { line + length input.now < 2 ^ 64 }
-    ensures { Turns agreement.now table.old table.new line input.now ended 0 out.old 0 out.new result }
-{
-    let mut from = 0;
-    let mut at = 0;
     let mut n = line;
-    while LINE_ROOM <= out.len() - at {
-        let t = step(agreement, table, input, ended, from, out, at, n);
-        let stage = t.stage;
-        match stage {
-            Stage::Waiting => {
-                return t;
-            }
-            Stage::Over => {
-                return t;
-            }
-            Stage::Ready => {
-                from = t.from;
-                at = t.at;
-                n = t.line;
-            }
+    while LINE_ROOM <= page.room() {
+        let turn = step(agreement, table, hand, page, n);
+        match turn.stage {
+            Stage::Ready => n = turn.line,
+            _ => return turn,
         }
     }
     Turn {
         stage: Stage::Ready,
-        from,
-        at,
         line: n,
     }
 }
@@ -140,178 +114,72 @@ pub enum Failure {
     TooLong,
 }
 
-// The bytes at hand stand at the front of a buffer: how many, and whether the input has ended there.
-#[derive(Clone, Copy)]
-struct Held {
-    size: usize,
-    ended: bool,
-}
-
-// Waits for more input behind the bytes at hand.
-fn wait<R: Read>(input: &mut R, buf: &mut [u8], size: usize) -> Result<Held, Failure>
-    requires { size < length buf.old }
-    ensures kept { take size buf.new ≡ take size buf.old }
-    ensures within { IfOk result (λ held. held.size ≤ length buf.old) }
-    ensures grows { IfOk result (Grows size) }
-    ensures carries { IfOk result (λ held. Carries (R.remaining input.old) false (take size buf.old)
-        (R.remaining input.new) held.ended (take held.size buf.new)) }
-{
-    match read_more(input, buf, size) {
-        Ok(Got::Bytes(n)) => Ok(Held {
-            size: size + n,
-            ended: false,
-        }),
-        Ok(Got::Over) => Ok(Held { size, ended: true }),
-        Err(why) => Err(Failure::Input(why)),
-    }
-}
-
-// Writes the first `at` bytes of out.
-fn write<W: Write>(output: &mut W, out: &[u8], at: usize) -> Result<(), Failure>
-    requires { at ≤ length out.now }
-    ensures { OnOk result (Appends (W.contents output.old) (W.contents output.new) (take at out.now)) }
-{
-    match emit(output, out, at) {
-        Ok(()) => Ok(()),
-        Err(why) => Err(Failure::Output(why)),
-    }
-}
-
-// A run after a turn: whether it goes on, the bytes at hand, the next line's number.
-#[derive(Clone, Copy)]
-struct Served {
-    go: bool,
-    size: usize,
-    ended: bool,
-    line: u64,
-}
-
-// After a turn: more input is waited for only where it is needed, and all lines are written by then.
-fn await_more<R: Read>(
-    input: &mut R,
-    buf: &mut [u8],
-    size: usize,
-    ended: bool,
-    stage: Stage,
-    line: u64,
-) -> Result<Served, Failure>
-    requires { (size ≤ length buf.old) × (stage ≡ Waiting → size < length buf.old) }
-    ensures within { IfOk result (λ served. served.size ≤ length buf.old) }
-    ensures line { IfOk result (λ served. served.line ≡ line) }
-    ensures goes { IfOk result (λ served. served.go ≡ goes_on stage) }
-    ensures carries { IfOk result (λ served. Carries (R.remaining input.old) ended (take size buf.old)
-        (R.remaining input.new) served.ended (take served.size buf.new)) }
-{
-    match stage {
-        Stage::Over => Ok(Served {
-            go: false,
-            size,
-            ended,
-            line,
-        }),
-        Stage::Ready => Ok(Served {
-            go: true,
-            size,
-            ended,
-            line,
-        }),
-        Stage::Waiting => {
-            let held = wait(input, buf, size)?;
-            Ok(Served {
-                go: true,
-                size: held.size,
-                ended: held.ended,
-                line,
-            })
-        }
-    }
-}
-
-// All records at hand, their lines written, and then more input, if it is needed.
+// All records at hand, their lines written, and then more input, only if it is needed. The next line's number, if the
+// run goes on.
 fn serve<R: Read, W: Write>(
     agreement: &[u8],
     table: &mut [i64],
     input: &mut R,
-    buf: &mut [u8],
-    size: usize,
-    ended: bool,
+    hand: &mut Hand,
     output: &mut W,
-    out: &mut [u8],
+    page: &mut Page,
     line: u64,
-) -> Result<Served, Failure>
-    requires { (size ≤ length buf.old) × (length buf.old ≡ 65_536) × (line + size < 2 ^ 64) }
-    ensures within { IfOk result (λ served. (served.size ≤ 65_536) × (served.line ≤ line + 65_536)) }
-    ensures serves { IfOk result (Serves agreement.now table.old table.new line (take size buf.old) buf.new ended
+) -> Result<Option<u64>, Failure>
+    requires { (page.old ≡ []) × (length hand.old.bytes ≤ 65_536) × (line + length hand.old.bytes < 2 ^ 64) }
+    ensures page { OnOk result (page.new ≡ []) }
+    ensures within { OnOk result (length hand.new.bytes ≤ 65_536) }
+    ensures numbered { IfOk result (λ next. IfSome next (λ n. n ≤ line + 65_536)) }
+    ensures serves { IfOk result (Serves agreement.now table.old table.new line hand.old hand.new
         (R.remaining input.old) (R.remaining input.new) (W.contents output.old) (W.contents output.new)) }
 {
-    let t = drain(agreement, table, &buf[0..size], ended, out, line);
-    write(output, out, t.at)?;
-    let left = keep(buf, t.from, size);
-    await_more(input, buf, left, ended, t.stage, t.line)
+    let turn = drain(agreement, table, hand, page, line);
+    emit(output, page).map_err(Failure::Output)?;
+    match turn.stage {
+        Stage::Over => Ok(None),
+        Stage::Ready => Ok(Some(turn.line)),
+        Stage::Waiting => {
+            hand.wait(input).map_err(Failure::Input)?;
+            Ok(Some(turn.line))
+        }
+    }
 }
 
-// Readings until the run ends. A proved loop has to end, and nothing says that the input does: so there are at most
-// 2^47 turns.
+// Readings until the run ends.
 fn run<R: Read, W: Write>(
     agreement: &[u8],
     table: &mut [i64],
     input: &mut R,
-    buf: &mut [u8],
-    held: Held,
+    hand: &mut Hand,
     output: &mut W,
-    out: &mut [u8],
+    page: &mut Page,
 ) -> Result<(), Failure>
-    requires { (held.size ≤ length buf.old) × (length buf.old ≡ 65_536) }
-    ensures { OnOk result (Writes (R.remaining input.old) held.ended (W.contents output.old) (W.contents output.new)
-        (λ bytes. reading_lines agreement.now table.old 1 (records_of (take held.size buf.old ++ bytes)))) }
+    requires { (page.old ≡ []) × (length hand.old.bytes ≤ 65_536) }
+    ensures { OnOk result (Writes (R.remaining input.old) hand.old.ended (W.contents output.old)
+        (W.contents output.new) (λ bytes. reading_lines agreement.now table.old 1
+        (records_of (hand.old.bytes ++ bytes)))) }
 {
-    let mut size = held.size;
-    let mut ended = held.ended;
     let mut line = 1;
-    'turns: for _ in 0..140_737_488_355_328u64 {
-        let next = serve(agreement, table, input, buf, size, ended, output, out, line)?;
-        if !next.go {
-            return Ok(());
+    'turns: for _ in 0..MOST_TURNS {
+        match serve(agreement, table, input, hand, output, page, line)? {
+            Some(next) => line = next,
+            None => return Ok(()),
         }
-        size = next.size;
-        ended = next.ended;
-        line = next.line;
     }
     Err(Failure::TooLong)
 }
 
-// What is found of the input's first record: how many bytes it takes, and the bytes at hand.
-#[derive(Clone, Copy)]
-struct First {
-    takes: usize,
-    size: usize,
-    ended: bool,
-}
-
-// Looks for the first record, and waits for more input as long as it is not whole. Each read brings a byte or the end
-// of the input.
-fn first_record<R: Read>(input: &mut R, buf: &mut [u8]) -> Result<First, Failure>
-    requires { length buf.old ≡ 65_536 }
-    ensures within { IfOk result (λ first. (first.takes ≤ first.size) × (first.size ≤ 65_536)) }
-    ensures opens { IfOk result (Opens (R.remaining input.old) (R.remaining input.new) buf.new) }
+// Looks for the first record, and waits for more input as long as it is not whole: how many bytes it takes, none where
+// the input has none. Each read brings a byte or the end of the input.
+fn first_record<R: Read>(input: &mut R, hand: &mut Hand) -> Result<usize, Failure>
+    requires { (hand.old.bytes ≡ []) × (hand.old.ended ≡ false) }
+    ensures within { IfOk result (λ takes. (takes ≤ length hand.new.bytes) × (length hand.new.bytes ≤ 65_536)) }
+    ensures opens { IfOk result (Opens (R.remaining input.old) (R.remaining input.new) hand.new) }
 {
-    let mut size = 0;
-    let mut ended = false;
     'reads: loop {
-        match next_record(&buf[0..size], ended) {
-            Next::Record(takes) => return Ok(First { takes, size, ended }),
-            Next::End => {
-                return Ok(First {
-                    takes: 0,
-                    size,
-                    ended,
-                });
-            }
-            Next::Wait => {
-                let held = wait(input, buf, size)?;
-                size = held.size;
-                ended = held.ended;
-            }
+        match hand.next() {
+            Next::Record(size) => return Ok(size),
+            Next::End => return Ok(0),
+            Next::Wait => hand.wait(input).map_err(Failure::Input)?,
         }
     }
 }
@@ -321,46 +189,41 @@ fn go_on<R: Read, W: Write>(
     agreement: &[u8],
     table: &mut [i64],
     input: &mut R,
-    buf: &mut [u8],
-    first: First,
+    hand: &mut Hand,
     output: &mut W,
-    out: &mut [u8],
+    page: &mut Page,
 ) -> Result<(), Failure>
-    requires { (first.takes ≤ first.size) × (first.size ≤ 65_536) × (length buf.old ≡ 65_536) × (line_room ≤ length out.old) }
-    ensures { OnOk result (Writes (R.remaining input.old) first.ended (W.contents output.old) (W.contents output.new)
-        (λ bytes. lines_of agreement.now table.old
-        (records_of (drop first.takes (take first.size buf.old) ++ bytes)))) }
+    requires { (page.old ≡ []) × (length hand.old.bytes ≤ 65_536) }
+    ensures { OnOk result (Writes (R.remaining input.old) hand.old.ended (W.contents output.old)
+        (W.contents output.new) (λ bytes. lines_of agreement.now table.old (records_of (hand.old.bytes ++ bytes)))) }
 {
-    let told = begin(agreement, table, out);
-    write(output, out, told.at)?;
-    if !told.go {
+    let goes = start(agreement, table, page);
+    emit(output, page).map_err(Failure::Output)?;
+    if !goes {
         return Ok(());
     }
-    let held = Held {
-        size: keep(buf, first.takes, first.size),
-        ended: first.ended,
-    };
-    run(agreement, table, input, buf, held, output, out)
+    run(agreement, table, input, hand, output, page)
 }
 
-// All of the input, through these buffers.
+// All of the input, its first record copied for the run.
 fn watch_through<R: Read, W: Write>(
     input: &mut R,
-    buf: &mut [u8],
+    hand: &mut Hand,
     agreement: &mut [u8],
     table: &mut [i64],
     output: &mut W,
-    out: &mut [u8],
+    page: &mut Page,
 ) -> Result<(), Failure>
+    requires empty { (hand.old.bytes ≡ []) × (hand.old.ended ≡ false) × (page.old ≡ []) }
     requires zeros { table.old ≡ zeros }
-    requires room { (length buf.old ≡ 65_536) × (length agreement.old ≡ 65_536) × (line_room ≤ length out.old) }
+    requires room { length agreement.old ≡ 65_536 }
     ensures { OnOk result (IfSome (R.remaining input.old) (λ bytes.
         Appends (W.contents output.old) (W.contents output.new) (watched bytes))) }
 {
-    let first = first_record(input, buf)?;
-    let n = first.takes;
-    agreement[0..n].copy_from_slice(&buf[0..n]);
-    go_on(&agreement[0..n], table, input, buf, first, output, out)
+    let takes = first_record(input, hand)?;
+    agreement[..takes].copy_from_slice(&hand.bytes()[..takes]);
+    hand.take(takes);
+    go_on(&agreement[..takes], table, input, hand, output, page)
 }
 
 // Reads the agreement and readings from the input, and writes a line for each: where the input's bytes are known, and
@@ -369,16 +232,16 @@ pub fn watch<R: Read, W: Write>(input: &mut R, output: &mut W) -> Result<(), Fai
     ensures { OnOk result (IfSome (R.remaining input.old) (λ bytes.
         Appends (W.contents output.old) (W.contents output.new) (watched bytes))) }
 {
+    let mut hand = Hand::new();
+    let mut page = Page::new();
     let mut table = [0i64; TABLE_CELLS];
-    let mut buf = [0u8; ROOM];
     let mut agreement = [0u8; ROOM];
-    let mut out = [0u8; ROOM];
     watch_through(
         input,
-        &mut buf,
+        &mut hand,
         &mut agreement,
         &mut table,
         output,
-        &mut out,
+        &mut page,
     )
 }

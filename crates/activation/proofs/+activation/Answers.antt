@@ -1,7 +1,7 @@
 -- Each activation within another falls in the pair of template number and clause size, or takes no reading where the
 -- one around it did; what its answer says of a part, with the clause itself counted, is what the rules say of the
 -- whole.
-use Rattle.activation.proofs.Recursion.{lighter_within, heavy, follows_some, stood}
+use Rattle.activation.proofs.Recursion.{lighter_within, heavy, stood}
 use Rattle.activation.proofs.Recursion.{few_sorts}
 use Rattle.activation.proofs.Recursion.{reckons_as, reckons_by, reckons_broken, reckons_waiting, reckons_laid}
 use Rattle.activation.proofs.Walks.{then_is}
@@ -33,9 +33,9 @@ later x = cells.reaches (cells.becomes x)
 -- a waiting unit
 pub act-put_unit-unit-requires : goal.act-put_unit-unit-requires
 act-put_unit-unit-requires t c =
-    let h = c.args.clause.now in (
+    let h = c.args.placed.now.clause in (
       rw c.from-sort.ensures (few_sorts c.in-Waits.sort),
-      omega (arith, h.placed),
+      omega (arith, c.args.placed.now.inside),
       omega (arith, h.soon),
       omega (arith, h.params_fit),
       h.values_fit,
@@ -49,14 +49,14 @@ act-part-side-requires t c = let g = c.in-Picks.ensures in (g.deep, g.order, g.i
 pub act-activate-requires : goal.act-activate-requires
 unfolding Leads
 act-activate-requires t c =
-    let h = c.args.clause.now in
+    let h = c.args.placed.now.clause in
     let g = c.in-Picks.ensures in
     let e = c.part-side.ensures in
     let n = length_part h.bytes.now c.in-Picks.from c.in-Picks.to g.inside in (
       omega (
         arith,
         c.decreases,
-        lighter_within c.args.event h.site c.in-Picks.from h.site.a e.site (length c.part-side.result.bytes.now)
+        lighter_within c.args.event h.site c.in-Picks.from h.site.a e.site (length c.part-side.result.clause.bytes.now)
             (length h.bytes.now) (omega (arith, ap length e.bytes, n, g.past, g.order, g.inside)),
       ),
       c.requires.0,
@@ -70,7 +70,7 @@ act-part-otherwise-requires t c = let g = c.in-Lapses.ensures in (g.deep, g.orde
 pub act-activate-requires-in-Lapses : goal.act-activate-requires-in-Lapses
 unfolding Leads
 act-activate-requires-in-Lapses t c =
-    let h = c.args.clause.now in
+    let h = c.args.placed.now.clause in
     let g = c.in-Lapses.ensures in
     let e = c.part-otherwise.ensures in
     let n = length_part h.bytes.now c.in-Lapses.from c.in-Lapses.to g.inside in (
@@ -78,24 +78,20 @@ act-activate-requires-in-Lapses t c =
         arith,
         c.decreases,
         lighter_within c.args.event h.site c.in-Lapses.from c.in-Lapses.at e.site
-            (length c.part-otherwise.result.bytes.now) (length h.bytes.now)
+            (length c.part-otherwise.result.clause.bytes.now) (length h.bytes.now)
             (omega (arith, ap length e.bytes, n, g.past, g.order, g.inside)),
       ),
       c.requires.0,
     )
 
 -- a `then`
-pub act-unreachable-requires : goal.act-unreachable-requires
-unfolding Leads
-act-unreachable-requires t c = follows_some c.args.event c.in-Takes.ensures.follows c.in_default.not-Follow
-
 pub act-taken-requires : goal.act-taken-requires
 unfolding Leads
 act-taken-requires t c =
-    let h = c.args.clause.now in
+    let h = c.args.placed.now.clause in
     let g = c.in-Takes.ensures in
     let m = read! {z = c.in-Takes.last} (search rules) in (
-      omega (arith, c.decreases, heavy c.in-Follow.is h.site (length h.bytes.now)),
+      omega (arith, c.decreases, heavy c.args.event g.follows h.site (length h.bytes.now)),
       (c.requires.0, g.deep, g.order, g.inside, rw m g.near),
     )
 
@@ -105,7 +101,7 @@ unfolding Leads
 act-unfold-requires t c =
     let g = c.in-Unfolds.ensures in (
       omega (arith, c.decreases),
-      (c.requires.0, record { less = g.less; deep = g.deep; inside = g.inside; few = g.few }),
+      (c.requires.0, record { less = g.less; deep = c.requires.1.deep; inside = g.inside; few = g.few }),
     )
 
 pub act-returns-in-Ends : goal.act-returns-in-Ends
@@ -114,12 +110,12 @@ act-returns-in-Ends t c = reckons_as c.in-Ends.ensures (c.ended.ensures c.args.o
 
 pub act-returns-in-Breaks : goal.act-returns-in-Breaks
 unfolding Leads
-act-returns-in-Breaks t c = reckons_broken c.alone.ensures c.args.out.now (search rules) c.in-Breaks.ensures
+act-returns-in-Breaks t c = reckons_broken c.alone.ensures c.args.out.now c.in-Breaks.ensures
 
 pub act-returns-in-Waits : goal.act-returns-in-Waits
 unfolding Leads
 act-returns-in-Waits t c =
-    let h = c.args.clause.now in
+    let h = c.args.placed.now.clause in
     reckons_waiting c.alone-in-Waits.ensures c.put_unit-unit.new.out
     (unit_of (wait_number c.in-Waits.sort) h.site.place h.site.a h.params.now h.values.now) c.in-Waits.ensures
     (rw c.from-sort.ensures at c.put_unit-unit.ensures)
@@ -130,17 +126,16 @@ act-returns-in-Picks t c =
     reckons_by cells.reaches c.in-Picks.ensures.is (rw (stood c.args.event c.part-side.ensures) at c.activate.ensures)
     (search rules)
 
-pub act-returns-in-Follow : goal.act-returns-in-Follow
+pub act-returns-in-Takes : goal.act-returns-in-Takes
 unfolding Leads
-act-returns-in-Follow t c =
-    let h = c.args.clause.now in
-    let r = c.in-Follow.reading.now in
+act-returns-in-Takes t c =
+    let h = c.args.placed.now.clause in
+    let r = c.in-Takes.reading.now in
     let m = read! {z = c.in-Takes.last} (search rules) in
     let us = then_values h.values.now r.values.items (c.in-Takes.last -ℤ pos r.time) in
     let activated = then_is h.agreement.now (clause (heads_of h.agreement.now) (h.site.depth - 1)
     (h.site.place + c.in-Takes.from) (part h.bytes.now c.in-Takes.from c.in-Takes.to)) h.params.now us r.time in
-    let is = rw c.in-Follow.is at c.in-Takes.ensures.is in
-    rw c.in-Follow.is (reckons_by later (is ∙ ap later activated) (rw m at c.taken.ensures) c.ended_wait.ensures)
+    reckons_by later (c.in-Takes.ensures.is ∙ ap later activated) (rw m at c.taken.ensures) c.ended_wait.ensures
 
 pub act-returns-in-Lapses : goal.act-returns-in-Lapses
 unfolding Leads
@@ -157,7 +152,7 @@ act-returns-in-Unfolds t c =
 pub activate-ended-requires : goal.activate-ended-requires
 unfolding Shaped
 activate-ended-requires t c =
-    let h = c.args.clause.now in
+    let h = c.args.placed.now.clause in
     let g = c.in-Ends.ensures c.args.event h.agreement.now h.site.below h.site.place h.params.now h.values.now
     h.site.a in
     omega (arith, g.1)
@@ -165,7 +160,7 @@ activate-ended-requires t c =
 pub activate-part-side-requires : goal.activate-part-side-requires
 unfolding Shaped
 activate-part-side-requires t c =
-    let h = c.args.clause.now in
+    let h = c.args.placed.now.clause in
     let g = c.in-Goes.ensures c.args.event h.agreement.now h.site.below h.site.place h.params.now h.values.now
     h.site.a in
     (g.deep, g.order, g.inside, g.soon)
@@ -173,7 +168,7 @@ activate-part-side-requires t c =
 pub activate-activate-requires : goal.activate-activate-requires
 unfolding Shaped
 activate-activate-requires t c =
-    let h = c.args.clause.now in
+    let h = c.args.placed.now.clause in
     let g = c.in-Goes.ensures c.args.event h.agreement.now h.site.below h.site.place h.params.now h.values.now
     h.site.a in
     let e = c.part-side.ensures in
@@ -181,7 +176,7 @@ activate-activate-requires t c =
       omega (
         arith,
         c.decreases,
-        lighter_within c.args.event h.site c.in-Goes.from h.site.a e.site (length c.part-side.result.bytes.now)
+        lighter_within c.args.event h.site c.in-Goes.from h.site.a e.site (length c.part-side.result.clause.bytes.now)
             (length h.bytes.now) (omega (arith, ap length e.bytes, n, g.past, g.order, g.inside)),
       ),
       c.requires,
@@ -190,7 +185,7 @@ activate-activate-requires t c =
 pub activate-both-requires : goal.activate-both-requires
 unfolding Shaped
 activate-both-requires t c =
-    let h = c.args.clause.now in
+    let h = c.args.placed.now.clause in
     let g = c.in-Joins.ensures c.args.event h.agreement.now h.site.below h.site.place h.params.now h.values.now
     h.site.a in
     (omega (arith, c.decreases), (c.requires, record { deep = g.deep; order = g.order; inside = g.inside }))
@@ -198,7 +193,7 @@ activate-both-requires t c =
 pub activate-act-requires : goal.activate-act-requires
 unfolding Shaped
 activate-act-requires t c =
-    let h = c.args.clause.now in
+    let h = c.args.placed.now.clause in
     let g = c.in-Acts.ensures c.args.event h.agreement.now h.site.below h.site.place h.params.now h.values.now
     h.site.a in
     (omega (arith, c.decreases), (c.requires, g))
@@ -206,7 +201,7 @@ activate-act-requires t c =
 pub activate-returns-in-Ends : goal.activate-returns-in-Ends
 unfolding Shaped
 activate-returns-in-Ends t c =
-    let h = c.args.clause.now in
+    let h = c.args.placed.now.clause in
     let g = c.in-Ends.ensures c.args.event h.agreement.now h.site.below h.site.place h.params.now h.values.now
     h.site.a in
     reckons_as g.0 (c.ended.ensures c.args.out.now)
@@ -214,7 +209,7 @@ activate-returns-in-Ends t c =
 pub activate-returns-in-Goes : goal.activate-returns-in-Goes
 unfolding Shaped
 activate-returns-in-Goes t c =
-    let h = c.args.clause.now in
+    let h = c.args.placed.now.clause in
     let g = c.in-Goes.ensures c.args.event h.agreement.now h.site.below h.site.place h.params.now h.values.now
     h.site.a in
     reckons_by (λ x. cells.reaches (cells.joins syntax.and (ended_by 1) x)) g.is
@@ -223,7 +218,7 @@ activate-returns-in-Goes t c =
 pub activate-returns-in-Joins : goal.activate-returns-in-Joins
 unfolding Shaped
 activate-returns-in-Joins t c =
-    let h = c.args.clause.now in
+    let h = c.args.placed.now.clause in
     let g = c.in-Joins.ensures c.args.event h.agreement.now h.site.below h.site.place h.params.now h.values.now
     h.site.a in
     reckons_as g.is c.both.ensures
@@ -248,11 +243,11 @@ module _ (t : ℕ) where
     c.activate-l.auto.out,
   )
 
-  right_answer : (c : both-After-activate-l t) → let h = c.args.clause.now in
+  right_answer : (c : both-After-activate-l t) → let h = c.args.placed.now.clause in
       Reckons (part_reckoned c.args.event h c.args.f (length h.bytes.now) h.site.a) c.activate-r.result (right_out c)
   right_answer c = rw (stood c.args.event c.part-right.ensures) at c.activate-r.ensures
 
-  left_answer : (c : both-After-activate-l t) → let h = c.args.clause.now in
+  left_answer : (c : both-After-activate-l t) → let h = c.args.placed.now.clause in
       Reckons (part_reckoned c.args.event h 4 c.args.f h.site.a) c.activate-l.result (left_out c)
   left_answer c = rw (stood c.args.event c.part-left.ensures) at c.activate-l.ensures
 

@@ -5,16 +5,16 @@ use Rattle.activation.specs.Leads.{weight}
 use Rattle.activation.proofs.+activation.Given as goal
 
 abbrev pub decreases-act : goal.decreases-act
-decreases-act l = 3 * weight l.event l.clause.now.site (length l.clause.now.bytes.now) + 1
+decreases-act l = 3 * weight l.event l.placed.now.clause.site (length l.placed.now.clause.bytes.now) + 1
 
 abbrev pub decreases-activate : goal.decreases-activate
-decreases-activate l = 3 * weight l.event l.clause.now.site (length l.clause.now.bytes.now) + 2
+decreases-activate l = 3 * weight l.event l.placed.now.clause.site (length l.placed.now.clause.bytes.now) + 2
 
 abbrev pub decreases-both : goal.decreases-both
-decreases-both l = 3 * weight l.event l.clause.now.site (length l.clause.now.bytes.now)
+decreases-both l = 3 * weight l.event l.placed.now.clause.site (length l.placed.now.clause.bytes.now)
 
 abbrev pub decreases-taken : goal.decreases-taken
 decreases-taken l = 3 * (64 * (farthest + 1))
 
 abbrev pub decreases-unfold : goal.decreases-unfold
-decreases-unfold l = 3 * weight l.event l.clause.now.site 0
+decreases-unfold l = 3 * weight l.event l.placed.now.clause.site 0

@@ -5,9 +5,6 @@ use Rattle.formed.proofs.+expr_formed.Goals as goal
 pub returns-then-depth-eq0 : goal.returns-then-depth-eq0
 returns-then-depth-eq0 t c = search exprs
 
-pub returns-then-not-is_record : goal.returns-then-not-is_record
-returns-then-not-is_record t c = search exprs
-
 pub slice_bounds-expr_formed-count : goal.slice_bounds-expr_formed-count
 slice_bounds-expr_formed-count t c = search exprs
 

@@ -1,12 +1,14 @@
 -- The template that is named says how many arguments and blames there must be.
 use Rattle.formed.proofs.Clauses.{instances}
 use Rattle.formed.proofs.instance_formed.Goals as goal
+use Rattle.formed.proofs.instance_formed.Goals.{then-s-lt5-via-then-s-lt5}
+use Rattle.formed.proofs.instance_formed.Goals.{then-s-lt5-via-else-s-lt5+then-k-template_count}
 
 pub returns-then-s-lt5 : goal.returns-then-s-lt5
-returns-then-s-lt5 c = search instances
-
-pub returns-then-k-template_count : goal.returns-then-k-template_count
-returns-then-k-template_count c = search instances
+returns-then-s-lt5 c = elim c.then-s-lt5.branch [
+  | then-s-lt5-via-then-s-lt5 w ↦ search instances
+  | then-s-lt5-via-else-s-lt5+then-k-template_count w ↦ search instances
+]
 
 pub returns : goal.returns
 returns c = search instances

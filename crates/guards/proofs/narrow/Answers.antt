@@ -19,8 +19,9 @@ pub returns-then-all_narrow : goal.returns-then-all_narrow
 returns-then-all_narrow c =
     let s = c.args.agreement.now in
     let n = c.template_count.result in
-    let f = all_narrow c.fill_widths.new.widths in
-    narrow_on s _ c.fill_widths.ensures (main_answers s c.requires c.main.ensures.0 f c.all_narrow.ensures)
+    let f = all_narrow c.as_slice-widths.result.now in
+    narrow_on s _ (rw c.as_slice-widths.ensures.value c.template_widths-widths.ensures)
+    (main_answers s c.requires c.main.ensures.0 f c.all_narrow.ensures)
     c.if-all_narrow.true
     (all_from_yields_List (λ k. f (body_at s k)) c.all.new.self _ c.all.result c.all.ensures.ran
     (YieldsList-from_range 0 n (n - 0) refl refl) (λ x b q k. search (rules, tests))
@@ -31,6 +32,6 @@ returns-then-all_narrow c =
 pub returns-else-all_narrow : goal.returns-else-all_narrow
 returns-else-all_narrow c =
     let s = c.args.agreement.now in
-    narrow_off s _ c.fill_widths.ensures
-    (main_answers s c.requires c.main.ensures.0 (all_narrow c.fill_widths.new.widths) c.all_narrow.ensures)
+    narrow_off s _ (rw c.as_slice-widths.ensures.value c.template_widths-widths.ensures)
+    (main_answers s c.requires c.main.ensures.0 (all_narrow c.as_slice-widths.result.now) c.all_narrow.ensures)
     c.if-all_narrow.false

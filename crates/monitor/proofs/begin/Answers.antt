@@ -5,14 +5,14 @@ use Rattle.monitor.proofs.begin.Goals as goal
 
 pub advance-requires : goal.advance-requires
 advance-requires c = rw c.agreement-agreement.ensures.0
-    (begin_due c.requires.0 c.requires.1 _ (omega arith) c.start.ensures.1)
+    (begin_due c.requires _ (omega arith) c.start.ensures.1)
 
 pub returns-in-Ok : goal.returns-in-Ok
 returns-in-Ok c =
-    begun c.requires.0 c.requires.1 _ (rw c.agreement-agreement.ensures.0 at c.in-Ok.ensures)
+    begun c.requires _ c.told-table (rw c.agreement-agreement.ensures.0 at c.in-Ok.ensures)
     (rw c.agreement-agreement.ensures.0 at c.start.ensures.0)
 
 pub returns-in-Err : goal.returns-in-Err
 returns-in-Err c =
-    begun c.requires.0 c.requires.1 _ (rw c.agreement-agreement.ensures.0 at c.in-Err.ensures)
+    begun c.requires _ c.told-table (rw c.agreement-agreement.ensures.0 at c.in-Err.ensures)
     (rw c.agreement-agreement.ensures.0 at c.start.ensures.0)

@@ -1,4 +1,5 @@
 -- The answer is that of `verify`.
+use mathlib.Core.Path.{◌∙◌}
 use Rattle.std.proofs.lemmas.Result.{err_from_is_err_and}
 use Rattle.monitor.proofs.Checks.{check_no, check_yes}
 use Rattle.monitor.proofs.check.Goals as goal
@@ -9,4 +10,5 @@ returns-in_err-verify c =
     rw (p.1, p.2) (check_no _ _ c.in_err-verify.ensures)
 
 pub returns : goal.returns
-returns c = rw c.in_ok-verify.ensures.0 at (check_yes _ c.mains.ensures.1 c.mains.ensures.0)
+returns c =
+    rw c.in_ok-verify.ensures.0 at (check_yes _ c.mains.ensures.1 (c.bits.ensures.0 ∙ c.mains.ensures.0))

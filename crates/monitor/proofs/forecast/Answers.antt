@@ -1,14 +1,18 @@
--- What is lent is refused, or the run that it shows is foretold.
+-- An agreement, a table, or what it shows is refused as csl refuses it.
 use Rattle.std.proofs.lemmas.Result.{err_from_is_err_and}
+use Rattle.monitor.proofs.Checks.{is_none}
+use Rattle.monitor.proofs.Opens.{refuses_no, refuses_short}
 use Rattle.monitor.proofs.forecast.Goals as goal
 
-pub returns-in_err-shown : goal.returns-in_err-shown
-returns-in_err-shown c =
+pub returns-in_err-agreement : goal.returns-in_err-agreement
+returns-in_err-agreement c =
     let p = err_from_is_err_and c.from_residual.result c.from_residual.ensures.1 in
-    rw (p.1, p.2) c.in_err-shown.ensures.forecast
+    rw (p.1, p.2) ((refuses_no _ _ _ c.in_err-agreement.ensures).forecast)
 
-pub foretell-requires : goal.foretell-requires
-foretell-requires c = let shown = c.in_ok-shown.ensures in rw shown.0 shown.1
-
-pub returns : goal.returns
-returns c = rw c.in_ok-shown.ensures.0 at c.foretell.ensures
+pub returns-in_err-table : goal.returns-in_err-table
+returns-in_err-table c =
+    let p = err_from_is_err_and c.from_residual-in_err-table.result c.from_residual-in_err-table.ensures.1 in
+    let h = is_none c.as_array.result _ _ c.in_err-table.ensures.value in
+    let ok = c.in_ok-agreement.ensures.1 in
+    let short = rw h.0 at c.as_array.ensures.cases in
+    rw (p.1, p.2, h.1) ((refuses_short _ _ ok short).forecast)

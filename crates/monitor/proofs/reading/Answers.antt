@@ -1,14 +1,18 @@
--- What is lent is refused, or the run that it shows reads on.
+-- An agreement, a table, or what it shows is refused as csl refuses it.
 use Rattle.std.proofs.lemmas.Result.{err_from_is_err_and}
+use Rattle.monitor.proofs.Checks.{is_none}
+use Rattle.monitor.proofs.Opens.{refuses_no, refuses_short}
 use Rattle.monitor.proofs.reading.Goals as goal
 
-pub returns-in_err-run : goal.returns-in_err-run
-returns-in_err-run c =
+pub returns-in_err-accepted : goal.returns-in_err-accepted
+returns-in_err-accepted c =
     let p = err_from_is_err_and c.from_residual.result c.from_residual.ensures.1 in
-    rw (p.1, p.2) (c.in_err-run.ensures.reading _)
+    rw (p.1, p.2) ((refuses_no _ _ _ c.in_err-accepted.ensures).reading _)
 
-pub read_on-requires : goal.read_on-requires
-read_on-requires c = let run = c.in_ok-run.ensures in rw run.0 run.1
-
-pub returns : goal.returns
-returns c = rw c.in_ok-run.ensures.0 at c.read_on.ensures
+pub returns-in_err-table : goal.returns-in_err-table
+returns-in_err-table c =
+    let p = err_from_is_err_and c.from_residual-in_err-table.result c.from_residual-in_err-table.ensures.1 in
+    let h = is_none c.as_mut_array.result _ _ c.in_err-table.ensures.value in
+    let ok = c.in_ok-accepted.ensures.1 in
+    let short = rw h.0 at c.as_mut_array.ensures.cases in
+    rw (p.1, p.2, h.1) ((refuses_short _ _ ok short).reading _)

@@ -5,30 +5,24 @@ use native.Mathlib.Omega.{arith}
 use Rattle.readings.proofs.Raw.{raw_no, raw_last}
 use Rattle.readings.proofs.is_reading.Goals as goal
 
-pub returns-then-not-is_record : goal.returns-then-not-is_record
-returns-then-not-is_record c =
-    raw_no c.args.bytes.now λ h. false≢true
-    (sym (sym c.is_record.ensures ∙ c.if-not-is_record.true) ∙ h.is_one)
-
-pub returns-then-kind-ne64 : goal.returns-then-kind-ne64
-returns-then-kind-ne64 c =
-    raw_no c.args.bytes.now λ h. c.if-kind-ne64.true (c.kind.ensures ∙ h.kind)
-
-pub returns-then-n-lt9 : goal.returns-then-n-lt9
-returns-then-n-lt9 c =
-    raw_no c.args.bytes.now λ h. omega (arith, h.long)
-
-pub returns-then-n-gt25 : goal.returns-then-n-gt25
-returns-then-n-gt25 c =
-    raw_no c.args.bytes.now λ h. omega (arith, h.short)
-
-pub returns : goal.returns
-returns c =
-    raw_last
-    c.args.bytes.now record {
-      is_one = sym c.is_record.ensures ∙ c.if-not-is_record.false;
-      kind = sym c.kind.ensures ∙
-          c.if-kind-ne64.false;
+pub returns-in-9-to-25 : goal.returns-in-9-to-25
+returns-in-9-to-25 c =
+    raw_last c.args.bytes.now record {
+      is_one = sym c.is_record.ensures ∙ c.if-is_record.true;
+      kind = sym c.kind.ensures ∙ c.if-kind-eq64.true;
       long = omega arith;
       short = omega arith;
     }
+
+pub returns-in_default : goal.returns-in_default
+returns-in_default c = raw_no c.args.bytes.now λ h. omega (arith, h.long)
+
+pub returns-in_default-2 : goal.returns-in_default-2
+returns-in_default-2 c = raw_no c.args.bytes.now λ h. c.if-kind-eq64.false (c.kind.ensures ∙ h.kind)
+
+pub returns-in_default-3 : goal.returns-in_default-3
+returns-in_default-3 c = raw_no c.args.bytes.now λ h. false≢true
+    (sym c.if-is_record.false ∙ c.is_record.ensures ∙ h.is_one)
+
+pub returns-in_default-4 : goal.returns-in_default-4
+returns-in_default-4 c = raw_no c.args.bytes.now λ h. omega (arith, h.short)

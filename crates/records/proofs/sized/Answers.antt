@@ -1,14 +1,13 @@
 -- The two tests are what refusal 1 asks.
-use mathlib.Core.Bool.{not}
-use mathlib.Core.Path.{ap}
-use Rattle.records.proofs.Listed.{sized_no, sized_yes}
+use Rattle.csl.specs.Decode.{sized}
+use Rattle.laws.proofs.Bools.{true_first, false_first}
+use borrow.Author.Rules.{rules}
 use Rattle.records.proofs.sized.Goals as goal
 
-pub returns-then-not-between : goal.returns-then-not-between
-returns-then-not-between c =
-    sized_no c.args.agreement.now c.between.ensures (ap not c.if-not-between.true)
+pub returns-then-between : goal.returns-then-between
+unfolding sized
+returns-then-between c = search (true_first, rules)
 
-pub returns : goal.returns
-returns c =
-    sized_yes c.args.agreement.now c.between.ensures
-    (ap not c.if-not-between.false) c.unsigned16.ensures.0
+pub returns-else-between : goal.returns-else-between
+unfolding sized
+returns-else-between c = search (false_first, rules)

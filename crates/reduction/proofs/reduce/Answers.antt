@@ -9,8 +9,8 @@ returns-in-Activate c = reckoned_main c.requires.0.1 _ _ c.in-Activate.is c.acti
 pub across-requires : goal.across-requires
 across-requires c = record {
   room = (c.requires.1, omega (arith, c.requires.0.1.short));
-  tree = units_due c.requires.0.1 c.in_default.not-Activate;
+  tree = units_due c.requires.0.1 c.told-table c.in_default.not-Activate;
 }
 
 pub returns : goal.returns
-returns c = reckoned_units c.requires.0.1 _ _ c.in_default.not-Activate c.across.ensures
+returns c = reckoned_units c.requires.0.1 _ _ c.told-table c.in_default.not-Activate c.across.ensures

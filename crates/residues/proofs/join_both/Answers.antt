@@ -1,7 +1,6 @@
 -- The pairs of outcomes, one by one: fulfilled vanishes, a breach decides, two residues are joined.
 use Rattle.residues.proofs.Reduces.{both_done, both_beside_done, both_breaches, both_breach_running}
 use Rattle.residues.proofs.Reduces.{both_running_breach, both_running}
-use borrow.Author.Rules.{rules}
 use Rattle.residues.proofs.join_both.Goals as goal
 
 pub returns-in-Done-default : goal.returns-in-Done-default
@@ -16,7 +15,7 @@ returns-in_default-Done-2 c = both_beside_done c.args.out.now c.in_default-Done.
 pub returns-in-Breach-Breach : goal.returns-in-Breach-Breach
 returns-in-Breach-Breach c =
     both_breaches c.args.out.now c.in-Breach-Breach.is-0 c.in-Breach-Breach.is-1
-    (search rules) (search rules) c.earlier_breach.ensures
+    c.earlier_breach.ensures
 
 pub returns-in-Breach-Running : goal.returns-in-Breach-Running
 returns-in-Breach-Running c =

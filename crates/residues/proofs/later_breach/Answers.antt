@@ -1,9 +1,13 @@
 -- Of two times the later one decides, the left one where they are equal.
-use Rattle.residues.proofs.Reduces.{later_left, later_right}
+use mathlib.Core.Path.{refl}
+use borrow.Author.Tests.{lt-ltb, le-ltb}
+use Rattle.cells.specs.Reduce.{later}
 use Rattle.residues.proofs.later_breach.Goals as goal
 
-pub returns-then-t-u : goal.returns-then-t-u
-returns-then-t-u c = later_right c.args.b c.args.c c.ranges.t c.ranges.u c.if-t-u.true
+pub returns-then-l-r : goal.returns-then-l-r
+unfolding later
+returns-then-l-r c = rw (lt-ltb _ _ c.if-l-r.true) refl
 
-pub returns-else-t-u : goal.returns-else-t-u
-returns-else-t-u c = later_left c.args.b c.args.c c.ranges.t c.ranges.u c.if-t-u.false
+pub returns-else-l-r : goal.returns-else-l-r
+unfolding later
+returns-else-l-r c = rw (le-ltb _ _ c.if-l-r.false) refl

@@ -1,68 +1,90 @@
 -- A breached table shows its verdict exactly where the time lies from the start to the last reading time, the blamed
 -- are of the main clause, and all else is zero.
-use Rattle.state.proofs.Shows.{breached_late, breached_before, breached_wide, breached_nobody, breached_others}
-use Rattle.state.proofs.Shows.{breached_used, breached_rest, breached_is}
-use Rattle.units.specs.Cells.{number_below}
-use Rattle.arith.proofs.Ints.{read! }
-use Rattle.std.proofs.Common.{Some}
-use Prim.Native.Nat.{◌+◌}
-use mathlib.Core.Path.{sym, ap, ◌∙◌, ◌≡◌}
 use borrow.Author.Rules.{rules}
+use borrow.Author.Tests.{tests}
+use mathlib.Core.Bool.{not, ◌&&◌}
+use mathlib.Core.Path.{◌≡◌, refl, sym, ◌∙◌}
+use native.Mathlib.Omega.{arith}
+use lib.Bits.{bit_or}
+use lib.Dec.{leb, eqb}
 use lib.IntN.{pos}
-use lib.ListN.{get_or}
+use lib.ListN.{get_or, take, drop}
+use Rattle.csl.specs.Lists.{all}
+use Rattle.csl.specs.Table.{is_zero}
+use Rattle.std.proofs.Common.{Some}
+use Rattle.units.specs.Cells.{number_below}
+use Rattle.state.proofs.Tests.{cell_below}
+use Rattle.units.proofs.Cells.{below_is}
+use Rattle.state.proofs.Shows.{breached_late, breached_wide, breached_is}
 use Rattle.state.proofs.breached.Goals as goal
-use Rattle.state.proofs.breached.Goals.{In_ok-when, In_ok-bits}
+use Rattle.state.proofs.breached.Goals.{In_ok-when, In_ok-bits, After-then_some, then-contains, else-contains}
+use Rattle.state.proofs.breached.Goals.{then-not-is_empty, else-not-is_empty, then-is_subset, else-is_subset}
+use Rattle.state.proofs.breached.Goals.{then-zeros, else-zeros}
 
--- the time and the blamed, as the program reads them
-when_is : (c : In_ok-when) → Some c.in_ok-when.when ≡ number_below (c.args.time + 1) (get_or c.args.table.now 2 (pos 0))
+-- the time, as the program reads it
+when_is : (c : In_ok-when) → Some c.in_ok-when.when ≡ number_below 4_294_967_296 (get_or c.args.table.now 2 (pos 0))
 when_is c =
-    sym c.in_ok-when.was ∙ c.number_below.ensures ∙ ap (number_below (c.args.time + 1)) (read! (search rules))
+    sym c.in_ok-when.was ∙ cell_below 4_294_967_296 _ (search rules) c.number_below.ensures
 
+-- and the blamed
 bits_are : (c : In_ok-bits) → Some c.in_ok-bits.bits ≡ number_below 65_536 (get_or c.args.table.now 3 (pos 0))
-bits_are c = sym c.in_ok-bits.was ∙ c.number_below-2.ensures ∙ ap (number_below 65_536) (read! (search rules))
+bits_are c = sym c.in_ok-bits.was ∙ cell_below 65_536 _ (search rules) c.number_below-2.ensures
+
+-- each of the tests, with those before it
+inside : (c : After-then_some) → c.contains.result
+    ≡ (leb c.start.result c.in_ok-when.when && leb c.in_ok-when.when c.args.time)
+inside c = grind (rules, tests)
+
+named : (c : After-then_some) → c.if-contains.value ≡ (c.contains.result && not (eqb c.in_ok-bits.bits 0))
+named c = elim c.if-contains.branch [
+  | then-contains w ↦ search (rules, tests)
+  | else-contains w ↦ search (rules, tests)
+]
+
+among : (c : After-then_some) → c.if-not-is_empty.value
+    ≡ (c.if-contains.value && eqb (bit_or c.in_ok-bits.bits c.mains-mains.result) c.mains-mains.result)
+among c = elim c.if-not-is_empty.branch [
+  | then-not-is_empty w ↦ search (rules, tests)
+  | else-not-is_empty w ↦ search (rules, tests)
+]
+
+unused : (c : After-then_some) → c.if-is_subset.value
+    ≡ (c.if-not-is_empty.value && all is_zero (take 1 (drop 4 c.args.table.now)))
+unused c = elim c.if-is_subset.branch [
+  | then-is_subset w ↦ search (rules, tests)
+  | else-is_subset w ↦ search (rules, tests)
+]
+
+clear : (c : After-then_some) → c.if-zeros.is_sound
+    ≡ (c.if-is_subset.value && all is_zero (take 3072 (drop 8 c.args.table.now)))
+clear c = elim c.if-zeros.branch [
+  | then-zeros w ↦ search (rules, tests)
+  | else-zeros w ↦ search (rules, tests)
+]
 
 pub returns-in_err-when : goal.returns-in_err-when
-returns-in_err-when c = rw c.from_residual.ensures λ sights. breached_late c.args.table.now c.requires.0
-    c.args.accepted.now c.requires.1 sights
-    (sym c.in_err-when.was ∙ c.number_below.ensures ∙ ap (number_below (c.args.time + 1)) (read! (search rules)))
-
-pub returns-then-when-start : goal.returns-then-when-start
-returns-then-when-start c =
-    λ sights. breached_before c.args.table.now c.requires.0 c.args.accepted.now c.requires.1 sights
-    (when_is (goal.at.returns-then-when-start c).In_ok-when) (rw c.agreement.ensures.0 at c.start.ensures.0)
-    c.if-when-start.true
+returns-in_err-when c = rw c.from_residual.ensures λ sights. breached_late c.args.table.now c.told-table
+    c.args.accepted.now c.requires sights
+    (sym c.in_err-when.was ∙ cell_below 4_294_967_296 _ (search rules) c.number_below.ensures)
 
 pub returns-in_err-bits : goal.returns-in_err-bits
-returns-in_err-bits c = rw c.from_residual-in_err-bits.ensures λ sights. breached_wide c.args.table.now c.requires.0
-    c.args.accepted.now c.requires.1 sights
-    (sym c.in_err-bits.was ∙ c.number_below-2.ensures ∙ ap (number_below 65_536) (read! (search rules)))
+returns-in_err-bits c = rw c.from_residual-in_err-bits.ensures λ sights. breached_wide c.args.table.now c.told-table
+    c.args.accepted.now c.requires sights
+    (sym c.in_err-bits.was ∙ cell_below 65_536 _ (search rules) c.number_below-2.ensures)
 
-pub returns-then-bits-eq0 : goal.returns-then-bits-eq0
-returns-then-bits-eq0 c =
-    λ sights. breached_nobody c.args.table.now c.requires.0 c.args.accepted.now c.requires.1 sights
-    (bits_are (goal.at.returns-then-bits-eq0 c).In_ok-bits) c.if-bits-eq0.true
+pub of_bits-parties-requires : goal.of_bits-parties-requires
+of_bits-parties-requires c =
+    let k = below_is 65_536 _ _ (bits_are (goal.at.of_bits-parties-requires c).In_ok-bits) in omega (arith, k.1)
 
-pub returns-then-not-is_subset : goal.returns-then-not-is_subset
-returns-then-not-is_subset c =
-    λ sights. breached_others c.args.table.now c.requires.0 c.args.accepted.now c.requires.1 sights
-    (bits_are (goal.at.returns-then-not-is_subset c).In_ok-bits) c.mains.ensures.0 c.is_subset.ensures
-    c.if-not-is_subset.true
-
-pub returns-then-not-zeros : goal.returns-then-not-zeros
-returns-then-not-zeros c =
-    λ sights. breached_used c.args.table.now c.requires.0 c.args.accepted.now c.requires.1 sights
-    c.zeros.ensures c.if-not-zeros.true
-
-pub returns-then-not-zeros-2 : goal.returns-then-not-zeros-2
-returns-then-not-zeros-2 c =
-    λ sights. breached_rest c.args.table.now c.requires.0 c.args.accepted.now c.requires.1 sights
-    c.zeros-2.ensures c.if-not-zeros-2.true
+pub invariant_of-breach : goal.invariant_of-breach
+invariant_of-breach c =
+    let k = below_is 4_294_967_296 _ _ (when_is (goal.at.invariant_of-breach c).In_ok-when) in
+    record { held = omega (arith, k.1) }
 
 pub returns : goal.returns
 returns c =
-    λ sights. breached_is c.args.table.now c.requires.0 c.args.accepted.now c.requires.1 sights
-    (when_is (goal.at.returns c).In_ok-when) (rw c.agreement.ensures.0 at c.start.ensures.0)
-    c.if-when-start.false
-    (bits_are (goal.at.returns c).In_ok-bits) c.if-bits-eq0.false c.mains.ensures.0 c.is_subset.ensures
-    c.if-not-is_subset.false c.zeros.ensures c.if-not-zeros.false
-    c.zeros-2.ensures c.if-not-zeros-2.false
+    let at = goal.at.returns c in
+    λ sights. breached_is c.args.table.now c.told-table c.args.accepted.now c.requires sights
+    (when_is at.In_ok-when) (rw c.agreement.ensures.0 at c.start.ensures.0) (bits_are at.In_ok-bits)
+    c.mains-mains.ensures.0 _ (clear c ∙ rw (unused c, among c, named c, inside c) refl) refl c.of_bits-parties.ensures
+    c.then_some.ensures

@@ -5,7 +5,7 @@ use lib.IntN.{pos}
 use lib.ListN.{get_or}
 use Rattle.arith.proofs.Ints.{read! }
 use Rattle.units.proofs.Cells.{not_natural, natural}
-use Rattle.state.proofs.Trees.{no_kind, no_cell, no_sort, waits_first, joins_cells, joins_first}
+use Rattle.state.proofs.Trees.{no_kind, no_cell, no_sort, waits_first, joins_first}
 use Rattle.state.proofs.Trees.{wait_named, wait_unnamed, join_named, join_unnamed}
 use Rattle.csl.specs.Table.{unit_sort}
 use Rattle.state.proofs.first_unit.Goals as goal
@@ -32,13 +32,7 @@ returns-in_err-join c = rw c.from_residual-in_err-join.ensures (no_kind c.args.c
     (wait_unnamed c.in_ok-kind.kind c.try_from-2.result c.try_from-2.ensures c.in_default.is)
     (join_unnamed c.in_ok-kind.kind c.try_from-3.result c.ok-2.ensures.value c.try_from-3.ensures c.in_err-join.was)))
 
-pub returns-then-not-zeros : goal.returns-then-not-zeros
-returns-then-not-zeros c = joins_cells c.args.cells.now (kind_is (goal.at.returns-then-not-zeros c).In_ok-kind)
-    c.in_ok-join.join
-    (join_named c.in_ok-kind.kind c.try_from-3.result c.ok-2.ensures.value c.try_from-3.ensures c.in_ok-join.was)
-    c.zeros.ensures c.if-not-zeros.true
-
 pub returns : goal.returns
 returns c = joins_first c.args.cells.now (kind_is (goal.at.returns c).In_ok-kind) c.in_ok-join.join
     (join_named c.in_ok-kind.kind c.try_from-3.result c.ok-2.ensures.value c.try_from-3.ensures c.in_ok-join.was)
-    c.zeros.ensures c.requires c.if-not-zeros.false
+    c.zeros.ensures c.requires c.then_some.ensures

@@ -6,4 +6,4 @@ pub returns-in-And : goal.returns-in-And
 returns-in-And c = rw c.in-And.is join_and
 
 pub returns-in-Or : goal.returns-in-Or
-returns-in-Or c = rw c.in-Or.is (join_or c.member_count.ensures.1)
+returns-in-Or c = rw c.in-Or.is (join_or c.count.ensures.1)

@@ -1,5 +1,6 @@
 -- A waiting unit is a tree of one unit, with the parties and the two numbers that were read of it.
 use mathlib.Core.Path.{refl}
+use mathlib.Core.List.{◌∷◌}
 use Rattle.arith.proofs.Lists.{length_part}
 use Rattle.state.proofs.Trees.{waits_not, waits_of}
 use Rattle.state.proofs.read_unit.Goals as goal
@@ -10,11 +11,10 @@ waiting_unit-requires c =
 
 pub returns-in_err-unit : goal.returns-in_err-unit
 returns-in_err-unit c = rw c.from_residual.ensures
-    λ n some_units. waits_not c.args.accepted.now c.args.time n c.args.cells.now c.args.wait
-    c.requires.first c.args.sights.now c.waiting_unit.ensures c.in_err-unit.was
+    λ n sights some_units. waits_not c.args.accepted.now c.args.time n c.args.cells.now c.args.wait
+    c.requires.first (c.args.sight.now ∷ sights) c.waiting_unit.ensures c.in_err-unit.was
 
 pub returns : goal.returns
 returns c =
-    λ n some_units. waits_of c.args.accepted.now c.args.time n c.args.cells.now c.args.wait
-    c.requires.first c.args.sights.now c.requires.long some_units c.requires.room
-    c.waiting_unit.ensures c.in_ok-unit.was refl refl
+    λ n sights some_units. waits_of c.args.accepted.now c.args.time n c.args.cells.now c.args.wait
+    c.requires.first sights c.requires.long some_units c.waiting_unit.ensures c.in_ok-unit.was refl

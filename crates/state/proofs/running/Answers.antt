@@ -1,81 +1,79 @@
 -- A running table shows a run exactly where the tree at its front is sound, has the units that the head tells, and
 -- zeros stand behind it.
 use borrow.Author.Rules.{rules}
-use mathlib.Core.Path.{◌≡◌, sym, ap, ◌∙◌}
+use borrow.Author.Tests.{tests}
+use mathlib.Core.Path.{◌≡◌, sym, ◌∙◌}
 use Prim.Native.Nat.{◌≤◌}
 use native.Mathlib.Omega.{arith}
 use lib.IntN.{pos}
-use lib.ListN.{length, get_or}
+use lib.ListN.{length, get_or, take, drop, length-take, length-drop}
 use Rattle.std.proofs.Common.{Some}
-use Rattle.arith.proofs.Ints.{read! }
-use Rattle.arith.proofs.Lists.{length_part}
 use Rattle.units.specs.Cells.{number_below}
-use Rattle.state.proofs.Shows.{running_head, running_many, fewer, running_torn, running_other, running_more, running_is}
+use Rattle.state.proofs.Tests.{cell_below}
+use Rattle.state.proofs.Shows.{running_many, fewer, running_torn, running_is}
+use Rattle.state.proofs.Trees.{more_sights}
 use Rattle.state.proofs.running.Goals as goal
-use Rattle.state.proofs.running.Goals.{In_ok-n}
+use Rattle.state.proofs.running.Goals.{In_ok-used}
 
 -- the number of units, as the program reads it, at most 128
-count : (c : In_ok-n) → Some c.in_ok-n.n ≡ number_below 129 (get_or c.args.table.now 4 (pos 0))
-count c = sym c.in_ok-n.was ∙ c.number_below.ensures ∙ ap (number_below 129) (read! (search rules))
+count : (c : In_ok-used) → Some c.in_ok-used.used ≡ number_below 129 (get_or c.args.table.now 4 (pos 0))
+count c = sym c.in_ok-used.was ∙ cell_below 129 _ (search rules) c.number_below.ensures
 
-few : (c : In_ok-n) → c.in_ok-n.n ≤ 128
-few c = fewer c.args.table.now c.requires.room.0 c.args.accepted.now c.requires.head_at (count c)
+few : (c : In_ok-used) → c.in_ok-used.used ≤ 128
+few c = fewer c.args.table.now c.told-table c.args.accepted.now c.requires.head_at (count c)
 
-pub returns-then-not-zeros : goal.returns-then-not-zeros
-returns-then-not-zeros c =
-    running_head c.args.table.now c.requires.room.0 c.args.accepted.now c.requires.head_at c.args.sights.now
-    c.zeros.ensures c.if-not-zeros.true
+-- and as many sights
+seen : (c : In_ok-used) → length (take c.in_ok-used.used c.args.sights.now) ≡ c.in_ok-used.used
+seen c = omega (arith, few c, c.requires.room, length-take c.in_ok-used.used c.args.sights.now)
 
-pub returns-in_err-n : goal.returns-in_err-n
-returns-in_err-n c = rw c.from_residual.ensures
-    (running_many c.args.table.now c.requires.room.0 c.args.accepted.now c.requires.head_at c.args.sights.now
-    (sym c.in_err-n.was ∙ c.number_below.ensures ∙ ap (number_below 129) (read! (search rules))))
+pub returns-in_err-used : goal.returns-in_err-used
+returns-in_err-used c = rw c.from_residual.ensures
+    (running_many c.args.table.now c.told-table c.args.accepted.now c.requires.head_at c.args.sights.now
+    (sym c.in_err-used.was ∙ cell_below 129 _ (search rules) c.number_below.ensures))
+
+pub slice_bounds-walk_tree-end-2 : goal.slice_bounds-walk_tree-end-2
+slice_bounds-walk_tree-end-2 c =
+    omega (arith, few (goal.at.slice_bounds-walk_tree-end-2 c).In_ok-used, c.requires.room)
+
+pub slice_bounds-walk_tree-end-3 : goal.slice_bounds-walk_tree-end-3
+slice_bounds-walk_tree-end-3 c = sym (seen (goal.at.slice_bounds-walk_tree-end-3 c).In_ok-used)
 
 pub walk_tree-requires : goal.walk_tree-requires
 walk_tree-requires c =
-    let f = few (goal.at.walk_tree-requires c).In_ok-n in
-    let long : length c.args.table.now ≡ 3080 = c.requires.room.0 in
+    let u = (goal.at.walk_tree-requires c).In_ok-used in
+    let xs = c.args.table.now in
     record {
       soon = c.requires.head_at.times.to;
-      few = f;
-      long = omega (arith, f, long, length_part c.args.table.now 8 3080 (omega (arith, long)));
-      room = omega (arith, f, c.requires.room.1);
+      few = omega (arith, few u, seen u);
+      long = omega (arith, few u, seen u, length-drop 8 xs, length-take 3072 (drop 8 xs), c.told-table);
     }
 
+pub overflow_mul-used : goal.overflow_mul-used
+overflow_mul-used c = record { fits = omega (arith, few (goal.at.overflow_mul-used c).In_ok-used) }
+
+pub overflow_add-used : goal.overflow_add-used
+overflow_add-used c = record { fits = omega (arith, few (goal.at.overflow_add-used c).In_ok-used) }
+
+pub offset_bounds-table-used : goal.offset_bounds-table-used
+offset_bounds-table-used c = record { fits = omega (arith, few (goal.at.offset_bounds-table-used c).In_ok-used) }
+
+pub slice_bounds-zeros-count-then-zeros : goal.slice_bounds-zeros-count-then-zeros
+slice_bounds-zeros-count-then-zeros c = omega (arith, few (goal.at.slice_bounds-zeros-count-then-zeros c).In_ok-used)
+
+pub slice_bounds-zeros-start-then-zeros : goal.slice_bounds-zeros-start-then-zeros
+slice_bounds-zeros-start-then-zeros c = omega (arith, few (goal.at.slice_bounds-zeros-start-then-zeros c).In_ok-used)
+
 pub returns-in_err-tree : goal.returns-in_err-tree
-returns-in_err-tree c = rw c.from_residual-in_err-tree.ensures
-    (running_torn c.args.table.now c.requires.room.0 c.args.accepted.now c.requires.head_at
-    (count (goal.at.returns-in_err-tree c).In_ok-n) c.walk_tree.new.sights c.walk_tree.ensures c.in_err-tree.was)
-
-pub returns-then-tree-n : goal.returns-then-tree-n
-returns-then-tree-n c =
-    running_other c.args.table.now c.requires.room.0 c.args.accepted.now c.requires.head_at
-    (count (goal.at.returns-then-tree-n c).In_ok-n) c.walk_tree.new.sights c.walk_tree.ensures
-    c.in_ok-tree.was c.if-tree-n.true
-
-pub overflow_mul-n : goal.overflow_mul-n
-overflow_mul-n c = record { fits = omega (arith, few (goal.at.overflow_mul-n c).In_ok-n) }
-
-pub overflow_add-n : goal.overflow_add-n
-overflow_add-n c = record { fits = omega (arith, few (goal.at.overflow_add-n c).In_ok-n) }
-
-pub offset_bounds-table-n : goal.offset_bounds-table-n
-offset_bounds-table-n c = record { fits = omega (arith, few (goal.at.offset_bounds-table-n c).In_ok-n) }
-
-pub slice_bounds-zeros-count-2 : goal.slice_bounds-zeros-count-2
-slice_bounds-zeros-count-2 c = omega (arith, few (goal.at.slice_bounds-zeros-count-2 c).In_ok-n)
-
-pub slice_bounds-zeros-start-2 : goal.slice_bounds-zeros-start-2
-slice_bounds-zeros-start-2 c = omega (arith, few (goal.at.slice_bounds-zeros-start-2 c).In_ok-n)
-
-pub returns-then-not-zeros-2 : goal.returns-then-not-zeros-2
-returns-then-not-zeros-2 c =
-    running_more c.args.table.now c.requires.room.0 c.args.accepted.now c.requires.head_at
-    (count (goal.at.returns-then-not-zeros-2 c).In_ok-n) c.walk_tree.new.sights c.walk_tree.ensures
-    c.in_ok-tree.was c.if-tree-n.false c.zeros-2.ensures c.if-not-zeros-2.true
+returns-in_err-tree c =
+    let u = (goal.at.returns-in_err-tree c).In_ok-used in
+    rw c.from_residual-in_err-tree.ensures
+    (running_torn c.args.table.now c.told-table c.args.accepted.now c.requires.head_at
+    (count u) _ (more_sights _ _ _ _ c.walk_tree.new.sights _ _ (omega (arith, seen u, c.walk_tree.auto.sights))
+    (rw (seen u) at c.walk_tree.ensures)) c.in_err-tree.was)
 
 pub returns : goal.returns
 returns c =
-    running_is c.args.table.now c.requires.room.0 c.args.accepted.now c.requires.head_at
-    (count (goal.at.returns c).In_ok-n) c.walk_tree.new.sights c.walk_tree.ensures
-    c.in_ok-tree.was c.if-tree-n.false c.zeros-2.ensures c.zeros.ensures c.if-not-zeros.false c.if-not-zeros-2.false
+    let u = (goal.at.returns c).In_ok-used in
+    running_is c.args.table.now c.told-table c.args.accepted.now c.requires.head_at
+    (count u) _ (more_sights _ _ _ _ c.walk_tree.new.sights _ _ (omega (arith, seen u, c.walk_tree.auto.sights))
+    (rw (seen u) at c.walk_tree.ensures)) c.in_ok-tree.was (grind (rules, tests)) c.then_some.ensures

@@ -3,10 +3,6 @@ use Rattle.std.proofs.Common.{arith}
 use Rattle.stream.specs.Records.{size_of}
 use Rattle.stream.proofs.record_size.Goals as goal
 
-pub returns-then-said-lt2-clause-size : goal.returns-then-said-lt2-clause-size
+pub returns-clause-size : goal.returns-clause-size
 unfolding size_of
-returns-then-said-lt2-clause-size c = omega (arith, c.unsigned16-said.ensures.0)
-
-pub returns-else-said-lt2-clause-size : goal.returns-else-said-lt2-clause-size
-unfolding size_of
-returns-else-said-lt2-clause-size c = omega (arith, c.unsigned16-said.ensures.0)
+returns-clause-size c = omega (arith, c.unsigned16.ensures.0)

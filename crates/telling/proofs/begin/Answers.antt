@@ -1,16 +1,36 @@
 -- `begin` is right, case by case of `start`'s answer.
-use Rattle.std.proofs.Common.{arith}
-use Rattle.telling.proofs.Says.{begins_refused, begins_begun}
+use Rattle.std.proofs.Common.{refl, sym, ap, ◌∙◌, None, Some, Ok, Err, arith}
+use Rattle.lines.specs.Text.{decimal, fields}
+use Rattle.lines.specs.Lines.{start_time, time_field, answer_fields, refusal_fields}
+use Rattle.lines.proofs.Decimal.{few}
+use Rattle.telling.proofs.Says.{answer_refused, not_zero}
+use Rattle.telling.proofs.Shows.{refusal_shown, refusal_short}
+use Rattle.telling.proofs.Tells.{begins}
 use Rattle.telling.proofs.begin.Goals as goal
 
-pub returns-in-Err : goal.returns-in-Err
-returns-in-Err c =
-    begins_refused c.args.agreement.now c.args.table.now c.start.new.table c.start.ensures
-    (omega (arith, c.put_timeless-a.ensures.room, c.put_refusal.ensures.room)) c.in-Err.is c.from.ensures
-    c.put_timeless-a.ensures.puts c.put_refusal.ensures.puts
-
 pub returns-in-Ok : goal.returns-in-Ok
+unfolding start_time time_field answer_fields
 returns-in-Ok c =
-    begins_begun c.args.agreement.now c.args.table.now c.start.new.table c.start.ensures
-    (omega (arith, c.put_time-a.ensures.room, c.put_verdict.ensures.room)) c.in-Ok.is
-    c.unsigned32.ensures.0 c.put_time-a.ensures.puts c.put_verdict.ensures.puts
+    let time = c.unsigned32 in
+    let verdict = c.verdict_on in
+    begins c.args.agreement.now c.args.table.now (Some time.result) (Ok verdict.result) _
+    (rw c.in-Ok.is at c.start.ensures) (record {
+      timed = ap decimal time.ensures.0;
+      said = verdict.ensures.shows;
+      short_time = few time.result (omega (arith, time.ensures.1));
+      short = verdict.ensures.room;
+    }) refl
+
+pub returns-in-Err : goal.returns-in-Err
+unfolding start_time time_field
+returns-in-Err c =
+    let why = c.in-Err.why in
+    let number = c.from in
+    begins c.args.agreement.now c.args.table.now None (Err number.result) _
+    (rw c.in-Err.is at c.start.ensures) (record {
+      timed = rw (not_zero why) refl;
+      said = refusal_shown number.result ∙ ap (λ n. fields (refusal_fields n)) number.ensures
+          ∙ ap fields (answer_refused c.args.agreement.now why c.start.new.table);
+      short_time = omega arith;
+      short = refusal_short number.result (omega (arith, number.type_inv));
+    }) (sym (not_zero why))

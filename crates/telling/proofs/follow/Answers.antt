@@ -1,16 +1,36 @@
 -- `follow` is right, case by case of `reading`'s answer.
-use Rattle.std.proofs.Common.{arith}
-use Rattle.telling.proofs.Says.{follows_refused, follows_accepted}
+use Rattle.std.proofs.Common.{refl, ap, ◌∙◌, Some, Ok, Err, arith}
+use Rattle.lines.specs.Text.{decimal, fields}
+use Rattle.lines.specs.Lines.{reading_time, time_field, answer_fields, refusal_fields}
+use Rattle.lines.proofs.Decimal.{few}
+use Rattle.telling.proofs.Says.{answer_refused}
+use Rattle.telling.proofs.Shows.{refusal_shown, refusal_short}
+use Rattle.telling.proofs.Tells.{follows}
 use Rattle.telling.proofs.follow.Goals as goal
+
+pub returns-in-Ok : goal.returns-in-Ok
+unfolding reading_time time_field answer_fields
+returns-in-Ok c =
+    let time = c.unsigned32 in
+    let verdict = c.verdict_on in
+    follows c.args.agreement.now c.args.table.now (Some time.result) (Ok verdict.result) c.args.number
+    c.ranges.number.fits c.args.reading.now _ (rw c.in-Ok.is at c.reading.ensures) (record {
+      timed = ap decimal time.ensures.0;
+      said = verdict.ensures.shows;
+      short_time = few time.result (omega (arith, time.ensures.1));
+      short = verdict.ensures.room;
+    }) refl
 
 pub returns-in-Err : goal.returns-in-Err
 returns-in-Err c =
-    follows_refused c.args.agreement.now c.args.table.now c.reading.new.table c.args.n c.args.reading.now c.args.at
-    c.reading.ensures c.put_refused.ensures.room c.in-Err.is c.from-number.ensures
-    c.put_refused.ensures.puts
-
-pub returns-in-Ok : goal.returns-in-Ok
-returns-in-Ok c =
-    follows_accepted c.args.agreement.now c.args.table.now c.reading.new.table c.args.n c.args.reading.now c.args.at
-    c.reading.ensures (omega (arith, c.put_time-a.ensures.room, c.put_verdict.ensures.room)) c.in-Ok.is
-    c.unsigned32.ensures.0 c.put_time-a.ensures.puts c.put_verdict.ensures.puts
+    let why = c.in-Err.field-0.why in
+    let number = c.from in
+    let time = c.time_of in
+    follows c.args.agreement.now c.args.table.now time.result (Err number.result) c.args.number c.ranges.number.fits
+    c.args.reading.now _ (rw c.in-Err.is at c.reading.ensures) (record {
+      timed = time.ensures.shows;
+      said = refusal_shown number.result ∙ ap (λ n. fields (refusal_fields n)) number.ensures
+          ∙ ap fields (answer_refused c.args.agreement.now why c.reading.new.table);
+      short_time = time.ensures.room;
+      short = refusal_short number.result (omega (arith, number.type_inv));
+    }) time.ensures.some

@@ -8,5 +8,5 @@ returns-then-not-templates_typed c =
 
 pub returns : goal.returns
 returns c =
-    agreement_main c.args.agreement.now c.templates_typed.ensures c.if-not-templates_typed.false c.main.ensures.0
+    agreement_main c.args.agreement.now c.templates_typed.ensures c.if-not-templates_typed.false c.main-main.ensures.0
     c.clause_parties.ensures

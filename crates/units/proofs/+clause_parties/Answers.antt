@@ -6,6 +6,8 @@ use Rattle.arith.proofs.Lists.{length_part}
 use lib.ListN.{length}
 use native.Mathlib.Omega.{arith}
 use Rattle.units.proofs.+clause_parties.Goals as goal
+use Rattle.units.proofs.+clause_parties.Goals.{in_default-via-then-k-lt17}
+use Rattle.units.proofs.+clause_parties.Goals.{in_default-via-else-k-lt17+else-k-lt22}
 
 pub first_clause-c-requires : goal.first_clause-c-requires
 first_clause-c-requires t c = whole_room c.requires
@@ -20,9 +22,6 @@ clause_parties-requires t c = (
   ),
   then_in_lem c.requires c.kind-k.ensures c.in-17.is c.first_clause-c.ensures.0,
 )
-
-pub union-requires : goal.union-requires
-union-requires t c = (omega (arith, c.party_bit-own.ensures.1), omega (arith, c.clause_parties.ensures.small))
 
 pub instance_parties-requires : goal.instance_parties-requires
 instance_parties-requires t c = (c.requires, sym c.kind-k.ensures ∙ c.in-22.is)
@@ -61,25 +60,20 @@ clause_parties-requires-in-18-to-21 t c =
           c.first_clause-c-in-18-to-21.ensures.0 c.record_end-f.ensures.0).1,
     )
 
-pub union-requires-in-18-to-21 : goal.union-requires-in-18-to-21
-union-requires-in-18-to-21 t c = (
-  omega (arith, c.clause_parties-left.ensures.small),
-  omega (arith, c.clause_parties-in-18-to-21.ensures.small),
-)
-
 pub returns-in-17 : goal.returns-in-17
 returns-in-17 t c =
     then_parties c.requires c.kind-k.ensures c.in-17.is c.first_clause-c.ensures.0
-    c.byte.ensures.0 c.stands_for.ensures c.party_bit-own.ensures.0 c.clause_parties.ensures c.union.ensures.0
+    c.byte.ensures.0 c.stands_for.ensures c.of-own.ensures.0 c.clause_parties.ensures c.bitor.ensures.0
 
 pub returns-in-18-to-21 : goal.returns-in-18-to-21
 returns-in-18-to-21 t c =
     sides_parties c.requires c.kind-k.ensures (omega arith) (omega arith) c.first_clause-c-in-18-to-21.ensures.0
     c.record_end-f.ensures.0 c.clause_parties-left.ensures
-    c.clause_parties-in-18-to-21.ensures c.union-in-18-to-21.ensures.0
+    c.clause_parties-in-18-to-21.ensures c.bitor-in-18-to-21.ensures.0
 
 pub returns-in_default : goal.returns-in_default
-returns-in_default t c = low_parties c.requires c.kind-k.ensures (omega arith) (λ e. omega arith)
-
-pub returns-in_default-2 : goal.returns-in_default-2
-returns-in_default-2 t c = high_parties c.requires c.kind-k.ensures (omega arith) (λ e. omega arith)
+returns-in_default t c = rw c.empty.ensures (elim c.in_default.branch [
+  | in_default-via-then-k-lt17 w ↦ low_parties c.requires c.kind-k.ensures (omega arith) (λ e. omega arith)
+  | in_default-via-else-k-lt17+else-k-lt22 w ↦ high_parties c.requires c.kind-k.ensures (omega arith)
+      (λ e. omega arith)
+])

@@ -15,4 +15,5 @@ declared_bits-requires c = named_known c.requires.0 c.requires.1 c.byte-k.ensure
 pub returns : goal.returns
 returns c =
     named_parties c.requires.0 c.requires.1 c.byte-k.ensures.0 c.param_count.ensures.0
-    (c.declared_bits.ensures.0, c.declared_bits.ensures.1) c.blame_bytes-own.ensures.0 c.union.ensures.0
+    (c.declared_bits.ensures.0, c.declared_bits.ensures.1) c.blame_bytes.ensures.0
+    (rw c.of_bits-declared.ensures at c.bitor.ensures.0)

@@ -8,7 +8,7 @@ use Rattle.units.specs.Units.{CellsRead}
 use Rattle.units.specs.Blames.{PartiesAre}
 use Rattle.units.proofs.Units.{there_few, there_whole, there_room, located_not, located_in, located_out}
 use Rattle.units.proofs.located_unit.Goals as goal
-use Rattle.units.proofs.located_unit.Goals.{After-unit_cells, After-clause_parties-bits}
+use Rattle.units.proofs.located_unit.Goals.{After-unit_cells, After-clause_parties-parties}
 
 -- what was read of the cells, of the agreement's parties
 parties_are : (c : After-unit_cells) → c.parties.result ≡ byte c.args.accepted.now 8
@@ -19,13 +19,13 @@ cells_read : (c : After-unit_cells) → CellsRead c.parties.result c.args.found.
 cells_read c = rw c.as_slice-types.ensures.value at c.unit_cells.ensures
 
 -- and of its clause
-end_is : (c : After-clause_parties-bits) → c.record_end-e.result ≡ record_end c.args.accepted.now c.args.place
+end_is : (c : After-clause_parties-parties) → c.record_end-e.result ≡ record_end c.args.accepted.now c.args.place
 end_is c = rw (c.bytes-bytes.ensures.0, c.agreement-agreement.ensures.0) at c.record_end-e.ensures.0
 
-bits_are : (c : After-clause_parties-bits) → PartiesAre c.args.accepted.now
-    (part c.args.accepted.now c.args.place c.record_end-e.result) c.in_ok-own.own.items c.clause_parties-bits.result
+bits_are : (c : After-clause_parties-parties) → PartiesAre c.args.accepted.now
+    (part c.args.accepted.now c.args.place c.record_end-e.result) c.in_ok-own.own.items c.clause_parties-parties.result
 bits_are c =
-    rw (c.deref.ensures.0, c.bytes-bytes.ensures.0, c.agreement-agreement.ensures.0) at c.clause_parties-bits.ensures
+    rw (c.deref.ensures.0, c.bytes-bytes.ensures.0, c.agreement-agreement.ensures.0) at c.clause_parties-parties.ensures
 
 pub unit_cells-requires : goal.unit_cells-requires
 unit_cells-requires c = (
@@ -52,15 +52,15 @@ slice_bounds-clause_parties-start c =
     let e = rw (c.bytes-bytes.ensures.0, c.agreement-agreement.ensures.0) at c.record_end-e.ensures in
     omega (arith, r, e)
 
-pub clause_parties-bits-requires : goal.clause_parties-bits-requires
-clause_parties-bits-requires c =
+pub clause_parties-parties-requires : goal.clause_parties-parties-requires
+clause_parties-parties-requires c =
     rw (c.record_end-e.ensures.0, c.bytes-bytes.ensures.0, c.agreement-agreement.ensures.0)
     (there_whole c.agreement-agreement.ensures.1 c.requires.there c.args.cells.now)
 
 pub returns-then-not-is_subset : goal.returns-then-not-is_subset
 returns-then-not-is_subset c =
     let t = (goal.at.returns-then-not-is_subset c).After-unit_cells in
-    let u = (goal.at.returns-then-not-is_subset c).After-clause_parties-bits in
+    let u = (goal.at.returns-then-not-is_subset c).After-clause_parties-parties in
     located_out c.agreement-agreement.ensures.1 c.requires.there c.args.cells.now
     (parties_are t) (cells_read t) c.in_ok-own.was (end_is u) (bits_are u) c.mains.ensures.0
     c.is_subset.ensures c.if-not-is_subset.true
@@ -68,7 +68,7 @@ returns-then-not-is_subset c =
 pub returns : goal.returns
 returns c =
     let t = (goal.at.returns c).After-unit_cells in
-    let u = (goal.at.returns c).After-clause_parties-bits in
+    let u = (goal.at.returns c).After-clause_parties-parties in
     located_in c.agreement-agreement.ensures.1 c.requires.there c.args.cells.now
     (parties_are t) (cells_read t) c.in_ok-own.was (end_is u) (bits_are u) c.mains.ensures.0
     c.is_subset.ensures c.if-not-is_subset.false refl refl (ap length c.as_slice-types.ensures.value)

@@ -1,21 +1,19 @@
 -- The minutes left go behind the values in sight and the reading's, and at most 16 are seen.
-use Rattle.waits.proofs.Waits.{time_within, minus_is}
-use Rattle.arith.proofs.Numbers.{sizes}
+use Rattle.waits.proofs.Waits.{minus_fits, minus_is}
 use native.Mathlib.Omega.{arith}
 use lib.ListN.{length-take}
 use Rattle.cells.specs.Reduce.{then_values}
 use Rattle.waits.proofs.then_values.Goals as goal
 
-pub exact_difference-left-requires : goal.exact_difference-left-requires
-exact_difference-left-requires c =
-    (omega sizes, time_within c.args.reading.now.time (omega (arith, c.args.reading.now.soon)))
+pub overflow_sub-left : goal.overflow_sub-left
+overflow_sub-left c =
+    let r = c.args.reading.now in minus_fits r.time (omega (arith, r.soon)) c.requires.1
 
 pub returns : goal.returns
 unfolding then_values
 returns c =
-    let left = minus_is c.args.reading.now.time (omega (arith, c.args.reading.now.soon))
-    c.ranges.last c.exact_difference-left.type_inv
-    c.exact_difference-left.ensures.0 in (
+    let r = c.args.reading.now in
+    let left = minus_is r.time (omega (arith, r.soon)) c.requires.1 c.ranges.last in (
       rw (c.truncate.ensures.items, c.push.ensures.items, c.sight-all.ensures.0, left),
       rw c.truncate.ensures.items (omega (arith, length-take 16 c.push.new.self.items)),
     )

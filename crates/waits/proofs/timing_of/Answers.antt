@@ -12,7 +12,7 @@ returns-then-t-w c =
     tested_early c.args.w c.args.time c.requires (search rules)
     c.if-w-t.false (search rules) c.if-t-w.true
 
-pub returns : goal.returns
-returns c =
+pub returns-else-t-w : goal.returns-else-t-w
+returns-else-t-w c =
     tested_on_time c.args.w c.args.time c.requires (search rules)
     c.if-w-t.false (search rules) c.if-t-w.false

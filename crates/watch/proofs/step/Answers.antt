@@ -1,53 +1,56 @@
 -- `step` is right, case by case of what is next in the input.
-use Rattle.std.proofs.Common.{arith}
-use Rattle.watch.proofs.Taking.{some, ends, record_turns, wait_turns, end_turns}
+use Rattle.std.proofs.Common.{sym, ap, ◌∙◌, take, length, arith}
+use Rattle.watch.specs.Steps.{stage_after}
+use Rattle.std.proofs.lemmas.List.{length-take, length-drop}
+use Rattle.watch.proofs.Taking.{cut, record_turns, wait_turns, end_turns}
 use Rattle.watch.proofs.step.Goals as goal
-
-pub overflow_add-e : goal.overflow_add-e
-overflow_add-e c =
-    omega (
-      arith,
-      ends c.args.input.now c.args.ended c.args.from c.next_record.ensures.next c.requires.0 c.in-Record.is,
-    )
 
 pub slice_bounds-follow-end : goal.slice_bounds-follow-end
 slice_bounds-follow-end c =
-    omega (
-      arith,
-      ends c.args.input.now c.args.ended c.args.from c.next_record.ensures.next c.requires.0 c.in-Record.is,
-    )
+    let found = cut c.args.hand.now c.next.ensures.next c.in-Record.is in
+    omega (arith, found.bounded, ap length c.bytes.ensures.bytes, length-take c.in-Record.size c.bytes.result.now)
 
-pub overflow_add-result : goal.overflow_add-result
-overflow_add-result c =
-    let found = c.next_record.ensures.next in
-    omega (
-      arith,
-      ends c.args.input.now c.args.ended c.args.from found c.requires.0 c.in-Record.is,
-      some c.args.input.now c.args.ended c.args.from found c.requires.0 c.in-Record.is,
-      c.requires.2,
-    )
+pub take-requires : goal.take-requires
+take-requires c = (cut c.args.hand.now c.next.ensures.next c.in-Record.is).bounded
+
+pub overflow_add-line : goal.overflow_add-line
+overflow_add-line c =
+    let found = cut c.args.hand.now c.next.ensures.next c.in-Record.is in
+    record { fits = omega (arith, found.bounded, found.some, c.requires.1) }
 
 pub returns-in-Wait-clause-turns : goal.returns-in-Wait-clause-turns
 returns-in-Wait-clause-turns c =
-    wait_turns c.args.input.now c.args.ended c.args.from c.next_record.ensures.next c.requires.0
-    c.args.agreement.now c.args.table.now c.args.line c.args.out.now c.args.at (omega (arith, c.requires.1))
-    c.in-Wait.is c.next_record.ensures.waits
+    wait_turns c.args.hand.now c.next.ensures.next c.args.agreement.now c.args.table.now c.args.line c.args.page.now
+    c.in-Wait.is (c.next.ensures.waits c.in-Wait.is)
 
 pub returns-in-End-clause-turns : goal.returns-in-End-clause-turns
 returns-in-End-clause-turns c =
-    end_turns c.args.input.now c.args.ended c.args.from c.next_record.ensures.next c.requires.0
-    c.args.agreement.now c.args.table.now c.args.line c.args.out.now c.args.at (omega (arith, c.requires.1))
+    end_turns c.args.hand.now c.next.ensures.next c.args.agreement.now c.args.table.now c.args.line c.args.page.now
     c.in-End.is
 
-pub returns-in-Record-clause-turns : goal.returns-in-Record-clause-turns
-returns-in-Record-clause-turns c =
-    record_turns c.args.input.now c.args.ended c.args.from c.next_record.ensures.next c.requires.0 c.in-Record.is
-    c.args.agreement.now c.args.table.now c.follow-told.new.table c.args.line c.args.out.now c.args.at
-    c.follow-told.new.out c.follow-told.result c.follow-told.ensures c.stage_after.ensures c.requires.1
+pub returns-then-goes_on-clause-turns : goal.returns-then-goes_on-clause-turns
+returns-then-goes_on-clause-turns c =
+    let told = c.follow-told in
+    record_turns c.args.hand.now c.next.ensures.next c.in-Record.is c.args.agreement.now c.args.table.now told.new.table
+    c.args.line (take c.in-Record.size c.bytes.result.now) c.args.page.now c.put_on.new.page c.take.new.self told.result
+    (ap (take c.in-Record.size) c.bytes.ensures.bytes) told.ensures c.take.ensures.bytes c.take.ensures.ended
+    c.requires.0 c.put_on.ensures (ap stage_after (sym c.if-goes_on.true ∙ c.goes_on.ensures))
 
-pub returns-in-Record-clause-takes : goal.returns-in-Record-clause-takes
-returns-in-Record-clause-takes c =
+pub returns-then-goes_on-clause-takes : goal.returns-then-goes_on-clause-takes
+returns-then-goes_on-clause-takes c =
+    let found = cut c.args.hand.now c.next.ensures.next c.in-Record.is in
     λ _. omega (
       arith,
-      some c.args.input.now c.args.ended c.args.from c.next_record.ensures.next c.requires.0 c.in-Record.is,
+      found.bounded,
+      found.some,
+      ap length c.take.ensures.bytes,
+      length-drop c.in-Record.size c.args.hand.now.bytes,
     )
+
+pub returns-else-goes_on-clause-turns : goal.returns-else-goes_on-clause-turns
+returns-else-goes_on-clause-turns c =
+    let told = c.follow-told in
+    record_turns c.args.hand.now c.next.ensures.next c.in-Record.is c.args.agreement.now c.args.table.now told.new.table
+    c.args.line (take c.in-Record.size c.bytes.result.now) c.args.page.now c.put_on.new.page c.take.new.self told.result
+    (ap (take c.in-Record.size) c.bytes.ensures.bytes) told.ensures c.take.ensures.bytes c.take.ensures.ended
+    c.requires.0 c.put_on.ensures (ap stage_after (sym c.if-goes_on.false ∙ c.goes_on.ensures))

@@ -7,10 +7,11 @@ use Rattle.activation.proofs.blames.blame_bits.Goals as goal
 pub returns-in-Ok : goal.returns-in-Ok
 returns-in-Ok c =
     let x = c.blamed in
-    c.party_bit.ensures.0 ∙ bits_party c.args.params.now c.args.b x.result x.ensures
+    c.of.ensures.0 ∙ bits_party c.args.params.now c.args.b x.result x.ensures
     (rw (read! x.type_inv) at c.in-Ok.ensures)
 
 pub returns-in-Err : goal.returns-in-Err
 returns-in-Err c =
     let x = c.blamed in
-    bits_below c.args.params.now c.args.b x.result x.ensures x.type_inv (rw (read! x.type_inv) at c.in-Err.ensures)
+    c.empty.ensures
+    ∙ bits_below c.args.params.now c.args.b x.result x.ensures x.type_inv (rw (read! x.type_inv) at c.in-Err.ensures)

@@ -50,5 +50,5 @@ returns-in-Taken c =
     c.in-Taken.is in
     let m = read! {z = c.in-Taken.last} (search rules) in
     choice_taken c.args.event h.agreement.now h.site.below h.bytes.now h.site.place h.params.now
-    h.values.now h.site.a h.site.depth c.requires.1 (omega arith, c.record_end-f.ensures.1) (rw m f.2)
+    h.values.now h.site.a h.site.depth c.requires.1 (omega arith, c.record_end-f.ensures.1) (rw m f.2) _ f.3
     c.wait_end-c.ensures.0 c.record_end-f.ensures.0 f.0 (m ∙ f.1)

@@ -16,7 +16,7 @@ pub chosen-requires : goal.chosen-requires
 chosen-requires c = (room c.args.clause.now.bytes.now (sym c.requires.is_whole) refl, c.requires.deep)
 
 pub instance-requires : goal.instance-requires
-instance-requires c = c.requires.deep
+instance-requires c = c.args.clause.now.few
 
 pub returns-in-17 : goal.returns-in-17
 returns-in-17 c =
@@ -42,4 +42,5 @@ returns-in_default c =
     leads_body c.args.event h.agreement.now h.site.below h.bytes.now h.site.place h.params.now h.values.now h.site.a
     h.site.depth c.requires c.kind.ensures
     (kind_instance (acting_last c.requires c.kind.ensures (omega arith) (omega arith) (omega arith)))
-    c.instance.result (c.instance.ensures c.args.event)
+    c.instance.result
+    (c.instance.ensures c.args.event h.site.place h.params.now h.values.now h.site.a h.site.depth)

@@ -1,9 +1,9 @@
 -- An obligation waits, is late and breached at the later of A and last, or is taken and goes on with its `then`: its
 -- fate decides.
-use borrow.Author.Rules.{sfits_of, rules}
+use borrow.Author.Rules.{rules}
 use Rattle.activation.proofs.Walks.{is_waits, is_late, is_taken, obligation_waits, obligation_late}
 use Rattle.activation.proofs.Walks.{obligation_taken}
-use Rattle.waits.proofs.Waits.{later_seen}
+use Rattle.arith.proofs.Numbers.{sizes}
 use native.Mathlib.Omega.{arith}
 use mathlib.Core.Path.{refl, ap, ◌∙◌}
 use Prim.Native.Nat.{◌-◌}
@@ -25,16 +25,25 @@ returns-in-Waits c =
     obligation_waits c.args.event h.agreement.now h.site.below h.bytes.now h.site.place h.params.now
     h.values.now h.site.a h.site.depth c.requires.1 f
 
+pub moved-requires : goal.moved-requires
+moved-requires c =
+    let h = c.args.clause.now in
+    let f = is_late (mode_at c.args.event) h.values.now h.site.a
+    (wait_at (expr (h.site.depth - 1)) h.site.place h.bytes.now 5) (c.becomes.ensures h.site.place)
+    c.in-Late.is in
+    let w = f.2 in
+    (omega (arith, h.soon), omega sizes)
+
 pub returns-in-Late : goal.returns-in-Late
 returns-in-Late c =
     let h = c.args.clause.now in
     let f = is_late (mode_at c.args.event) h.values.now h.site.a
     (wait_at (expr (h.site.depth - 1)) h.site.place h.bytes.now 5) (c.becomes.ensures h.site.place)
     c.in-Late.is in
+    let m = read! {z = c.in-Late.last} (search rules) in
     obligation_late c.args.event h.agreement.now h.site.below h.bytes.now h.site.place h.params.now
-    h.values.now h.site.a h.site.depth c.requires.1 f.0 f.1
-    (later_seen h.site.a (omega (arith, h.soon)) (sfits_of (search rules)) c.max-t.type_inv c.max-t.ensures.value)
-    (c.blame_bits-bits.ensures ∙ ap (blame_bits h.params.now) c.byte.ensures.0)
+    h.values.now h.site.a h.site.depth c.requires.1 f.0 f.1 _ (rw m at c.moved.ensures.0)
+    (c.blame_bits.ensures ∙ ap (blame_bits h.params.now) c.byte.ensures.0)
 
 pub returns-in-Taken : goal.returns-in-Taken
 returns-in-Taken c =
@@ -45,4 +54,4 @@ returns-in-Taken c =
     let m = read! {z = c.in-Taken.last} (search rules) in
     let we = c.wait_end.ensures in
     obligation_taken c.args.event h.agreement.now h.site.below h.bytes.now h.site.place h.params.now
-    h.values.now h.site.a h.site.depth c.requires.1 (we.1, omega arith) (rw m f.2) we.0 refl f.0 (m ∙ f.1)
+    h.values.now h.site.a h.site.depth c.requires.1 (we.1, omega arith) (rw m f.2) _ f.3 we.0 refl f.0 (m ∙ f.1)

@@ -7,7 +7,8 @@ pub breach_ahead-requires : goal.breach_ahead-requires
 breach_ahead-requires c = opened_as c.requires c.in-Running.is
 
 pub returns-in-Fulfilled : goal.returns-in-Fulfilled
-returns-in-Fulfilled c = foretell_done (opened_as c.requires c.in-Fulfilled.is)
+returns-in-Fulfilled c = foretell_done (opened_as c.requires c.in-Fulfilled.is) c.told-table
 
 pub returns-in-Breached : goal.returns-in-Breached
-returns-in-Breached c = foretell_breach (opened_as c.requires c.in-Breached.is)
+returns-in-Breached c =
+    rw c.into.ensures (foretell_breach (opened_as c.requires c.in-Breached.is) c.told-table)

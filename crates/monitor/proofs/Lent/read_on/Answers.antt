@@ -16,12 +16,12 @@ returns-in_err-reading c =
     let p = err_from_is_err_and c.from_residual.result c.from_residual.ensures.1 in
     let misfit = subst (λ s. TakenIs s c.args.bytes.now (Err c.in_err-reading.field-0.0)) c.agreement.ensures.0
     c.in_err-reading.ensures in
-    rw (p.1, p.2) (read_misfit c.requires _ _ misfit)
+    rw (p.1, p.2) (read_misfit c.requires c.told-table _ _ misfit)
 
 pub returns-then-reading-table : goal.returns-then-reading-table
 returns-then-reading-table c =
     rw c.into.ensures
-    (read_ten c.requires _ (rw c.agreement.ensures.0 at c.in_ok-reading.ensures) (read! (search rules))
+    (read_ten c.requires c.told-table _ (rw c.agreement.ensures.0 at c.in_ok-reading.ensures) (read! (search rules))
     c.if-reading-table.true)
 
 pub follow-requires : goal.follow-requires
@@ -29,7 +29,7 @@ follow-requires c = record {
   opened = c.requires;
   some_reading = (
     _,
-    read_fitted c.requires _ (rw c.agreement.ensures.0 at c.in_ok-reading.ensures) (read! (search rules))
+    read_fitted c.requires c.told-table _ (rw c.agreement.ensures.0 at c.in_ok-reading.ensures) (read! (search rules))
         c.if-reading-table.false,
   );
 }
@@ -37,5 +37,5 @@ follow-requires c = record {
 pub returns : goal.returns
 returns c =
     c.follow.ensures.is _
-    (read_fitted c.requires _ (rw c.agreement.ensures.0 at c.in_ok-reading.ensures) (read! (search rules))
+    (read_fitted c.requires c.told-table _ (rw c.agreement.ensures.0 at c.in_ok-reading.ensures) (read! (search rules))
     c.if-reading-table.false)

@@ -9,10 +9,7 @@ use Rattle.records.proofs.Listed.{is_listed, indexed}
 use Rattle.records.proofs.Agreement.read.Goals as goal
 
 pub returns-then-bytes-lt-READINGS_FROM : goal.returns-then-bytes-lt-READINGS_FROM
-returns-then-bytes-lt-READINGS_FROM c = listed_short c.args.bytes.now c.if-bytes-lt-READINGS_FROM.true
-
-pub returns-then-not-counts_ok : goal.returns-then-not-counts_ok
-returns-then-not-counts_ok c = listed_uncounted c.args.bytes.now c.counts_ok.ensures c.if-not-counts_ok.true
+returns-then-bytes-lt-READINGS_FROM c = search (listed_short, listed_uncounted, rules)
 
 pub slice_bounds-readings-end : goal.slice_bounds-readings-end
 slice_bounds-readings-end c =

@@ -1,61 +1,67 @@
--- Before unit k none opens later, so what is asked of all is asked of those that are left.
-use mathlib.Core.Path.{◌≡◌, ap}
-use Prim.Native.Nat.{◌-◌, ◌*◌}
+-- Each unit, with its sight, is what the tree says of it, and what is asked of all is asked of each in turn.
+use borrow.Author.Rules.{rules}
+use borrow.Author.Tests.{tests}
+use mathlib.Core.Path.{sym, ap, ◌∙◌}
+use Prim.Native.Nat.{ℕ, ◌-◌, ◌/◌, ◌≤◌, ◌<◌}
 use native.Mathlib.Omega.{arith}
-use lib.ListN.{length, drop, length-drop}
-use Rattle.cells.specs.Across.{some_open_later}
-use Rattle.walk.specs.Tree.{Front}
-use Rattle.walk.proofs.Opening.{each_front, later_found, later_next, later_none}
+use lib.ListN.{length, take, length-take}
+use Rattle.laws.proofs.Residues.{some_units}
+use Rattle.std.proofs.iter.Yields.{fronts}
+use Rattle.std.specs.List.{zip}
+use Rattle.std.specs.Slice.Iter.{iter_rest, chunks_exact_size, chunks_exact_rest, chunks_exact_steps}
+use Rattle.std.proofs.lemmas.Iterator.{YieldsList, zips}
+use Rattle.std.proofs.lemmas.Iterator.Adapters.{serves_from_places}
+use Rattle.std.proofs.lemmas.Iterator.Search.{any_from_yields_List}
+use Rattle.walk.proofs.Opening.{UnitAt, each_unit, chunks, yields_units, seen_at, opens, some_unit}
 use Rattle.walk.proofs.later.some_open_later.Goals as goal
-use Rattle.walk.proofs.later.some_open_later.Goals.{In-loop-k}
+use Rattle.walk.proofs.later.some_open_later.Goals.{Start, After-zip}
 
-pub loop-k-init : goal.loop-k-init
-loop-k-init c =
+each : (c : Start) → let u = c.args.units in (k : ℕ) → k < u.count
+    → UnitAt (length c.args.agreement.now) k u.sights.now u.cells.now
+each c k h = let t = c.requires.tree in each_unit _ t.residue _ _ t.stands k (omega (arith, t.count))
+
+-- the last of them
+last : (c : Start) → let u = c.args.units in
+    UnitAt (length c.args.agreement.now) (u.count - 1) u.sights.now u.cells.now
+last c = let t = c.requires.tree in each c (c.args.units.count - 1) (omega (arith, t.count, some_units t.residue))
+
+-- there are as many chunks
+enough : (c : Start) → c.args.units.count ≤ length c.args.units.cells.now / 24
+enough c = omega (arith, (last c).cells)
+
+-- what `zip` goes through
+abbrev items : After-zip → Type 0
+items c = let u = c.args.units in
+    YieldsList (zips fronts chunks_exact_steps) (λ p. (p.0.now, p.1.now)) c.zip.result
+    (zip (take u.count u.sights.now) (chunks (length u.cells.now / 24) u.cells.now))
+
+yielded : (c : After-zip) → items c
+yielded c =
+    let z = c.zip.ensures in
+    yields_units c.zip.result _ _ (ap iter_rest z.first ∙ c.iter-sights.ensures.rest)
+    (ap chunks_exact_size z.second ∙ c.chunks_exact-cells.ensures.size)
+    (ap chunks_exact_rest z.second ∙ c.chunks_exact-cells.ensures.rest)
+
+pub slice_bounds-iter-end : goal.slice_bounds-iter-end
+slice_bounds-iter-end c =
     let u = c.args.units in
-    let r = c.args.reading.now in
-    let all : u.count ≡ u.count - 0 = omega arith in
-    ap (λ n. some_open_later r.time r.tag r.values.items c.args.agreement.now n u.sights.now u.cells.now) all
+    omega (arith, length-take u.count u.sights.now, (last (goal.at.slice_bounds-iter-end c).Start).sight)
 
--- the unit at k stands at the front of what is left
-front : (c : In-loop-k) → let k = c.loop-k.k in let u = c.args.units in
-    Front (length c.args.agreement.now) (drop (2 * k) u.sights.now) (drop (24 * k) u.cells.now)
-front c =
-    let tree = c.requires.tree in
-    each_front _ tree.residue _ _ tree.stands c.loop-k.k (omega (arith, tree.count, c.loop-k-test.true))
-
--- and its cells and sights are there
-pub part-requires : goal.part-requires
-part-requires c =
-    let k = c.loop-k.k in
-    let at = front (goal.at.part-requires c).In-loop-k in (
-      omega (arith, at.seen, length-drop (2 * k) c.args.units.sights.now),
-      omega (arith, at.room, length-drop (24 * k) c.args.units.cells.now),
-      omega (arith, c.loop-k-test.true, c.requires.tree.few),
-    )
-
-pub unit_opens_later-requires : goal.unit_opens_later-requires
-unit_opens_later-requires c =
-    rw (c.part.ensures.0, c.part.ensures.1) (front (goal.at.unit_opens_later-requires c).In-loop-k)
-
-pub returns-then-unit_opens_later : goal.returns-then-unit_opens_later
-returns-then-unit_opens_later c =
+pub any-requires-clause-callable : goal.any-requires-clause-callable
+any-requires-clause-callable c =
     let u = c.args.units in
-    let r = c.args.reading.now in
-    later_found r.time r.tag r.values.items c.args.agreement.now u.count u.sights.now u.cells.now c.loop-k.k
-    c.loop-k-test.true c.loop-k.invariant
-    (rw (c.part.ensures.0, c.part.ensures.1) at c.unit_opens_later.ensures) c.if-unit_opens_later.true
-
-pub loop-k-preserved : goal.loop-k-preserved
-loop-k-preserved c =
-    let u = c.args.units in
-    let r = c.args.reading.now in
-    later_next r.time r.tag r.values.items c.args.agreement.now u.count u.sights.now u.cells.now c.loop-k.k
-    c.loop-k-test.true c.loop-k.invariant
-    (rw (c.part.ensures.0, c.part.ensures.1) at c.unit_opens_later.ensures) c.if-unit_opens_later.false
+    let at = goal.at.any-requires-clause-callable c in
+    serves_from_places (yielded at.After-zip) (λ x q r. search rules) (λ x k h e.
+    let seen = seen_at (length c.args.agreement.now) u.count (length u.cells.now / 24) u.sights.now u.cells.now
+    (enough at.Start) (each at.Start) (x.0.now, x.1.now) k h e in
+    search (rules, seen))
 
 pub returns : goal.returns
 returns c =
     let u = c.args.units in
-    let r = c.args.reading.now in
-    later_none r.time r.tag r.values.items c.args.agreement.now u.count u.sights.now u.cells.now c.loop-k.k
-    (omega (arith, c.loop-k-test.false, c.loop-k.auto.k-end)) c.loop-k.invariant
+    let at = goal.at.returns c in
+    let size = length c.args.agreement.now in
+    any_from_yields_List (opens c.args.reading.now c.args.agreement.now size) c.any.new.self _ c.any.result
+    c.any.ensures.ran (yielded at.After-zip) (λ x b q k. search (rules, tests))
+    ∙ sym (some_unit c.args.reading.now c.args.agreement.now size u.count (length u.cells.now / 24) u.sights.now
+    u.cells.now (enough at.Start) (each at.Start))

@@ -1,0 +1,145 @@
+// The lines that are not yet written, and what they say.
+use crate::Entry;
+use crate::given::{Given, MOST_CELLS};
+use arrayvec::ArrayVec;
+use monitor::{Accepted, Breach, Refusal, Refused};
+use std::io;
+use std::io::Write;
+
+const ROOM: usize = 65_536;
+
+// From here on they are written before more is put: any part of a line but a name has room behind it.
+const NEARLY_FULL: usize = 65_000;
+
+#[derive(Drop)]
+pub struct Lines<W> {
+    text: ArrayVec<u8, ROOM>,
+    output: W,
+}
+
+// A refusal's number, or 0.
+fn number_of<T: Copy>(answer: &Result<T, Refusal>) -> u32 {
+    match *answer {
+        Ok(_) => 0,
+        Err(why) => u32::from(why),
+    }
+}
+
+impl<W: Write> Lines<W> {
+    pub fn new(output: W) -> Self {
+        Lines {
+            text: ArrayVec::new(),
+            output,
+        }
+    }
+
+    // Writes them; an output that fails takes none.
+    pub fn flush(&mut self) {
+        let _written = self.output.write_all(self.text.as_slice());
+        self.text.clear();
+    }
+
+    fn make_room(&mut self) {
+        if NEARLY_FULL <= self.text.len() {
+            self.flush();
+        }
+    }
+
+    // The name of the calls that follow, as far as it has room.
+    pub fn put_name(&mut self, name: &[u8]) -> io::Result<()> {
+        self.make_room();
+        self.text.write_all(b"# ")?;
+        self.text.write_all(name)?;
+        self.text.write_all(b"\n")
+    }
+
+    // A call's line. On a table with too many cells nothing is called, and it is empty.
+    pub fn put_call(&mut self, entry: Entry, given: &mut Given) -> io::Result<()> {
+        self.make_room();
+        if given.table.len() <= MOST_CELLS {
+            match entry {
+                Entry::Check => self.put_check(given.agreement.as_slice())?,
+                Entry::Start => {
+                    self.put_start(given.agreement.as_slice(), given.table.as_mut_slice())?
+                }
+                Entry::Reading => self.put_reading(
+                    given.agreement.as_slice(),
+                    given.table.as_mut_slice(),
+                    given.reading.as_slice(),
+                )?,
+                Entry::Forecast => {
+                    self.put_forecast(given.agreement.as_slice(), given.table.as_slice())?
+                }
+            }
+        }
+        self.text.write_all(b"\n")
+    }
+
+    // The number, and the main clause's parties by bit.
+    fn put_check(&mut self, agreement: &[u8]) -> io::Result<()> {
+        let checked = monitor::check(agreement);
+        let number = number_of(&checked);
+        let parties = checked.unwrap_or(0);
+        write!(self.text, "check {number} {parties}")
+    }
+
+    // The number, and the cells.
+    fn put_start(&mut self, agreement: &[u8], table: &mut [i64]) -> io::Result<()> {
+        let number = number_of(&monitor::start(agreement, table));
+        write!(self.text, "start {number}")?;
+        self.put_cells(table)
+    }
+
+    // The number, the mark `early`, the cost, and the cells.
+    fn put_reading(
+        &mut self,
+        agreement: &[u8],
+        table: &mut [i64],
+        reading: &[u8],
+    ) -> io::Result<()> {
+        match monitor::reading(agreement, table, reading) {
+            Ok(Accepted { early, cost }) => {
+                let early = u8::from(early);
+                write!(self.text, "reading 0 {early} {cost}")?;
+            }
+            Err(Refused { why, cost }) => {
+                let number = u32::from(why);
+                write!(self.text, "reading {number} 0 {cost}")?;
+            }
+        }
+        self.put_cells(table)
+    }
+
+    // The number, and the time and the parties by bit, or `none`.
+    fn put_forecast(&mut self, agreement: &[u8], table: &[i64]) -> io::Result<()> {
+        let foretold = monitor::forecast(agreement, table);
+        let number = number_of(&foretold);
+        match foretold {
+            Ok(Some(Breach { time, parties })) => write!(
+                self.text,
+                "forecast {number} {time} {parties}"
+            ),
+            _ => write!(self.text, "forecast {number} none"),
+        }
+    }
+
+    // The cells that are not zero, each with its place. A negative number stands as `~` and its complement: -1 is `~0`.
+    fn put_cells(&mut self, table: &[i64]) -> io::Result<()> {
+        for (place, cell) in table.iter().enumerate() {
+            self.put_cell(place, *cell)?;
+        }
+        Ok(())
+    }
+
+    fn put_cell(&mut self, place: usize, cell: i64) -> io::Result<()> {
+        if cell == 0 {
+            return Ok(());
+        }
+        self.make_room();
+        if cell < 0 {
+            let complement = !cell;
+            return write!(self.text, " {place}=~{complement}");
+        }
+        write!(self.text, " {place}={cell}")
+    }
+}

@@ -1,4 +1,0 @@
-use Rattle.typing.proofs.+clause_parties.Given as goal
-
-abbrev pub decreases-clause_parties : goal.decreases-clause_parties
-decreases-clause_parties l = l.depth
