@@ -1,14 +1,16 @@
 -- Laws of blames and of an instance's arguments, as the loops over them know things.
 use mathlib.Core.Path.{◌≡◌, refl, sym, ap, ◌∙◌}
 use mathlib.Core.List.{List, [], ◌∷◌, ◌++◌, append-nil}
-use Prim.Native.Nat.{ℕ, zero, suc, ◌+◌, ◌-◌, ◌^◌, ◌≤◌, ◌<◌}
+use Prim.Native.Nat.{ℕ, zero, suc, ◌+◌, ◌-◌, ◌^◌, ◌≤◌, ◌<◌, max}
 use native.Mathlib.Omega.{arith}
 use lib.IntN.{ℤ, pos, negsuc, nat_abs}
 use lib.Signed.{mag}
 use Rattle.std.specs.Int.{FitsUnsignedBits}
-use lib.ListN.{length, get_or, take}
+use Rattle.std.specs.Prelude.{Result, Ok, Err, MatchResult}
+use Rattle.std.specs.List.{fold, range_with_len}
+use lib.ListN.{length, get_or, take, set}
 use Rattle.std.proofs.lemmas.List.{take_more}
-use lib.Seq.{append_snoc, take_all}
+use lib.Seq.{append_snoc, take_all, take-suc-set}
 use borrow.Author.Tests.{lt-ltb, le-ltb, ne_eqb}
 use mir.Syntax.{w64}
 use mir.Val.{to_z}
@@ -50,6 +52,12 @@ module _ (ps : List ℤ) (b : ℕ) where
   bits_below (pos n) e f h = absurd (h (omega arith))
   bits_below (negsuc n) e f h = rw (← e) (bits_none 16 (omega arith))
 
+-- by what `try_from` says of a cell
+pub by_cell : {E G : Type 0} (t : Result ℕ E) {P : ℕ → Type 0} {Q : E → Type 0} → MatchResult t P Q
+    → ((n : ℕ) → t ≡ Ok n → P n → G) → ((e : E) → t ≡ Err e → Q e → G) → G
+by_cell (Ok n) m f g = f n refl m
+by_cell (Err e) m f g = g e refl m
+
 -- ---- the loop over blame bytes
 pub blames_all : (ps : List ℤ) (bs : List ℕ) (n : ℕ) → length bs ≤ n → blamed_cells ps (take n bs) ≡ blamed_cells ps bs
 blames_all ps bs n h = ap (blamed_cells ps) (take_all n bs h)
@@ -64,22 +72,34 @@ pub blames_more : (ps : List ℤ) (bs : List ℕ) (i : ℕ) → i < length bs
     → blamed_cells ps (take (i + 1) bs) ≡ blamed_cells ps (take i bs) ++ (blamed_cell ps (get_or bs i 0) ∷ [])
 blames_more ps bs i h = ap (blamed_cells ps) (take_more bs i 0 h) ∙ blames_append ps (take i bs) (get_or bs i 0)
 
+pub blames_set : (ps : List ℤ) (bs : List ℕ) (cs : List ℤ) (i : ℕ) {x : ℤ} → i < length bs → i < length cs
+    → take i cs ≡ blamed_cells ps (take i bs) → x ≡ blamed_cell ps (get_or bs i 0)
+    → take (i + 1) (set cs i x) ≡ blamed_cells ps (take (i + 1) bs)
+blames_set ps bs cs i {x} hb hc e q =
+    let next : i + 1 ≡ suc i = omega arith in
+    ap (λ k. take k (set cs i x)) next ∙ take-suc-set cs i x hc ∙ ap (λ l. l ++ (x ∷ [])) e
+    ∙ ap (λ y. blamed_cells ps (take i bs) ++ (y ∷ [])) q ∙ sym (blames_more ps bs i hb)
+
 -- ---- the loops over arguments; at is where the next begins
 one_less : {n : ℕ} (i : ℕ) → i < n → n - i ≡ suc (n - (i + 1))
 one_less i h = omega arith
 
 module _ (s : List ℕ) (n : ℕ) where
-  pub ends_none : records_end n s 5 ≡ records_end (n - 0) s 5
-  ends_none = let e : n - 0 ≡ n = omega arith in rw e
-
-  pub ends_more : (i at : ℕ) → records_end n s 5 ≡ records_end (n - i) s at → i < n → {e : ℕ} → e ≡ record_end s at
-      → records_end n s 5 ≡ records_end (n - (i + 1)) s e
+  pub ends_all : (i at : ℕ) → fold (λ a k. record_end s a) at (range_with_len i n) ≡ records_end n s at
   unfolding records_end
-  ends_more i at a h ee = a ∙ rw (one_less i h, ee)
+  ends_all = by_count n
+    where
+      by_count : (k i at : ℕ) → fold (λ a j. record_end s a) at (range_with_len i k) ≡ records_end k s at
+      by_count zero i at = refl
+      by_count (suc k) i at = by_count k (i + 1) (record_end s at)
 
-  pub ends_all : {i at : ℕ} → n ≤ i → records_end n s 5 ≡ records_end (n - i) s at → at ≡ records_end n s 5
-  unfolding records_end
-  ends_all {i} e a = let z : n - i ≡ 0 = omega arith in sym (a ∙ rw z)
+  pub ends_within : (at : ℕ) → records_end n s at ≤ at + length s
+  unfolding records_end record_end
+  ends_within = λ at. omega (arith, by_count n at)
+    where
+      by_count : (k at : ℕ) → records_end k s at ≤ max at (length s)
+      by_count zero at = omega arith
+      by_count (suc k) at = omega (arith, by_count k (record_end s at))
 
 module _ (vs : List ℤ) (d : ℕ) (s : List ℕ) (n : ℕ) where
   pub record Argued (l : List ℤ) (i at : ℕ) : Type 0 where

@@ -4,7 +4,7 @@ use mathlib.Core.Path.{◌≡◌, refl, sym, ap, ◌∙◌, subst}
 use mathlib.Core.List.{List, ◌++◌}
 use Prim.Native.Nat.{ℕ, ◌+◌, ◌-◌, ◌*◌, ◌≤◌, ◌<◌}
 use native.Mathlib.Omega.{arith}
-use lib.IntN.{ℤ}
+use lib.IntN.{ℤ, pos}
 use lib.ListN.{length, take, drop, length-append, length-drop}
 use lib.Seq.{drop_at, take_at}
 use Rattle.csl.specs.Syntax.{Join}
@@ -58,9 +58,9 @@ reckons_by by {y = y} {o = o} e h m = rw e (m.is y o h)
 
 -- one clause that is breached or waits
 pub reckons_broken : {b : Broken} {a : Reckoned} → MakesOne (Breach b) a → (o : List ℤ) {x : cells.Reckoned}
-    → x ≡ cells.reaches (cells.broken b.time b.parties) → Reckons x a o
+    → (u : ℕ) × (x ≡ cells.reaches (cells.broken u b.parties)) × (b.time ≡ pos u) → Reckons x a o
 unfolding Is cells.reaches cells.broken
-reckons_broken {b = b} m o e = rw e (m.is (cells.breach b.time b.parties) o (refl, refl))
+reckons_broken {b = b} m o e = rw e.1 (m.is (cells.breach e.0 b.parties) o (e.2, refl))
 
 pub reckons_waiting : {r : Reduced} {a : Reckoned} → MakesOne r a → (o cs : List ℤ) {x : cells.Reckoned}
     → x ≡ cells.reaches (cells.waiting cs) → Is (cells.running cs) r o → Reckons x a o
@@ -72,13 +72,14 @@ is_ends : (o : List ℤ) {x : cells.Reduced} → x ≡ cells.done → Is x Done 
 unfolding Is
 is_ends o e = rw e tt
 
-breach_is : (o : List ℤ) {x : cells.Reduced} (b : Broken) → x ≡ cells.breach b.time b.parties → Is x (Breach b) o
+breach_is : (o : List ℤ) {x : cells.Reduced} (b : Broken) → (u : ℕ) × (x ≡ cells.breach u b.parties) × (b.time ≡ pos u)
+    → Is x (Breach b) o
 unfolding Is
-breach_is o b h = rw h (refl, refl)
+breach_is o b h = rw h.1 (h.2, refl)
 
 -- ---- the right side stays at the end while the left side is written below it
 module _ (o₁ o₂ : List ℤ) (r : Reduced) (e : ℕ) (ee : e ≡ room_left r (length o₁)) (he : e ≤ length o₁)
-    (l₂ : length o₂ ≡ e) (room : length o₁ ≤ 3072) where
+    (l₂ : length o₂ ≡ e) where
   pub laid_length : length (o₂ ++ drop e o₁) ≡ length o₁
   laid_length = simp (length-append, length-drop) (omega arith)
 
@@ -89,13 +90,13 @@ module _ (o₁ o₂ : List ℤ) (r : Reduced) (e : ℕ) (ee : e ≡ room_left r 
     units = st.units;
     size = st.size;
     count = st.count;
-    wrote = λ fits.
+    wrote = λ few fits.
         let c : length cs ≤ length o₁ = omega (arith, laid_length) in
         let em' : m ≡ st.units = omega (arith, st.size, st.count) in
         let ec : length cs ≡ 24 * m = omega (arith, st.size) in
         ap (λ n. drop (n - length cs) (o₂ ++ drop e o₁)) laid_length
         ∙ drop_at o₂ (drop e o₁) (length o₁ - length cs) (omega arith)
-        ∙ ap (λ n. drop n o₁) (let q : e ≡ length o₁ - length cs = omega arith in q) ∙ st.wrote c;
+        ∙ ap (λ n. drop n o₁) (let q : e ≡ length o₁ - length cs = omega arith in q) ∙ st.wrote few c;
   })
 
   right_stays : (y : cells.Reduced) → Is y r o₁ → Is y r (o₂ ++ drop e o₁)
@@ -115,13 +116,13 @@ module _ (o₁ o₂ : List ℤ) (r : Reduced) (e : ℕ) (ee : e ≡ room_left r 
   }
 
 pub reckons_laid : (o₁ o₂ : List ℤ) {r : Reckoned} (e : ℕ) → e ≡ room_left r.outcome (length o₁) → e ≤ length o₁
-    → length o₂ ≡ e → length o₁ ≤ 3072 → {j : Join} {l : Reckoned} {a : Reduced} {t : Tally} {w : List ℤ}
+    → length o₂ ≡ e → {j : Join} {l : Reckoned} {a : Reduced} {t : Tally} {w : List ℤ}
     → JoinIs j l.outcome r.outcome (o₂ ++ drop e o₁) a w → JoinTallies j l.tally r.tally t
     → {x y : cells.Reckoned} → Reckons x l o₂ → Reckons y r o₁
     → Reckons (cells.reaches (cells.joins j x y)) (record { outcome = a; tally = t }) w
 unfolding cells.reaches cells.joins
-reckons_laid o₁ o₂ {r} e ee he l₂ room i t {x} {y} hx hy = record {
+reckons_laid o₁ o₂ {r} e ee he l₂ i t {x} {y} hx hy = record {
   outcome = i.is x.outcome y.outcome
-      (laid o₁ o₂ r.outcome e ee he l₂ room x.outcome y.outcome hx.outcome hy.outcome);
+      (laid o₁ o₂ r.outcome e ee he l₂ x.outcome y.outcome hx.outcome hy.outcome);
   tally = t.is x.tally y.tally hx.tally hy.tally;
 }

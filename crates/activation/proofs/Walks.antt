@@ -7,7 +7,7 @@ use Prim.Native.Nat.{ℕ, zero, suc, ◌+◌, ◌-◌, ◌≤◌, ◌<◌}
 use native.Mathlib.Nat.{add_comm}
 use native.Mathlib.Omega.{arith}
 use native.Mathlib.Decide.{dec_le}
-use lib.IntN.{ℤ}
+use lib.IntN.{ℤ, pos}
 use lib.Dec.{eqb}
 use lib.ListN.{length}
 use borrow.Author.Tests.{ne_eqb, eq-eqb}
@@ -95,9 +95,10 @@ module _ (e : Event) (ag : List ℕ) (below : ℕ) (s : List ℕ) (place : ℕ) 
   obligation_waits f = rw (f, cells.walk)
 
   pub obligation_late : fate (mode_at e) vs a (wait_of 5) ≡ late → {l : ℤ} → l ≡ last_of vs a (wait_of 5)
-      → (b : Broken) → b.time ≡ later_of a l → b.parties ≡ blame_bits ps (byte s 4) → LeadsTo obligation_kind (Breaks b)
+      → (b : Broken) → b.time ≡ pos (later_of a l) → b.parties ≡ blame_bits ps (byte s 4)
+      → LeadsTo obligation_kind (Breaks b)
   unfolding Leads reckon_below cells.walk clause_body
-  obligation_late f el b et eb = rw (f, cells.walk, eb, et, el)
+  obligation_late f {l} el b et eb = (later_of a l, rw (f, cells.walk, eb, el), et)
 
   -- a `then` at c
   module _ {c z : ℕ} (o : (c ≤ z) × (z ≤ length s)) {l : ℤ} (near : Near (a + 2_000_000_000) l) (r : Bor Reading)

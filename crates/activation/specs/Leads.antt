@@ -100,7 +100,7 @@ module _ (e : Event) (ag : List ℕ) (below : ℕ) (s : List ℕ) (place : ℕ) 
 
   unfoldable pub Leads : Next → Type 0
   Leads Ends = reckoned c a ≡ ended_by 1
-  Leads (Breaks b) = reckoned c a ≡ reaches (cells.broken b.time b.parties)
+  Leads (Breaks b) = (u : ℕ) × (reckoned c a ≡ reaches (cells.broken u b.parties)) × (b.time ≡ pos u)
   Leads (Waits w) = reckoned c a ≡ reaches (cells.waiting (unit_of (wait_number w) place a ps vs))
   Leads (Picks x y) = GoesOn reaches x y a
   Leads (Lapses x y b) = GoesOn (λ z. reaches (becomes z)) x y b
@@ -125,6 +125,10 @@ pub record Sided (depth n f : ℕ) : Type 0 where
   pub inside : f ≤ n
 
 -- ---- sites
+-- the site of a clause within no other, at a place, at the time a
+abbrev pub whole_site : List ℕ → ℕ → ℕ → Site
+whole_site ag place a = record { below = byte ag 10; place = place; a = a; depth = 23 }
+
 -- the site of a part that begins at x, of a `then`, n templates being named, and of the body of template k
 abbrev pub inner_site : Site → ℕ → ℕ → Site
 inner_site t x a = record { below = t.below; place = t.place + x; a = a; depth = t.depth - 1 }
@@ -141,7 +145,7 @@ pub record StandsAt (ag : List ℕ) (t : Site) (s : List ℕ) (ps vs : List ℤ)
   pub site : c.site ≡ t
   pub bytes : c.bytes.now ≡ s
   pub params : c.params.now ≡ ps
-  pub values : c.values.now ≡ vs
+  pub values : c.values.cells.now ≡ vs
 
 -- ---- what a clause does
 -- in the record s at a site
@@ -149,7 +153,7 @@ abbrev pub reckon_at : Event → List ℕ → Site → List ℕ → List ℤ →
 reckon_at e ag t s ps vs = reckon_below (mode_at e) ag t.below (clause (heads_of ag) t.depth t.place s) ps vs t.a
 
 abbrev pub does : Event → Here → cells.Reckoned
-does e c = reckon_at e c.agreement.now c.site c.bytes.now c.params.now c.values.now
+does e c = reckon_at e c.agreement.now c.site c.bytes.now c.params.now c.values.cells.now
 
 -- what it decodes to, and what it decodes to as of a kind
 abbrev pub clause_at : Here → Clause
@@ -159,13 +163,13 @@ abbrev pub body_at : Here → ClauseKind → Clause
 body_at c k = body_in c.agreement.now (c.site.depth - 1) c.site.place c.bytes.now k
 
 abbrev pub LeadsFrom : Event → Here → Clause → Next → Type 0
-LeadsFrom e c x r = Leads e c.agreement.now c.site.below c.bytes.now c.site.place c.params.now c.values.now c.site.a
-    c.site.depth x r
+LeadsFrom e c x r = Leads e c.agreement.now c.site.below c.bytes.now c.site.place c.params.now
+    c.values.cells.now c.site.a c.site.depth x r
 
 -- its part from x to y, at the time a
 abbrev pub part_reckoned : Event → Here → ℕ → ℕ → ℕ → cells.Reckoned
 part_reckoned e c x y a = reckon_at e c.agreement.now (inner_site c.site x a) (part c.bytes.now x y) c.params.now
-    c.values.now
+    c.values.cells.now
 
 -- its two sides, of which the right one begins at f
 abbrev pub sides_reckoned : Event → Here → Join → ℕ → cells.Reckoned
@@ -176,13 +180,13 @@ sides_reckoned e c j f = reaches (joins (join_in j) (part_reckoned e c 4 f c.sit
 abbrev pub then_reckoned : Reading → Here → ℕ → ℕ → ℤ → cells.Reckoned
 then_reckoned r c x y l = reckon_below activating c.agreement.now (byte c.agreement.now 10)
     (clause (heads_of c.agreement.now) (c.site.depth - 1) (c.site.place + x) (part c.bytes.now x y)) c.params.now
-    (then_values c.values.now r.values.items (l -ℤ pos r.time)) r.time
+    (then_values c.values.cells.now r.values.items (l -ℤ pos r.time)) r.time
 
 -- the body of template k, the clause being an instance of it whose parties begin at i
 abbrev pub instance_reckoned : Event → Here → ℕ → ℕ → cells.Reckoned
 instance_reckoned e c k i = reckon_at e c.agreement.now (body_site c.agreement.now c.site k)
     (body_bytes c.agreement.now k)
-    (blamed_cells c.params.now (part c.bytes.now i (length c.bytes.now))) (evals_cells c.values.now
+    (blamed_cells c.params.now (part c.bytes.now i (length c.bytes.now))) (evals_cells c.values.cells.now
     (arguments (expr (c.site.depth - 1)) (length (head_at c.agreement.now k).values) c.bytes.now 5))
 
 pub record OfInstance (c : Here) (k i : ℕ) : Type 0 where

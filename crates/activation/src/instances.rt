@@ -13,10 +13,10 @@ use crate::sites::Clause;
 use arrayvec::ArrayVec;
 use evaluation::eval;
 use octets::{byte, record_end};
-use records::Agreement;
+use records::{Agreement, Template};
 
 // The most values of an instance.
-const MOST_VALUES: usize = 8;
+pub const MOST_ARGUMENTS: usize = 8;
 
 // Where the last of n expressions ends that stand one after another from byte 5 of s. Their values are no part of the
 // answer: it would be copied with them at each activation (28 % more instructions where two million obligations are
@@ -24,26 +24,23 @@ const MOST_VALUES: usize = 8;
 fn arguments_end(s: &[u8], n: usize) -> usize
     ensures { (result ≡ records_end n s.now 5) × (result ≤ 5 + length s.now) }
 {
-    let mut at = 5;
-    for _ in 0..n {
-        at = record_end(s, at);
-    }
-    at
+    (0..n).fold(5, |at, _| record_end(s, at))
 }
 
-// The values that the clause gives, an instance of a template.
-pub(crate) fn arguments(clause: &Clause<'_>, template: usize) -> ArrayVec<i64, MOST_VALUES>
-    requires { (1 ≤ clause.now.site.depth) × (template < bytes.byte clause.now.agreement.now 10) }
-    ensures { result.items ≡ evals_cells clause.now.values.now (decode.arguments (expr (clause.now.site.depth - 1))
-        (length (head_at clause.now.agreement.now template).values) clause.now.bytes.now 5) }
+// The values that the clause gives, an instance of the template. (They go one after another, each beginning where the
+// one before ends: an iterator of records would be a type with laws of its own, for two loops of a few lines.)
+pub fn arguments(clause: &Clause<'_>, template: &Template<'_>) -> ArrayVec<i64, MOST_ARGUMENTS>
+    requires { 1 ≤ clause.now.site.depth }
+    ensures { result.items ≡ evals_cells clause.now.values.cells.now (decode.arguments (expr (clause.now.site.depth - 1))
+        (length (head_at template.now.agreement.now template.now.number).values) clause.now.bytes.now 5) }
 {
     let s = clause.bytes;
     let depth = clause.site.depth - 1;
     let mut values = ArrayVec::new();
     let mut at = 5;
-    for _ in 0..clause.agreement.value_count(template) {
+    for _ in 0..template.value_count() {
         let e = record_end(s, at);
-        values.push(eval(&s[at.min(s.len())..e], clause.values, depth));
+        values.push(eval(&s[at.min(s.len())..e], clause.values.cells, depth));
         at = e;
     }
     values
@@ -55,13 +52,17 @@ pub fn instance<'a>(agreement: &Agreement<'_>, below: usize, s: &[u8]) -> Next<'
     ensures { (e : Event) (place : ℕ) (ps vs : List ℤ) (a depth : ℕ) → Leads e agreement.now below s.now place ps vs a
         depth (body_in agreement.now (depth - 1) place s.now instance_kind) result }
 {
-    let template = byte(s, 4);
-    if template >= below {
+    let number = byte(s, 4);
+    if number >= below {
         return Next::Ends;
     }
-    let parties = arguments_end(s, agreement.value_count(template));
-    if parties + agreement.param_count(template) != s.len() {
+    let template = Template { agreement, number };
+    let parties = arguments_end(s, template.value_count());
+    if parties + template.param_count() != s.len() {
         return Next::Ends;
     }
-    Next::Unfolds { template, parties }
+    Next::Unfolds {
+        template: number,
+        parties,
+    }
 }

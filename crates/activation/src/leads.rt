@@ -1,5 +1,5 @@
 // What a clause leads to, before anything within it is activated.
-ghost use Rattle.std.specs.Prelude.{◌≡◌, true, ℕ, ◌+◌, ◌-◌, ◌≤◌, length};
+ghost use Rattle.std.specs.Prelude.{◌≡◌, true, ℕ, ◌+◌, ◌-◌, ◌≤◌, pos, length};
 ghost use Rattle.csl.specs.Numbers.{later_of};
 ghost use Rattle.csl.specs.Decode.{if_kind, obligation_kind, choice_kind};
 ghost use Rattle.arith.specs.Near.{Near};
@@ -16,16 +16,17 @@ use kinds::{Join, WaitKind};
 use octets::{byte, is_record, kind, record_end};
 use parties::Breach;
 use records::wait_end;
-use waits::{Event, Fate, becomes};
+use waits::{Event, Fate, Wait};
 
 // The later of a time and a window's last minute, as a time.
-fn moved(a: usize, last: i64) -> usize
+fn moved(a: usize, last: i64) -> i64
     requires { (a ≤ farthest) × Near (a + 2_000_000_000) last }
-    ensures { (result ≡ later_of a last) × (result ≤ a + 2_000_000_000) }
+    ensures { (result ≡ pos (later_of a last)) × (later_of a last ≤ a + 2_000_000_000) }
 {
-    (a as i64).max(last) as usize
+    (a as i64).max(last)
 }
 
+// (What `Acting` leaves for the clause of one kind is asked by itself here and below: four bytes and a depth.)
 fn chosen<'a>(clause: &Clause<'_>) -> Next<'a>
     requires { (4 ≤ length clause.now.bytes.now) × (1 ≤ clause.now.site.depth) }
     ensures { (e : Event) → LeadsFrom e clause.now (body_at clause.now if_kind) result }
@@ -33,7 +34,7 @@ fn chosen<'a>(clause: &Clause<'_>) -> Next<'a>
     let s = clause.bytes;
     let c = record_end(s, 4);
     let f = record_end(s, c);
-    if is_true(eval(&s[4..c], clause.values, clause.site.depth - 1)) {
+    if is_true(eval(&s[4..c], clause.values.cells, clause.site.depth - 1)) {
         return Next::Picks { from: c, to: f };
     }
     Next::Picks {
@@ -42,13 +43,21 @@ fn chosen<'a>(clause: &Clause<'_>) -> Next<'a>
     }
 }
 
+// (`obligation` and `choice` stay two: their windows, `then` and else stand at other places.)
 fn obligation<'a>(event: Event<'a>, clause: &Clause<'_>) -> Next<'a>
     requires { (4 ≤ length clause.now.bytes.now) × (1 ≤ clause.now.site.depth) }
     ensures { LeadsFrom event.entry clause.now (body_at clause.now obligation_kind) result }
 {
     let s = clause.bytes;
     let a = clause.site.a;
-    match becomes(event, s, 5, clause.values, a, clause.site.depth - 1) {
+    let wait = Wait {
+        bytes: s,
+        at: 5,
+        values: clause.values,
+        a,
+        depth: clause.site.depth - 1,
+    };
+    match wait.becomes(event) {
         Fate::Waits => Next::Waits(WaitKind::Obligation),
         Fate::Late(last) => Next::Breaks(Breach {
             time: moved(a, last),
@@ -69,15 +78,21 @@ fn choice<'a>(event: Event<'a>, clause: &Clause<'_>) -> Next<'a>
 {
     let s = clause.bytes;
     let a = clause.site.a;
-    let fate = becomes(event, s, 4, clause.values, a, clause.site.depth - 1);
+    let wait = Wait {
+        bytes: s,
+        at: 4,
+        values: clause.values,
+        a,
+        depth: clause.site.depth - 1,
+    };
     let c = wait_end(s, 4);
     let f = record_end(s, c);
-    match fate {
+    match wait.becomes(event) {
         Fate::Waits => Next::Waits(WaitKind::Choice),
         Fate::Late(last) => Next::Lapses {
             from: f,
             to: s.len(),
-            at: moved(a, last),
+            at: moved(a, last) as usize,
         },
         Fate::Taken(reading, last) => Next::Takes {
             reading,
@@ -88,7 +103,8 @@ fn choice<'a>(event: Event<'a>, clause: &Clause<'_>) -> Next<'a>
     }
 }
 
-// What a clause that acts does, before anything within it is activated. A record's kind is decided by its number.
+// What a clause that acts does, before anything within it is activated. A record's kind is decided by its number, a
+// rule of the project.
 pub fn leads_to<'a>(event: Event<'a>, clause: &Clause<'_>) -> Next<'a>
     requires { Acting clause.now.site.depth clause.now.bytes.now }
     ensures { LeadsFrom event.entry clause.now (clause_at clause.now) result }

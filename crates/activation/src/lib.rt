@@ -16,9 +16,11 @@ ghost use Rattle.activation.specs.Leads.{instance_reckoned};
 use crate::blames::blames;
 use crate::instances::arguments;
 use crate::leads::{leads_to, outline};
+use cells::Values;
 use kinds::{Join, WaitKind};
 use parties::Breach;
 use readings::Reading;
+use records::Template;
 use residues::tallies::join_tallies;
 use residues::{Reckoned, Reduced, join, put_unit, room_left};
 pub use sites::{Clause, Placed, Site};
@@ -26,6 +28,9 @@ use waits::{Event, then_values};
 
 // The most parties of an instance.
 const MOST_PARAMS: usize = 4;
+
+// (Shape and Next say what is found, for the one `match` on it: no step is kept. A part of the bytes is two numbers,
+// since a Range is not Copy.)
 
 // What a record shows by kinds alone: that there is nothing to do, in so many clauses; an `and` whose one side has
 // nothing to do, and the part of its bytes that is the other; a join and where its right side begins; a clause that
@@ -67,10 +72,10 @@ pub enum Next<'a> {
     },
 }
 
-// What a clause becomes. A residue grows downward from the end of out.
+// What a clause becomes. A residue grows downward from the end of out. (Event, clause and room go on as they are: a
+// struct of them would be made anew at each part.)
 #[cycle(activation)]
 pub fn activate(event: Event<'_>, placed: &Placed<'_>, out: &mut [i64]) -> Reckoned
-    requires { length out.old ≤ 3072 }
     ensures { Reckons (does event.entry placed.now.clause) result out.new }
 {
     let clause = &placed.clause;
@@ -88,7 +93,7 @@ pub fn activate(event: Event<'_>, placed: &Placed<'_>, out: &mut [i64]) -> Recko
 // The same of a clause that acts.
 #[cycle(activation)]
 fn act(event: Event<'_>, placed: &Placed<'_>, out: &mut [i64]) -> Reckoned
-    requires { (length out.old ≤ 3072) × Acting placed.now.clause.site.depth placed.now.clause.bytes.now }
+    requires { Acting placed.now.clause.site.depth placed.now.clause.bytes.now }
     ensures { Reckons (does event.entry placed.now.clause) result out.new }
 {
     let clause = &placed.clause;
@@ -125,7 +130,7 @@ fn act(event: Event<'_>, placed: &Placed<'_>, out: &mut [i64]) -> Reckoned
 // that are left, the join's unit below both.
 #[cycle(activation)]
 fn both(event: Event<'_>, placed: &Placed<'_>, kind: Join, f: usize, out: &mut [i64]) -> Reckoned
-    requires { (length out.old ≤ 3072) × Sided placed.now.clause.site.depth (length placed.now.clause.bytes.now) f }
+    requires { Sided placed.now.clause.site.depth (length placed.now.clause.bytes.now) f }
     ensures { Reckons (sides_reckoned event.entry placed.now.clause kind f) result out.new }
 {
     let clause = &placed.clause;
@@ -153,12 +158,13 @@ fn taken(
     last: i64,
     out: &mut [i64],
 ) -> Reckoned
-    requires { let c = placed.now.clause in (length out.old ≤ 3072) × (1 ≤ c.site.depth) × (from ≤ to)
+    requires { let c = placed.now.clause in (1 ≤ c.site.depth) × (from ≤ to)
         × (to ≤ length c.bytes.now) × Near (c.site.a + 2_000_000_000) last }
     ensures { Reckons (then_reckoned reading.now placed.now.clause from to last) result out.new }
 {
     let values = then_values(placed.clause.values, reading, last);
-    let then = (&*placed).then(from, to, reading.time, &values);
+    // lent again: the proof's reading of borrows covers no reference that is passed on for a shorter time
+    let then = (&*placed).then(from, to, reading.time, Values { cells: &values });
     activate(Event::Activate, &then, out)
 }
 
@@ -173,12 +179,23 @@ fn unfold(
     parties: usize,
     out: &mut [i64],
 ) -> Reckoned
-    requires { (length out.old ≤ 3072) × OfInstance placed.now.clause template parties }
+    requires { OfInstance placed.now.clause template parties }
     ensures { Reckons (instance_reckoned event.entry placed.now.clause template parties) result out.new }
 {
     let clause = &placed.clause;
-    let values = arguments(clause, template);
-    let params = blames::<MOST_PARAMS>(&clause.bytes[parties..], clause.params);
-    let body = (&*placed).body(template, &params, &values);
+    let named = Template {
+        agreement: clause.agreement,
+        number: template,
+    };
+    let values = arguments(clause, &named);
+    let named_parties = &clause.bytes[parties..];
+    let mut params = [0; MOST_PARAMS];
+    blames(named_parties, clause.params, &mut params);
+    // lent again, as in `taken`
+    let body = (&*placed).body(
+        template,
+        &params[..named_parties.len()],
+        Values { cells: &values },
+    );
     activate(event, &body, out)
 }

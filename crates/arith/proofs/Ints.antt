@@ -5,11 +5,11 @@ use Prim.Native.Nat.{ℕ, zero, suc, ◌+◌, ◌-◌, ◌*◌, ◌^◌, ◌≤�
 use native.Mathlib.Nat.{le_refl}
 use native.Mathlib.Omega.{arith}
 use lib.IntN.{ℤ, pos, negsuc, neg_ℤ, nat_abs, sub_ℕ, ◌+ℤ◌, ◌-ℤ◌, ◌*ℤ◌}
-use lib.Dec.{T, ltb, eqb}
-use lib.Signed.{mag, non_neg, ◌≤ℤ◌, yes_non_neg, nat_abs-le}
+use lib.Dec.{ltb, eqb}
+use lib.Signed.{mag}
 use borrow.Author.Tests.{ltb-true, ltb-false, eqb-true, eqb-false, eq-eqb, ne_eqb}
 use mir.Syntax.{w64}
-use mir.Val.{Fits, SFits, sel, to_z, of_z}
+use mir.Val.{SFits, sel, to_z, of_z}
 use mir.ValLaws.{to_z-of_z}
 use Rattle.csl.specs.Numbers.{eq_z}
 use Rattle.laws.proofs.Bools.{by}

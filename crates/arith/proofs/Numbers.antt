@@ -1,6 +1,6 @@
 -- The laws of the language's numbers. What holds of all four operations is one law with the operation as a parameter.
 use mathlib.Core.Path.{◌≡◌, refl, sym, ap, ◌∙◌}
-use mathlib.Core.Bool.{false, cond}
+use mathlib.Core.Bool.{Bool, true, false, cond}
 use Prim.Native.Nat.{ℕ, ◌≤◌, max}
 use native.Mathlib.Nat.{le_refl, mul-le-mul}
 use native.Mathlib.Omega.{arith}
@@ -8,7 +8,7 @@ use lib.IntN.{ℤ, pos, negsuc, nat_abs, ◌+ℤ◌, ◌-ℤ◌, ◌*ℤ◌}
 use lib.Dec.{T, lit≤, leb→le, le→leb}
 use lib.Signed.{lt_z}
 use mir.Syntax.{w64}
-use mir.Val.{SFits}
+use mir.Val.{SFits, bool_byte}
 use Rattle.std.specs.Int.{int_min, int_max}
 use Rattle.csl.specs.Numbers.{Held, Arithmetic, plus, minus, times, quot, top, bottom, limit, held, quotient}
 use Rattle.csl.specs.Numbers.{calculate, later_of}
@@ -40,6 +40,12 @@ pub fits_seen : {z : ℤ} → SFits w64 z → nat_abs (seen z) ≡ nat_abs z
 fits_seen h = ap nat_abs (read h)
 
 pub ruleset sizes = (arith, leb→le, within_seen, held_seen, fits_seen, seen_goal)
+
+-- ---- a truth
+pub truth_held : (b : Bool) → held (seen (pos (bool_byte b))) ≡ cond b (pos 1) (pos 0)
+unfolding held
+truth_held true = refl
+truth_held false = refl
 
 -- ---- what `held` gives is held, and what is held stays
 pub held_held : (z : ℤ) → Held (held z)

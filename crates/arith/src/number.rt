@@ -1,4 +1,4 @@
-ghost use Rattle.std.specs.Prelude.{◌≡◌};
+ghost use Rattle.std.specs.Prelude.{◌≡◌, cond, pos};
 ghost use Rattle.csl.specs.Numbers.{Held, held, calculate, plus, minus, times, quot, quotient};
 
 use std::marker::Model;
@@ -42,6 +42,15 @@ impl Number {
         ensures { (result ≡ self) × Held result }
     {
         self.value
+    }
+}
+
+// A truth is 0 or 1.
+impl From<bool> for Number {
+    ghost from_gives = { λ b z. z ≡ cond b (pos 1) (pos 0) };
+
+    fn from(b: bool) -> Number {
+        Number::held(i64::from(b))
     }
 }
 

@@ -9,9 +9,8 @@ use lib.Dec.{eqb, lit≤}
 use lib.ListN.{length, get_or}
 use borrow.Author.Tests.{eq-eqb, ne_eqb, eqb-false, not-false}
 use mir.Syntax.{w64}
-use mir.Val.{to_z, bool_byte}
+use mir.Val.{to_z}
 use mir.ValLaws.{to_z_pos}
-use Rattle.arith.proofs.Ints.{seen}
 use Rattle.arith.proofs.Numbers.{held_same}
 use Rattle.octets.proofs.Bytes.{whole_from}
 use Rattle.csl.specs.Numbers.{Held, held, quot}
@@ -33,10 +32,10 @@ pub true_is : {t b : Bool} → b ≡ t → not b ≡ cond t false true
 true_is {t = true} e = rw e
 true_is {t = false} e = rw e
 
-pub truth_held : (b : Bool) → held (seen (pos (bool_byte b))) ≡ truth_cell b
-unfolding held truth_cell
-truth_held true = refl
-truth_held false = refl
+pub truth_is : (b : Bool) → cond b (pos 1) (pos 0) ≡ truth_cell b
+unfolding truth_cell
+truth_is true = refl
+truth_is false = refl
 
 -- the kinds of operators that are no others
 pub other_op : (k : ℕ) → (k ≡ 37 → ⊥) → (k ≡ 38 → ⊥) → (k ≡ 39 → ⊥) → (k ≡ 41 → ⊥) → (k ≡ 42 → ⊥) → (k ≡ 43 → ⊥)
@@ -44,8 +43,7 @@ pub other_op : (k : ℕ) → (k ≡ 37 → ⊥) → (k ≡ 38 → ⊥) → (k �
 unfolding op_of arithmetic_of
 other_op k a b c d e f = rw (ne_eqb k 41 d, ne_eqb k 42 e, ne_eqb k 43 f, ne_eqb k 37 a, ne_eqb k 38 b, ne_eqb k 39 c)
 
-turned : (t : Bool) → truth_cell (not t) ≡ cond t (pos 0) (pos 1)
-unfolding truth_cell
+turned : (t : Bool) → cond (not t) (pos 1) (pos 0) ≡ cond t (pos 0) (pos 1)
 turned true = refl
 turned false = refl
 
@@ -135,7 +133,7 @@ module _ (vs : List ℤ) (d : ℕ) (s : List ℕ) {b : Bool} {m : ℕ} (n : d �
   number_leaf l u p = to (kind_leaf m l u) (p ∙ ap (eval_cells vs) (leaf_inner (expr (d - 1)) s m))
 
   pub number_not : {x z : ℤ} {t : Bool} → m ≡ 36 → x ≡ eval_cells vs (expr (d - 1) (part s 4 (length s)))
-      → t ≡ is_true_cell x → z ≡ truth_cell (not t) → z ≡ eval_cells vs (expr d s)
+      → t ≡ is_true_cell x → z ≡ cond (not t) (pos 1) (pos 0) → z ≡ eval_cells vs (expr d s)
   unfolding eval_cells expr_body
   number_not {x} {t = t} e q r p =
       to (kind_not e) (p ∙ turned t ∙ rw (r, q) refl)

@@ -5,7 +5,7 @@ ghost use Rattle.std.specs.Prelude.{◌≡◌, ◌≤◌};
 ghost use Rattle.csl.specs.Numbers.{Held};
 ghost use Rattle.csl.specs.Decode.{expr};
 ghost use Rattle.records.specs.Kinds.{op_of};
-ghost use Rattle.cells.specs.Evaluate.{eval_cells, apply_cells, is_true_cell, truth_cell};
+ghost use Rattle.cells.specs.Evaluate.{eval_cells, apply_cells, is_true_cell};
 ghost use Rattle.evaluation.specs.Parts.{leaf_of};
 
 use arith::Number;
@@ -24,12 +24,6 @@ fn holds(x: Number) -> bool
     is_true(x.get())
 }
 
-fn truth(b: bool) -> Number
-    ensures { result ≡ truth_cell b }
-{
-    Number::held(i64::from(b))
-}
-
 // Kinds 37 to 43. (Here and below a record's kind is decided by its number: a rule of the project.)
 fn operate(kind: usize, x: Number, y: Number) -> Number
     ensures { result ≡ apply_cells (op_of kind) x y }
@@ -38,9 +32,9 @@ fn operate(kind: usize, x: Number, y: Number) -> Number
         37 => x + y,
         38 => x - y,
         39 => x * y,
-        41 => truth(holds(x) && holds(y)),
-        42 => truth(x.get() < y.get()),
-        43 => truth(x == y),
+        41 => Number::from(holds(x) && holds(y)),
+        42 => Number::from(x.get() < y.get()),
+        43 => Number::from(x == y),
         _ => x / y,
     }
 }
@@ -58,7 +52,7 @@ fn leaf(s: &[u8], kind: usize, values: &[i64]) -> Number
     }
 }
 
-// The same, as the number that it is.
+// The value of an expression as a number, which knows that it is held.
 fn number(s: &[u8], values: &[i64], depth: usize) -> Number
     ensures { result ≡ eval_cells values.now (expr depth s.now) }
 {
@@ -71,7 +65,7 @@ fn number(s: &[u8], values: &[i64], depth: usize) -> Number
         32..=35 => leaf(s, k, values),
         36 => {
             let x = number(&s[4..], values, d);
-            truth(!holds(x))
+            Number::from(!holds(x))
         }
         37..=43 => {
             let cut = record_end(s, 4);

@@ -12,9 +12,10 @@ ghost use Rattle.records.specs.Index.{template_piece};
 ghost use Rattle.formed.specs.Tests.{tests_whole, arguments_whole, bodies_whole};
 
 use octets::{byte, is_record, kind, record_end};
-use records::{Agreement, BODY_DEPTH, MAIN_DEPTH, first_clause};
+use records::{Agreement, BODY_DEPTH, MAIN_DEPTH, Template, first_clause, sides_at};
 
-// The bytes are one expression, at most `depth` deep.
+// The bytes are one expression, at most `depth` deep. (A walker takes a record's bytes and the depth left by
+// themselves: both are new at each step.)
 fn expr_formed(s: &[u8], depth: usize) -> bool
     ensures { result ≡ whole_expr (expr depth s.now) }
 {
@@ -35,7 +36,8 @@ fn expr_formed(s: &[u8], depth: usize) -> bool
     }
 }
 
-// `where`, `after` and `within`, the wanted reading type standing at i.
+// `where`, `after` and `within`, the wanted reading type standing at i. (At 4 or at 5: what is asked of i is no type of
+// its own.)
 fn wait_formed(s: &[u8], i: usize, depth: usize) -> bool
     requires { i ≤ 5 }
     ensures { result ≡ whole_wait (wait_at (expr depth) 0 s.now i) }
@@ -66,7 +68,7 @@ fn tests_formed(s: &[u8], kind: usize, depth: usize) -> bool
 }
 
 // The n records from byte 5 on, each of which begins where the one before ends, are expressions, and `blames` bytes
-// follow them to the end.
+// follow them to the end. (An iterator of such records would be a type with laws, for loops of three lines.)
 fn arguments_formed(s: &[u8], n: usize, blames: usize, depth: usize) -> bool
     requires { (5 ≤ length s.now) × (blames ≤ 4) }
     ensures { result ≡ arguments_whole depth s.now 5 n blames }
@@ -86,11 +88,12 @@ fn arguments_formed(s: &[u8], n: usize, blames: usize, depth: usize) -> bool
 fn instance_formed(agreement: &Agreement<'_>, s: &[u8], depth: usize) -> bool
     ensures { result ≡ whole (instance_of (expr depth) s.now (at (heads_of agreement.now) (bytes.byte s.now 4))) }
 {
-    let k = byte(s, 4);
-    if s.len() < 5 || k >= agreement.template_count() {
+    let number = byte(s, 4);
+    if s.len() < 5 || number >= agreement.template_count() {
         return false;
     }
-    arguments_formed(s, agreement.value_count(k), agreement.param_count(k), depth)
+    let template = Template { agreement, number };
+    arguments_formed(s, template.value_count(), template.param_count(), depth)
 }
 
 // The bytes are one clause, at most `depth` deep.
@@ -109,8 +112,7 @@ fn clause_formed(agreement: &Agreement<'_>, s: &[u8], depth: usize) -> bool
             tests_formed(s, k, d) && clause_formed(agreement, &s[c..], d)
         }
         18..=21 => {
-            let c = first_clause(s, k);
-            let f = record_end(s, c);
+            let (c, f) = sides_at(s, k);
             tests_formed(s, k, d)
                 && clause_formed(agreement, &s[c..f], d)
                 && clause_formed(agreement, &s[f..], d)
@@ -120,18 +122,20 @@ fn clause_formed(agreement: &Agreement<'_>, s: &[u8], depth: usize) -> bool
     }
 }
 
-// The body of template k is one clause.
-fn body_formed(agreement: &Agreement<'_>, k: usize) -> bool
-    requires { k < bytes.byte agreement.now 10 }
-    ensures { result ≡ whole (body_of (heads_of agreement.now) (template_piece agreement.now k)) }
+// The body of template `number` is one clause. (No shorter of a `Template`: the closure in `bodies_formed`, which would
+// make it, would ask that there is one.)
+fn body_formed(agreement: &Agreement<'_>, number: usize) -> bool
+    requires { number < bytes.byte agreement.now 10 }
+    ensures { result ≡ whole (body_of (heads_of agreement.now) (template_piece agreement.now number)) }
 {
-    clause_formed(agreement, agreement.body(k), BODY_DEPTH)
+    let template = Template { agreement, number };
+    clause_formed(agreement, template.body(), BODY_DEPTH)
 }
 
 fn bodies_formed(agreement: &Agreement<'_>) -> bool
     ensures { result ≡ bodies_whole agreement.now }
 {
-    (0..agreement.template_count()).all(|k| body_formed(agreement, k))
+    (0..agreement.template_count()).all(|number| body_formed(agreement, number))
 }
 
 // The main clause and the bodies.

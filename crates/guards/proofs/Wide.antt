@@ -1,6 +1,6 @@
 -- Laws for the widths of a clause's bytes.
 use mathlib.Core.Path.{◌≡◌, refl, sym, ap, ◌∙◌}
-use mathlib.Core.Bool.{Bool, true, false, ◌&&◌, and-true, and-false}
+use mathlib.Core.Bool.{Bool, true, false, cond, ◌&&◌, and-true, and-false}
 use mathlib.Core.List.{List, [], ◌∷◌}
 use Prim.Native.Nat.{ℕ, zero, suc, ◌+◌, ◌-◌, ◌<◌, ◌≤◌, min}
 use native.Mathlib.Omega.{arith}
@@ -10,15 +10,17 @@ use lib.Dec.{leb}
 use lib.ListN.{length, get_or}
 use Rattle.csl.specs.Lists.{at}
 use Rattle.csl.specs.Bytes.{byte, part, kind_number, record_end}
-use Rattle.csl.specs.Syntax.{Clause}
-use Rattle.csl.specs.Decode.{clause}
+use Rattle.csl.specs.Syntax.{Clause, fulfilled, obligation, choice, if, join, instance}
+use Rattle.csl.specs.Decode.{clause, wait_at}
 use Rattle.csl.specs.Widths.{or_zero, width, narrow, thens_narrow, all_narrow}
 use Rattle.records.specs.Index.{first_clause}
 use Rattle.records.proofs.Trees.{sided_choice}
-use Rattle.guards.specs.Walk.{Answers, counted}
+use Rattle.std.specs.Prelude.{Option, Some, None}
+use Rattle.std.specs.Option.{is_some, IfSome}
+use Rattle.std.specs.Bool.{then_some}
+use Rattle.guards.specs.Walk.{Answers, counted, narrow_width}
 use Rattle.guards.proofs.Walks.{answers_then, answers_two, answers_fulfilled, answers_instance, answers_low}
-use Rattle.guards.proofs.Walks.{answers_none, sided_same, Both, Holds}
-use Rattle.laws.proofs.Bools.{true_first, false_first}
+use Rattle.guards.proofs.Walks.{answers_none, sided_same}
 
 -- ---- sums that stop at 257
 pub sat : (a b : ℕ) → min (1 + min a 257 + min b 257) 257 ≡ min (1 + a + b) 257
@@ -77,69 +79,167 @@ leb_min a = test (dec_le a 256)
     test (yes h) = le-leb (min a 257) 256 (omega arith) ∙ sym (le-leb a 256 h)
     test (no h) = lt-leb (min a 257) 256 (omega arith) ∙ sym (lt-leb a 256 (omega arith))
 
--- ---- `thens_narrow` and `all_narrow`
-pub both_thens : (ws : List ℕ) → Both (thens_narrow ws)
-unfolding thens_narrow
-both_thens ws = record { of_if = λ e t u. refl; of_join = λ j t u. refl }
+-- ---- `narrow_width`: of a clause, and of one that it has as a part
+module _ (ws : List ℕ) (c : Clause) where
+  -- n is what is summed up, and the `then`s within are narrow
+  last : (n : ℕ) {r : Option ℕ} → r ≡ then_some (leb n 256) n → min n 257 ≡ min (width ws c) 257
+      → thens_narrow ws c ≡ true → r ≡ narrow_width ws c
+  unfolding narrow_width all_narrow narrow
+  last n h e f = h ∙ test (dec_le n 256) ∙ rw (f, and-true (leb (width ws c) 256)) refl
+    where
+      test : Dec (n ≤ 256) → then_some (leb n 256) n ≡ cond (leb (width ws c) 256) (Some (width ws c)) None
+      test (yes l) = let same : n ≡ width ws c = omega arith in rw (same, le-leb (width ws c) 256 (omega arith)) refl
+      test (no l) = rw (lt-leb n 256 (omega arith), lt-leb (width ws c) 256 (omega arith)) refl
 
-module _ (ws : List ℕ) (d : ℕ) (s : List ℕ) where
-  module _ {x : Bool} (a : Answers (thens_narrow ws) d s x) where
-    pub all_off : x ≡ false → Answers (all_narrow ws) d s x
-    unfolding all_narrow
-    all_off q = record {
-      is = λ hs p h. let c = clause hs d p s in
-          q ∙ rw (sym (a.is hs p h) ∙ q) (sym (and-false (narrow ws c)));
-    }
+  some_is : {w : ℕ} → Some w ≡ narrow_width ws c
+      → (w ≡ width ws c) × (width ws c ≤ 256) × (thens_narrow ws c ≡ true)
+  unfolding narrow_width all_narrow narrow
+  some_is {w} e = test (dec_le (width ws c) 256)
+    where
+      go : (b : Bool) → thens_narrow ws c ≡ b → width ws c ≤ 256 → Some w ≡ cond b (Some (width ws c)) None
+          → (w ≡ width ws c) × (width ws c ≤ 256) × (thens_narrow ws c ≡ true)
+      go true q l p = (cc, l, q)
+      go false q l p = absurd cc
 
-    pub all_on : {w : ℕ} → x ≡ true → Answers (counted ws) d s w → Answers (all_narrow ws) d s (leb w 256)
-    unfolding all_narrow narrow counted
-    all_on q b = record {
-      is = λ hs p h. let c = clause hs d p s in
-          ap (λ n. leb n 256) (b.is hs p h) ∙ leb_min (width ws c)
-          ∙ rw (sym (a.is hs p h) ∙ q) (sym (and-true (narrow ws c)));
-    }
+      test : Dec (width ws c ≤ 256) → (w ≡ width ws c) × (width ws c ≤ 256) × (thens_narrow ws c ≡ true)
+      test (yes l) = go (thens_narrow ws c) refl l (rw (le-leb (width ws c) 256 l) at e)
+      test (no l) = let p : Some w ≡ None = rw (lt-leb (width ws c) 256 (omega arith)) at e in absurd cc
 
-  module _ {m : ℕ} (k : m ≡ kind_number s) where
-    pub thens_low : m < 17 → Answers (thens_narrow ws) d s true
-    unfolding thens_narrow
-    thens_low l = answers_fulfilled (thens_narrow ws) d s k l refl
+  none_off : thens_narrow ws c ≡ false → None ≡ narrow_width ws c
+  unfolding narrow_width all_narrow
+  none_off e = rw (e, and-false (narrow ws c)) refl
 
-    pub thens_high : 22 ≤ m → Answers (thens_narrow ws) d s true
-    unfolding thens_narrow
-    thens_high l = test (dec_le m 22)
-      where
-        test : Dec (m ≤ 22) → Answers (thens_narrow ws) d s true
-        test (yes e) = answers_instance (thens_narrow ws) d s k (omega arith) (λ es bs. refl)
-        test (no f) = answers_none (thens_narrow ws) d s k (omega arith)
+  none_is : None ≡ narrow_width ws c → all_narrow ws c ≡ false
+  unfolding narrow_width
+  none_is e = go (all_narrow ws c) e
+    where
+      go : (a : Bool) → None ≡ cond a (Some (width ws c)) None → a ≡ false
+      go true e = absurd cc
+      go false e = refl
+
+-- t is a part of c, whose width and `then`s are among c's
+none_part : (ws : List ℕ) (t c : Clause) → width ws t ≤ width ws c
+    → (thens_narrow ws t ≡ false → thens_narrow ws c ≡ false) → None ≡ narrow_width ws t → None ≡ narrow_width ws c
+unfolding narrow_width all_narrow narrow
+none_part ws t c l f e = test (dec_le (width ws t) 256)
+  where
+    test : Dec (width ws t ≤ 256) → None ≡ narrow_width ws c
+    test (yes h) = none_off ws c (f (rw (le-leb (width ws t) 256 h) at (none_is ws t e)))
+    test (no h) = rw (lt-leb (width ws c) 256 (omega arith)) refl
+
+-- ---- the same by kinds: n is what is summed up
+module _ (ws : List ℕ) (d : ℕ) (s : List ℕ) {m : ℕ} (k : m ≡ kind_number s) where
+  module _ {n : ℕ} {r : Option ℕ} (h : r ≡ then_some (leb n 256) n) where
+    pub narrow_low : n ≡ 1 → m < 17 → Answers (narrow_width ws) d s r
+    unfolding width thens_narrow
+    narrow_low e l = answers_fulfilled (narrow_width ws) d s k l (last ws fulfilled _ h (rw e refl) refl)
+
+    pub narrow_none : n ≡ 1 → (m ≡ 22 → ⊥) → 22 ≤ m → Answers (narrow_width ws) d s r
+    narrow_none e f l = answers_none (narrow_width ws) d s k (omega arith)
+
+    pub narrow_instance : {b y : ℕ} → m ≡ 22 → b ≡ byte s 4 → y ≡ min (get_or ws b 0) 257 → n ≡ 1 + y
+        → Answers (narrow_width ws) d s r
+    unfolding width thens_narrow
+    narrow_instance {b} {y} e g q i = answers_instance (narrow_width ws) d s k e (λ es bs.
+        let p = sat_one (or_zero (at ws (byte s 4))) i refl (q ∙ rw (g, ← at_get_d ws (byte s 4)) refl) in
+        last ws (instance (byte s 4) es bs) _ h p refl)
 
     module _ {c : ℕ} (i : c ≡ first_clause m s) where
-      pub thens_wait : {x : Bool} → m ≡ 17 → Answers (all_narrow ws) (d - 1) (part s c (length s)) x
-          → Answers (thens_narrow ws) d s x
+      pub narrow_wait : {w : ℕ} → m ≡ 17 → Answers (narrow_width ws) (d - 1) (part s c (length s)) (Some w) → n ≡ 1
+          → Answers (narrow_width ws) d s r
+      unfolding width thens_narrow narrow
+      narrow_wait {w} e a q = answers_then (narrow_width ws) d s k (λ t. Some w ≡ narrow_width ws t) e i a.is
+          (λ b v t g. let x = some_is ws t g in
+          last ws (obligation b v t) _ h (rw q refl) (rw (le-leb (width ws t) 256 x.1, x.2) refl))
+
+      module _ {z w y : ℕ} (j : z ≡ record_end s c)
+          (a : Answers (narrow_width ws) (d - 1) (part s c z) (Some w))
+          (b : Answers (narrow_width ws) (d - 1) (part s z (length s)) (Some y)) where
+        pub narrow_choice : m ≡ 18 → n ≡ 1 + y → Answers (narrow_width ws) d s r
+        unfolding width thens_narrow narrow
+        narrow_choice e q = answers_two (narrow_width ws) d s k (λ t. Some w ≡ narrow_width ws t)
+            (λ u. Some y ≡ narrow_width ws u) (omega arith) (omega arith) i j a.is b.is
+            (λ x p t u g f. let x₁ = some_is ws t g in let x₂ = some_is ws u f in
+            last ws (choice (wait_at x p s 4) t u) _ h (rw (q, x₂.0) refl)
+            (rw (le-leb (width ws t) 256 x₁.1, x₁.2, x₂.2) refl)
+            ∙ ap (narrow_width ws) (sym (sided_choice x p s t u e)))
+
+        pub narrow_two : (m ≡ 18 → ⊥) → 18 ≤ m → m < 22 → n ≡ 1 + w + y → Answers (narrow_width ws) d s r
+        unfolding width thens_narrow
+        narrow_two l o v q = answers_two (narrow_width ws) d s k (λ t. Some w ≡ narrow_width ws t)
+            (λ u. Some y ≡ narrow_width ws u) o v i j a.is b.is
+            (λ e p t u g f. let x₁ = some_is ws t g in let x₂ = some_is ws u f in
+            sided_same (narrow_width ws) e p s m t u l
+            (λ x. last ws (if x t u) _ h (rw (q, x₁.0, x₂.0) refl) (rw (x₁.2, x₂.2) refl))
+            (λ x. last ws (join x t u) _ h (rw (q, x₁.0, x₂.0) refl) (rw (x₁.2, x₂.2) refl)))
+
+  -- where a part is not narrow
+  module _ {c : ℕ} (i : c ≡ first_clause m s) where
+    pub off_wait : m ≡ 17 → Answers (narrow_width ws) (d - 1) (part s c (length s)) None
+        → Answers (narrow_width ws) d s None
+    unfolding thens_narrow all_narrow
+    off_wait e a = answers_then (narrow_width ws) d s k (λ t. None ≡ narrow_width ws t) e i a.is
+        (λ b v t g. none_off ws (obligation b v t) (none_is ws t g))
+
+    module _ {z : ℕ} (j : z ≡ record_end s c) where
+      pub off_then : m ≡ 18 → Answers (narrow_width ws) (d - 1) (part s c z) None → Answers (narrow_width ws) d s None
       unfolding thens_narrow all_narrow
-      thens_wait {x} e a = answers_then (thens_narrow ws) d s k (λ t. x ≡ all_narrow ws t) e i a.is (λ b w t h. h)
+      off_then e a = answers_two (narrow_width ws) d s k (λ t. None ≡ narrow_width ws t) (λ u. Unit {0})
+          (omega arith) (omega arith) i j a.is (λ hs p w. tt)
+          (λ x p t u g f. none_off ws (choice (wait_at x p s 4) t u) (rw (none_is ws t g) refl)
+          ∙ ap (narrow_width ws) (sym (sided_choice x p s t u e)))
 
-      module _ {z : ℕ} (j : z ≡ record_end s c) (e : m ≡ 18) {x : Bool}
-          (a : Answers (all_narrow ws) (d - 1) (part s c z) x) where
-        choice_by : {r : Bool} (Q : Clause → Type 0) → Holds Q (d - 1) (part s z (length s))
-            → ((t u : Clause) → x ≡ all_narrow ws t → Q u → r ≡ (all_narrow ws t && thens_narrow ws u))
-            → Answers (thens_narrow ws) d s r
-        unfolding thens_narrow all_narrow
-        choice_by Q b g = answers_two (thens_narrow ws) d s k (λ t. x ≡ all_narrow ws t) Q (omega arith) (omega arith)
-            i j a.is b (λ v p t u h q. g t u h q ∙ ap (thens_narrow ws) (sym (sided_choice v p s t u e)))
+      pub off_else : m ≡ 18 → Answers (narrow_width ws) (d - 1) (part s z (length s)) None
+          → Answers (narrow_width ws) d s None
+      unfolding width thens_narrow
+      off_else e a = answers_two (narrow_width ws) d s k (λ t. Unit {0}) (λ u. None ≡ narrow_width ws u)
+          (omega arith) (omega arith) i j (λ hs p w. tt) a.is
+          (λ x p t u g f. none_part ws u (choice (wait_at x p s 4) t u) (omega arith)
+          (λ q. rw (q, and-false (narrow ws t && thens_narrow ws t)) refl) f
+          ∙ ap (narrow_width ws) (sym (sided_choice x p s t u e)))
 
-        pub choice_off : x ≡ false → Answers (thens_narrow ws) d s x
-        choice_off q = choice_by (λ u. Unit {0}) (λ hs p w. tt)
-            (λ t u h n. false_first (all_narrow ws t) (thens_narrow ws u) h q q)
+      pub off_left : (m ≡ 18 → ⊥) → 18 ≤ m → m < 22 → Answers (narrow_width ws) (d - 1) (part s c z) None
+          → Answers (narrow_width ws) d s None
+      unfolding width thens_narrow
+      off_left l o v a = answers_two (narrow_width ws) d s k (λ t. None ≡ narrow_width ws t) (λ u. Unit {0})
+          o v i j a.is (λ hs p w. tt)
+          (λ e p t u g f. sided_same (narrow_width ws) e p s m t u l
+          (λ x. none_part ws t (if x t u) (omega arith) (λ q. rw q refl) g)
+          (λ x. none_part ws t (join x t u) (omega arith) (λ q. rw q refl) g))
 
-        pub choice_on : {y : Bool} → x ≡ true → Answers (thens_narrow ws) (d - 1) (part s z (length s)) y
-            → Answers (thens_narrow ws) d s y
-        choice_on {y} q b = choice_by (λ u. y ≡ thens_narrow ws u) b.is
-            (λ t u h n. true_first (all_narrow ws t) (thens_narrow ws u) h q n)
+      pub off_right : (m ≡ 18 → ⊥) → 18 ≤ m → m < 22 → Answers (narrow_width ws) (d - 1) (part s z (length s)) None
+          → Answers (narrow_width ws) d s None
+      unfolding width thens_narrow
+      off_right l o v a = answers_two (narrow_width ws) d s k (λ t. Unit {0}) (λ u. None ≡ narrow_width ws u)
+          o v i j (λ hs p w. tt) a.is
+          (λ e p t u g f. sided_same (narrow_width ws) e p s m t u l
+          (λ x. none_part ws u (if x t u) (omega arith) (λ q. rw (q, and-false (thens_narrow ws t)) refl) f)
+          (λ x. none_part ws u (join x t u) (omega arith) (λ q. rw (q, and-false (thens_narrow ws t)) refl) f))
 
 -- as a `match` with arms for 17 and 18 leaves the others
 pub past_wait : (m : ℕ) → (m ≡ 17 → ⊥) → 17 ≤ m → 18 ≤ m
 past_wait m e l = omega arith
 
-pub ruleset alls = (all_off, all_on)
+-- what is found is narrow
+pub few : (n : ℕ) {r : Option ℕ} → r ≡ then_some (leb n 256) n → IfSome r (λ w. w ≤ 256)
+few n h = rw h (test (dec_le n 256))
+  where
+    test : Dec (n ≤ 256) → IfSome (then_some (leb n 256) n) (λ w. w ≤ 256)
+    test (yes l) = rw (le-leb n 256 l) l
+    test (no l) = rw (lt-leb n 256 (omega arith)) tt
 
-pub ruleset thens = (past_wait, both_thens, thens_low, thens_high, thens_wait, choice_off, choice_on)
+pub ruleset narrows = (past_wait, narrow_low, narrow_none, narrow_instance, narrow_wait, narrow_choice, narrow_two)
+
+pub ruleset offs = (past_wait, off_wait, off_then, off_else, off_left, off_right)
+
+-- there is a width just where all is narrow
+pub narrow_found : (ws : List ℕ) (d : ℕ) (s : List ℕ) {o : Option ℕ} {r : Bool}
+    → Answers (narrow_width ws) d s o → r ≡ is_some o → Answers (all_narrow ws) d s r
+unfolding narrow_width
+narrow_found ws d s a e = record {
+  is = λ hs p h. e ∙ ap is_some (a.is hs p h) ∙ found _ (all_narrow ws (clause hs d p s));
+}
+  where
+    found : (n : ℕ) (b : Bool) → is_some (cond b (Some n) None) ≡ b
+    found n true = refl
+    found n false = refl

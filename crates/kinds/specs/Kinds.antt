@@ -1,6 +1,6 @@
--- Kinds and types as the code has them: what csl calls each, and by which number a record, a unit or a list of types
--- names it.
-use Rattle.std.specs.Prelude.{◌≡◌, ◌<◌, ◌⊎◌, ℕ, Result, MatchResult}
+-- Kinds, types and states as the code has them: what csl calls each, and by which number a record, a unit, a list of
+-- types or a table names it.
+use Rattle.std.specs.Prelude.{◌≡◌, ◌<◌, ◌⊎◌, ℕ, ℤ, pos, Result, MatchResult}
 use Rattle.csl.specs.Syntax as syntax
 use Rattle.csl.specs.Syntax.{and, or, Ty, number, truth, party}
 use Rattle.csl.specs.Outcomes.{Sort, an_obligation, a_choice}
@@ -10,6 +10,8 @@ use Rattle.kinds.specs.declared.WaitKind.{WaitKind}
 use Rattle.kinds.specs.declared.WaitKind.TheVariants.{Obligation, Choice}
 use Rattle.kinds.specs.declared.«Type».{«Type»}
 use Rattle.kinds.specs.declared.«Type».TheVariants.{Number, Truth, Party}
+use Rattle.kinds.specs.declared.RunState.{RunState}
+use Rattle.kinds.specs.declared.RunState.TheVariants.{Running, Fulfilled, Breached}
 use Rattle.kinds.specs.declared.Unknown.{Unknown}
 
 abbrev pub join_in : Join → syntax.Join
@@ -38,6 +40,11 @@ type_number Number = 1
 type_number Truth = 2
 type_number Party = 3
 
+abbrev pub state_cell : RunState → ℤ
+state_cell Running = pos 1
+state_cell Fulfilled = pos 2
+state_cell Breached = pos 3
+
 -- the result is what the number names, or an error where it names nothing of the kind
 abbrev pub NamesJoin : ℕ → Result Join Unknown → Type 0
 NamesJoin n r = MatchResult r (λ join. join_number join ≡ n) (λ e. (n < 20) ⊎ (21 < n))
@@ -47,3 +54,6 @@ NamesWait n r = MatchResult r (λ wait. wait_number wait ≡ n) (λ e. (n < 17) 
 
 abbrev pub NamesType : ℕ → Result «Type» Unknown → Type 0
 NamesType n r = MatchResult r (λ ty. type_number ty ≡ n) (λ e. (n < 1) ⊎ (3 < n))
+
+abbrev pub NamesState : ℤ → Result RunState Unknown → Type 0
+NamesState z r = MatchResult r (λ state. state_cell state ≡ z) (λ e. (state : RunState) → state_cell state ≡ z → ⊥)

@@ -1,8 +1,10 @@
-// What the numbers of records say where they name a join, a clause that waits or a type.
+// What the numbers of records say where they name a join, a clause that waits or a type, and a table's where they name
+// a run's state.
 #![tactic(auto)]
 
 ghost use Rattle.std.specs.Prelude.{◌≡◌};
-ghost use Rattle.kinds.specs.Kinds.{join_number, wait_number, type_number, NamesJoin, NamesWait, NamesType};
+ghost use Rattle.kinds.specs.Kinds.{join_number, wait_number, type_number, state_cell};
+ghost use Rattle.kinds.specs.Kinds.{NamesJoin, NamesWait, NamesType, NamesState};
 
 // How a join joins its two sides: both must be fulfilled, or one of them.
 #[derive(Clone, Copy, Debug, PartialEq, Eq)]
@@ -24,6 +26,14 @@ pub enum Type {
     Number,
     Truth,
     Party,
+}
+
+// What a run has come to.
+#[derive(Clone, Copy, Debug, PartialEq, Eq)]
+pub enum RunState {
+    Running,
+    Fulfilled,
+    Breached,
 }
 
 // The number names none of these.
@@ -73,6 +83,21 @@ impl TryFrom<usize> for Type {
     }
 }
 
+impl TryFrom<i64> for RunState {
+    type Error = Unknown;
+
+    ghost try_from_gives = { NamesState };
+
+    fn try_from(cell: i64) -> Result<Self, Unknown> {
+        match cell {
+            1 => Ok(RunState::Running),
+            2 => Ok(RunState::Fulfilled),
+            3 => Ok(RunState::Breached),
+            _ => Err(Unknown),
+        }
+    }
+}
+
 impl From<Join> for usize {
     ghost from_gives = { λ join number. number ≡ join_number join };
 
@@ -103,6 +128,18 @@ impl From<Type> for usize {
             Type::Number => 1,
             Type::Truth => 2,
             Type::Party => 3,
+        }
+    }
+}
+
+impl From<RunState> for i64 {
+    ghost from_gives = { λ state cell. cell ≡ state_cell state };
+
+    fn from(state: RunState) -> i64 {
+        match state {
+            RunState::Running => 1,
+            RunState::Fulfilled => 2,
+            RunState::Breached => 3,
         }
     }
 }

@@ -7,7 +7,7 @@ use borrow.Author.Tests.{lt-ltb, le-ltb}
 use lib.ListN.{length}
 use Rattle.std.proofs.lemmas.Fmt.{decimal_from_appends, length-decimal-le, length-decimal-le_succ}
 use Rattle.std.specs.Fmt as std
-use Rattle.lines.specs.Text.{decimal, digits_in, digit, digits_room}
+use Rattle.lines.specs.Text.{decimal, digits_in, digit}
 
 small_step : (steps n : ℕ) → n < 10 → digits_in (suc steps) n ≡ digit n ∷ []
 unfolding digits_in
@@ -22,5 +22,5 @@ unfolding decimal
 printed n h = sym (decimal_from_appends digits_in (record { one = small_step; more = large_step }) (suc n) n h
     (omega (arith, length-decimal-le_succ n h)))
 
-pub few : (n : ℕ) → n < 2 ^ 64 → length (decimal n) ≤ digits_room
-few n h = rw (sym (printed n h)) (length-decimal-le digits_room n (omega arith) (omega arith) h)
+pub few : (n : ℕ) → n < 2 ^ 64 → length (decimal n) ≤ 20
+few n h = rw (sym (printed n h)) (length-decimal-le 20 n (omega arith) (omega arith) h)

@@ -13,12 +13,13 @@ pub use page::Page;
 pub trait Put {
     ghost text: { Self → List ℕ };
 
-    fn put_on(&self, page: &mut Page)
+    fn put_on(&self, page: &mut Page<'_>)
         ensures { page.new ≡ put page.old (text self.now) };
 }
 
-// Its number, its time where it has one, and what it says: a verdict, or the number of a refusal (this crate
-// stands below the one that refuses).
+// Its number, its time where it has one, and what it says: a verdict, or the number of a refusal. The refusal itself
+// as a second type parameter is no plainer: `Put` for it would need one more type in `telling`, since this crate has
+// the trait and `monitor` the refusals.
 #[derive(Clone, Copy, Debug, PartialEq, Eq)]
 pub struct Line<V> {
     pub number: u64,
@@ -29,7 +30,7 @@ pub struct Line<V> {
 impl<V: Put> Put for Line<V> {
     ghost text = { shown_line V.text };
 
-    fn put_on(&self, page: &mut Page) {
+    fn put_on(&self, page: &mut Page<'_>) {
         page.put_decimal(self.number);
         page.put_bytes(b" ");
         put_time(self.time, page);
@@ -40,7 +41,7 @@ impl<V: Put> Put for Line<V> {
 }
 
 // A time as a line shows it: `-` where there is none.
-fn put_time(time: Option<usize>, page: &mut Page)
+fn put_time(time: Option<usize>, page: &mut Page<'_>)
     ensures { page.new ≡ put page.old (shown_time time) }
 {
     match time {
@@ -49,14 +50,11 @@ fn put_time(time: Option<usize>, page: &mut Page)
     }
 }
 
-fn put_says<V: Put>(says: &Result<V, u32>, page: &mut Page)
+fn put_says<V: Put>(says: &Result<V, u32>, page: &mut Page<'_>)
     ensures { page.new ≡ put page.old (shown_says V.text says.now) }
 {
     match *says {
         Ok(ref verdict) => verdict.put_on(page),
-        Err(refusal) => {
-            page.put_bytes(b"REFUSED");
-            page.put_next(u64::from(refusal));
-        }
+        Err(refusal) => page.put_refusal(refusal),
     }
 }

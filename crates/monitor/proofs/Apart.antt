@@ -3,19 +3,15 @@
 use mathlib.Core.Path.{◌≡◌, refl, sym, ap, subst}
 use mathlib.Core.Bool.{Bool, true, false}
 use mathlib.Core.List.{List, [], ◌∷◌}
-use mathlib.Core.Option.{Option, none, some}
 use Rattle.std.specs.Prelude as std
 use Rattle.std.specs.Prelude.{Result, Ok, Err}
 use Prim.Native.Nat.{ℕ, zero, suc, ◌<◌}
-use native.Mathlib.Omega.{arith}
-use borrow.Author.Tests.{eqb-true, eqb-false}
 use lib.Dec.{eqb}
 use lib.IntN.{ℤ}
-use lib.ListN.{length, get_or}
+use lib.ListN.{get_or}
 use Rattle.csl.specs.Syntax.{Agreement}
 use Rattle.csl.specs.Decode.{agreement_of}
-use Rattle.csl.specs.Check.{CheckAnswer, checked, accepted}
-use Rattle.csl.specs.Table.{Run, run_of}
+use Rattle.csl.specs.Check.{CheckAnswer}
 use Rattle.csl.specs.Entries as entries
 use Rattle.csl.specs.Entries.{Answer, ReadingAnswer, Forecast, forecast_of, forecast_run}
 use Rattle.csl.specs.Early.{mark_of}
@@ -23,14 +19,14 @@ use Rattle.csl.specs.Marks.{ForecastFits}
 use Rattle.soundness.proofs.Runs.{is_fair}
 use Rattle.soundness.proofs.ReadBack.{run_of_good}
 use Rattle.soundness.proofs.Marks.{fits, forecast_is, run_ok}
-use Rattle.bridge.proofs.Refusals.{from_check, forecast_refused_lem, forecast_six, forecast_seven}
 use Rattle.monitor.specs.declared.Refusal.{Refusal}
 use Rattle.monitor.specs.declared.Refusal.TheVariants.{AgreementLength, AgreementForm, AgreementTyping}
 use Rattle.monitor.specs.declared.Refusal.TheVariants.{AgreementGuards, AgreementWidth, TableLength}
 use Rattle.monitor.specs.declared.Refusal.TheVariants.{TableContent, ReadingForm, ReadingTyping, ReadingTime}
 use Rattle.monitor.specs.declared.Refusal.TheVariants.{Units}
-use Rattle.monitor.specs.Answers.{Checked, Foretold, Started, Taken, number_of, check_answer, start_answer}
+use Rattle.monitor.specs.Answers.{Checked, Foretold, Started, TakenOrRefused, number_of, check_answer, start_answer}
 use Rattle.monitor.specs.Answers.{taken_answer, forecast_answer}
+use Rattle.monitor.proofs.Opens.{by_run}
 
 -- in the order of their numbers
 abbrev refusals : List Refusal
@@ -70,13 +66,13 @@ pub start_told : (r : Started) (table : List ℤ) → started_by (start_answer r
 start_told (Ok begun) table = refl
 start_told (Err r) table = number_told (Ok tt) Err r
 
-abbrev pub accepted_by : Bool → ℕ → Taken
+abbrev pub accepted_by : Bool → ℕ → TakenOrRefused
 accepted_by early cost = Ok (record { early = early; cost = cost })
 
-abbrev pub refused_by : ℕ → Refusal → Taken
+abbrev pub refused_by : ℕ → Refusal → TakenOrRefused
 refused_by cost why = Err (record { why = why; cost = cost })
 
-abbrev pub taken_by : ReadingAnswer → Taken
+abbrev pub taken_by : ReadingAnswer → TakenOrRefused
 taken_by a = told (accepted_by (eqb a.early 1) a.cost) (refused_by a.cost) a.number
 
 marked : (early : Bool) → eqb (mark_of early) 1 ≡ early
@@ -84,7 +80,7 @@ unfolding mark_of
 marked true = refl
 marked false = refl
 
-pub reading_told : (r : Taken) (table : List ℤ) → taken_by (taken_answer r table) ≡ r
+pub reading_told : (r : TakenOrRefused) (table : List ℤ) → taken_by (taken_answer r table) ≡ r
 reading_told (Ok a) table = ap (λ early. accepted_by early a.cost) (marked a.early)
 reading_told (Err r) table = number_told (accepted_by (eqb 0 1) r.cost) (refused_by r.cost) r.why
 
@@ -114,23 +110,9 @@ fits_plain a mains (entries.breach_at t b) h = h.0
 fits_plain a mains entries.no_forecast h = h
 
 pub forecast_plain : (s : List ℕ) (us : List ℤ) → Plain (forecast_of s us)
-forecast_plain s us = from_check s (λ n h ck _. subst Plain (sym (forecast_refused_lem us s n ck)) h)
-    (λ mains ck _. by_length mains ck (eqb (length us) 3080) refl)
-  where
-    by_run : (mains : List ℕ) → checked s ≡ accepted (agreement_of s) mains → length us ≡ 3080 → (q : Option Run)
-        → run_of (agreement_of s) mains us ≡ q → Plain (forecast_of s us)
-    by_run mains ck l none e = subst Plain (sym (forecast_seven us s (agreement_of s) mains ck l e)) (omega arith)
-    by_run mains ck l (some q) e =
-        let a = agreement_of s in
-        let good = run_of_good a mains us q (is_fair s a mains ck) e in
-        let ok = run_ok s a mains ck q.last_time q.last_moved q.outcome good in
-        let here : ForecastFits a mains (forecast_of s us) =
-        subst (ForecastFits a mains) (sym (forecast_is s a mains ck us q l e))
-        (fits s a mains ck (forecast_run a q) ok) in
-        fits_plain a mains (forecast_of s us) here
-
-    by_length : (mains : List ℕ) → checked s ≡ accepted (agreement_of s) mains → (b : Bool) → eqb (length us) 3080 ≡ b
-        → Plain (forecast_of s us)
-    by_length mains ck true e = by_run mains ck (eqb-true (length us) 3080 e) (run_of (agreement_of s) mains us) refl
-    by_length mains ck false e = subst Plain
-        (sym (forecast_six us s (agreement_of s) mains ck (eqb-false (length us) 3080 e))) (omega arith)
+forecast_plain s us = by_run s us (λ n more few reads told. subst Plain (sym told) more) (λ mains q ck l e.
+    let a = agreement_of s in
+    let good = run_of_good a mains us q (is_fair s a mains ck) e in
+    let ok = run_ok s a mains ck q.last_time q.last_moved q.outcome good in
+    fits_plain a mains (forecast_of s us) (subst (ForecastFits a mains) (sym (forecast_is s a mains ck us q l e))
+    (fits s a mains ck (forecast_run a q) ok)))

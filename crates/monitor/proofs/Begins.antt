@@ -1,4 +1,5 @@
--- Laws for start: the main clause is activated as csl says.
+-- Laws for start: it is a step that activates the main clause at the start time, and what such a step writes is what
+-- csl's start leaves.
 use mathlib.Core.Path.{◌≡◌, sym, subst, ◌∙◌}
 use mathlib.Core.List.{List}
 use Prim.Native.Nat.{ℕ, ◌≤◌, ◌<◌}
@@ -29,8 +30,8 @@ short {s} ok = both_true (between 4 16_384 (length s)) _ (passed s (agreement_of
 -- ---- start, for an accepted agreement and a table's cells
 module _ {s : List ℕ} (ok : Accepted s) {us : List ℤ} (sights : List Sight) where
   -- whatever units are said to be in use
-  pub begin_due : {n t : ℕ} → n ≤ 128 → t < 4_294_967_296 → Due s sights us n t Activate
-  begin_due held soon = record { short = short ok; held = held; soon = soon; units = tt }
+  pub begin_due : {a : List ℕ} {n t : ℕ} → a ≡ s → n ≤ 128 → t < 4_294_967_296 → Due a sights us n t Activate
+  begin_due same few soon = record { short = rw same (short ok); held = few; soon = soon; units = tt }
 
   pub begun : {t : ℕ} {r : Result Wrote TooMany} {left : List ℤ} → length us ≡ table_length
       → Advances s sights us 0 t Activate left r → t ≡ le32 s 4 → advanced r left ≡ start_of s us
@@ -38,3 +39,5 @@ module _ {s : List ℕ} (ok : Accepted s) {us : List ℤ} (sights : List Sight) 
   begun {r = r} {left = left} l a e =
       subst (λ t. advanced r left ≡ kept_cells t 0 us (reduced s sights us 0 Activate)) e a.is
       ∙ sym (start_reduce s (mains_of s) ok.is us l)
+
+pub ruleset beginning = (begin_due, begun)

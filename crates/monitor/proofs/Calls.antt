@@ -1,25 +1,27 @@
 -- Calls of reading on a run's table answer as the run does and leave its table: one call at a time (`called`), so
--- through the list
--- (`last_table_lem`, `all_numbers`), and at each of its calls (`found`).
-use mathlib.Core.Path.{◌≡◌, refl, sym, ap, ap₂, subst, ◌∙◌}
+-- through the list (`runs`), and at each of its calls (`found`).
+use mathlib.Core.Path.{◌≡◌, refl, sym, ap, subst, ◌∙◌}
 use mathlib.Core.List.{List, [], ◌∷◌, ◌++◌}
+use mathlib.Core.Option.{some}
 use Rattle.std.specs.Prelude.{Ok, Err}
 use Prim.Native.Nat.{ℕ}
 use contract.Lifetimes.{Lfts}
 use borrow.Fn.Kinds.{Dens, ended_of}
 use denote.Triple.Clauses.{AtExit}
 use lib.IntN.{ℤ}
+use lib.ListN.{length}
 use Rattle.csl.specs.Syntax.{Agreement}
 use Rattle.csl.specs.Check.{checked, accepted}
 use Rattle.csl.specs.Run.{step}
-use Rattle.csl.specs.Table.{Run, table_of}
+use Rattle.csl.specs.Table.{Run, run_of, table_length, table_of}
 use Rattle.csl.specs.Entries.{forecast_of, reading_of, start_of}
 use Rattle.csl.specs.Early.{came_early, mark_of}
 use Rattle.csl.specs.Cost.{cost_of}
 use Rattle.csl.specs.Demand3.{AllBytes, costs_by, marks_by, numbers_by, run_after}
-use Rattle.soundness.proofs.Runs.{InvOf, reading_fine, step_inv}
+use Rattle.soundness.proofs.Runs.{InvOf, is_fair, reading_fine, step_inv}
+use Rattle.soundness.proofs.ReadBack.{run_of_good, table_back}
 use Rattle.soundness.proofs.Demand3.{after_inv}
-use Rattle.monitor.specs.Answers.{Foretold, Started, Taken, forecast_answer, start_answer, taken_answer}
+use Rattle.monitor.specs.Answers.{Foretold, Started, TakenOrRefused, forecast_answer, start_answer, taken_answer}
 use Rattle.monitor.specs.Calls.{Call, Calls, cost_in, costs_in, early_in, last_table, marks_in, number_in, numbers_in}
 use Rattle.monitor.specs.Calls.{readings_in}
 use Rattle.monitor.proofs.start.Kinds as start-kinds
@@ -35,7 +37,7 @@ pub start_call : (lifetimes : Lfts 2) (given : Dens {n = 2} lifetimes start-kind
     → start.Post lifetimes given r left → start_answer r left.1.0.now ≡ start_of given.0.now given.1.0.now
 start_call lifetimes given r left meets = meets
 
-pub reading_call : (lifetimes : Lfts 3) (given : Dens {n = 3} lifetimes reading-kinds.ps) (r : Taken)
+pub reading_call : (lifetimes : Lfts 3) (given : Dens {n = 3} lifetimes reading-kinds.ps) (r : TakenOrRefused)
     (left : AtExit (ended_of 3 reading-kinds.ps reading-kinds.r) lifetimes)
     → reading.Post lifetimes given r left
     → taken_answer r left.1.0.now ≡ reading_of given.0.now given.1.0.now given.1.1.0.now
@@ -47,7 +49,7 @@ pub forecast_call : (lifetimes : Lfts 2) (given : Dens {n = 2} lifetimes forecas
 forecast_call lifetimes given r left meets = meets
 
 -- ---- lists of calls
-table_of_lem : (r : Taken) (us : List ℤ) → (taken_answer r us).table ≡ us
+table_of_lem : (r : TakenOrRefused) (us : List ℤ) → (taken_answer r us).table ≡ us
 table_of_lem (Ok a) us = refl
 table_of_lem (Err w) us = refl
 
@@ -68,59 +70,52 @@ module _ (s : List ℕ) (a : Agreement) (mains : List ℕ) (ck : checked s ≡ a
   abbrev pub Sound : Run → Type 0
   Sound q = InvOf s a mains ck q
 
+  -- a table that shows a run is the run's
+  pub shown : (q : Run) (us : List ℤ) → length us ≡ table_length → run_of a mains us ≡ some q
+      → (us ≡ table_of q) × Sound q
+  shown q us l e = (sym (table_back a mains us q e l), run_of_good a mains us q (is_fair s a mains ck) e)
+
   -- a call on the table of a run
-  pub called : (q : Run) (us : List ℤ) (c : Call) → us ≡ table_of q → Sound q
-      → taken_answer c.answer c.left ≡ reading_of s us c.bytes
-      → (number_in c ≡ (step a q c.bytes).number) × (c.left ≡ table_of (step a q c.bytes).run)
-      × (early_in c ≡ mark_of (came_early a q c.bytes)) × (cost_in c ≡ cost_of a q c.bytes)
+  pub record Called (q : Run) (one : Call) : Type 0 where
+    pub number : number_in one ≡ (step a q one.bytes).number
+    pub left : one.left ≡ table_of (step a q one.bytes).run
+    pub early : early_in one ≡ mark_of (came_early a q one.bytes)
+    pub cost : cost_in one ≡ cost_of a q one.bytes
+
+  pub called : (q : Run) (us : List ℤ) (one : Call) → us ≡ table_of q → Sound q
+      → taken_answer one.answer one.left ≡ reading_of s us one.bytes → Called q one
   unfolding number_in early_in cost_in
-  called q us c e i meets =
-      let fine = reading_fine s a mains ck q c.bytes i in
-      let is : taken_answer c.answer c.left ≡ reading_of s (table_of q) c.bytes = meets
-      ∙ ap (λ us. reading_of s us c.bytes) e in (
-        ap (λ x. x.number) is ∙ fine.0,
-        sym (table_of_lem c.answer c.left) ∙ ap (λ x. x.table) is ∙ fine.1,
-        ap (λ x. x.early) is ∙ fine.2,
-        ap (λ x. x.cost) is ∙ fine.3,
-      )
+  called q us one e i meets =
+      let fine = reading_fine s a mains ck q one.bytes i in
+      let is : taken_answer one.answer one.left ≡ reading_of s (table_of q) one.bytes = rw e at meets in
+      record {
+        number = ap (λ x. x.number) is ∙ fine.0;
+        left = sym (table_of_lem one.answer one.left) ∙ ap (λ x. x.table) is ∙ fine.1;
+        early = ap (λ x. x.early) is ∙ fine.2;
+        cost = ap (λ x. x.cost) is ∙ fine.3;
+      }
 
-  -- calls one after another
-  pub last_table_lem : (q : Run) (us : List ℤ) (calls : List Call) → us ≡ table_of q → Sound q
-      → AllBytes (readings_in calls)
-      → Calls s us calls → last_table us calls ≡ table_of (run_after a q (readings_in calls))
-  unfolding Calls AllBytes readings_in last_table run_after
-  last_table_lem q us [] e i h cs = e
-  last_table_lem q us (c ∷ calls) e i h cs = last_table_lem (step a q c.bytes).run c.left calls
-      (called q us c e i cs.0).1 (step_inv s a mains ck q c.bytes h.0 i) h.1
-      cs.1
+  -- calls one after another: the answers and the table are the run's
+  pub record Runs (q : Run) (us : List ℤ) (calls : List Call) : Type 0 where
+    pub table : last_table us calls ≡ table_of (run_after a q (readings_in calls))
+    pub numbers : numbers_in calls ≡ numbers_by a q (readings_in calls)
+    pub marks : marks_in calls ≡ marks_by a q (readings_in calls)
+    pub costs : costs_in calls ≡ costs_by a q (readings_in calls)
 
-  pub all_numbers : (q : Run) (us : List ℤ) (calls : List Call) → us ≡ table_of q → Sound q
-      → AllBytes (readings_in calls)
-      → Calls s us calls → numbers_in calls ≡ numbers_by a q (readings_in calls)
-  unfolding Calls AllBytes readings_in numbers_in numbers_by
-  all_numbers q us [] e i h cs = refl
-  all_numbers q us (c ∷ calls) e i h cs =
-      let x = called q us c e i cs.0 in
-      ap₂ (λ n ns. n ∷ ns) x.0 (all_numbers (step a q c.bytes).run c.left calls x.1
-      (step_inv s a mains ck q c.bytes h.0 i) h.1 cs.1)
-
-  pub all_marks : (q : Run) (us : List ℤ) (calls : List Call) → us ≡ table_of q → Sound q → AllBytes (readings_in calls)
-      → Calls s us calls → marks_in calls ≡ marks_by a q (readings_in calls)
-  unfolding Calls AllBytes readings_in marks_in marks_by
-  all_marks q us [] e i h cs = refl
-  all_marks q us (c ∷ calls) e i h cs =
-      let x = called q us c e i cs.0 in
-      ap₂ (λ n ns. n ∷ ns) x.2 (all_marks (step a q c.bytes).run c.left calls x.1
-      (step_inv s a mains ck q c.bytes h.0 i) h.1 cs.1)
-
-  pub all_costs : (q : Run) (us : List ℤ) (calls : List Call) → us ≡ table_of q → Sound q → AllBytes (readings_in calls)
-      → Calls s us calls → costs_in calls ≡ costs_by a q (readings_in calls)
-  unfolding Calls AllBytes readings_in costs_in costs_by
-  all_costs q us [] e i h cs = refl
-  all_costs q us (c ∷ calls) e i h cs =
-      let x = called q us c e i cs.0 in
-      ap₂ (λ n ns. n ∷ ns) x.3 (all_costs (step a q c.bytes).run c.left calls x.1
-      (step_inv s a mains ck q c.bytes h.0 i) h.1 cs.1)
+  pub runs : (q : Run) (us : List ℤ) (calls : List Call) → us ≡ table_of q → Sound q
+      → AllBytes (readings_in calls) → Calls s us calls → Runs q us calls
+  unfolding Calls AllBytes readings_in last_table run_after numbers_in numbers_by marks_in marks_by costs_in costs_by
+  runs q us [] e i h cs = record { table = e; numbers = refl; marks = refl; costs = refl }
+  runs q us (one ∷ calls) e i h cs =
+      let x = called q us one e i cs.0 in
+      let more = runs (step a q one.bytes).run one.left calls x.left (step_inv s a mains ck q one.bytes h.0 i) h.1
+      cs.1 in
+      record {
+        table = more.table;
+        numbers = rw (x.number, more.numbers) refl;
+        marks = rw (x.early, more.marks) refl;
+        costs = rw (x.cost, more.costs) refl;
+      }
 
   -- ---- one of the calls, on a table that was the run q's at first
   module _ (q : Run) (us : List ℤ) (is : us ≡ table_of q) (i : Sound q) (calls : List Call)
@@ -149,15 +144,15 @@ module _ (s : List ℕ) (a : Agreement) (mains : List ℕ) (ck : checked s ≡ a
         let two = calls_split s us before (one ∷ later) (subst (Calls s us) e cs) in
         let bs = bytes_split before (one ∷ later) (subst (λ cs. AllBytes (readings_in cs)) e h) in
         let i' = inv_at before (one ∷ later) e in
-        let t = last_table_lem q us before is i bs.0 two.0 in
+        let t = (runs q us before is i bs.0 two.0).table in
         let x = called run (last_table us before) one t i' two.1.0 in
         record {
           inv = i';
           table = t;
-          number = x.0;
-          left = x.1;
-          early = x.2;
-          cost = x.3;
+          number = x.number;
+          left = x.left;
+          early = x.early;
+          cost = x.cost;
           next = step_inv s a mains ck run one.bytes bs.1.0 i';
           bytes = (bs.0, bs.1.1);
           meets = (two.0, two.1.1);

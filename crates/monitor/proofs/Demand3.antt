@@ -1,15 +1,11 @@
 -- Demand 3 holds: the table that each call is given is the run's (`Calls`), and of one more reading the run says all
 -- that is claimed.
 use mathlib.Core.Path.{◌≡◌, refl, sym, ap, ◌∙◌}
-use mathlib.Core.Bool.{Bool, true, false}
 use mathlib.Core.List.{List, ◌∷◌, ◌++◌}
-use mathlib.Core.Logic.{◌↔◌}
 use mathlib.Core.Option.{some}
 use Rattle.std.specs.Prelude.{Ok, Err}
 use Prim.Native.Nat.{ℕ}
 use native.Mathlib.Omega.{arith}
-use borrow.Author.Tests.{eqb-true, eqb-false}
-use lib.Dec.{eqb}
 use lib.IntN.{ℤ, pos}
 use lib.ListN.{length}
 use Rattle.csl.specs.Lists.{at}
@@ -25,44 +21,21 @@ use Rattle.soundness.proofs.CostBound.{run_cost}
 use Rattle.soundness.proofs.Runs.{CaseOf, case_of, not_stuck, start_is, table_typed, written_number, written_zero}
 use Rattle.soundness.proofs.Demand3.{after_inv, moved_cell_lem, start_inv, start_moved, start_unbreached, step_eleven}
 use Rattle.soundness.proofs.Demand3.{step_final, step_moves, step_refused, step_shows, step_stays, step_taken}
-use Rattle.bridge.proofs.Refusals.{from_check, start_refused_lem, start_six}
-use Rattle.monitor.specs.declared.Refusal.{Refusal}
-use Rattle.monitor.specs.declared.Refusal.TheVariants.{AgreementLength, AgreementForm, AgreementTyping}
-use Rattle.monitor.specs.declared.Refusal.TheVariants.{AgreementGuards, AgreementWidth, TableLength}
-use Rattle.monitor.specs.declared.Refusal.TheVariants.{TableContent, ReadingForm, ReadingTyping, ReadingTime}
-use Rattle.monitor.specs.declared.Refusal.TheVariants.{Units}
-use Rattle.monitor.specs.Answers.{Started, number_of, start_answer}
+use Rattle.monitor.specs.Answers.{Started, start_answer}
 use Rattle.monitor.specs.Calls.{Call, Calls, readings_in}
 use Rattle.monitor.specs.Demand3.{Begins, Demand3, IsStarted, Upheld, run_by}
-use Rattle.monitor.proofs.Calls.{Found, Sound, all_costs, all_marks, all_numbers, found, inv_at, last_table_lem}
+use Rattle.monitor.proofs.Apart.{start_told, told}
+use Rattle.monitor.proofs.Calls.{Found, Sound, found, inv_at, runs}
 use Rattle.monitor.proofs.Early.{early_is, unaltered_in}
-
--- a refusal's number is not 0
-numbered : (w : Refusal) → number_of w ≡ 0 → ⊥
-numbered AgreementLength e = omega arith
-numbered AgreementForm e = omega arith
-numbered AgreementTyping e = omega arith
-numbered AgreementGuards e = omega arith
-numbered AgreementWidth e = omega arith
-numbered TableLength e = omega arith
-numbered TableContent e = omega arith
-numbered ReadingForm e = omega arith
-numbered ReadingTyping e = omega arith
-numbered ReadingTime e = omega arith
-numbered Units e = omega arith
+use Rattle.monitor.proofs.Opens.{by_table}
 
 -- a start that carries 0 has begun
 begun_is : (r : Started) (us : List ℤ) → (start_answer r us).number ≡ 0 → r ≡ Ok tt
-begun_is (Ok begun) us e = refl
-begun_is (Err w) us e = absurd (numbered w e)
+begun_is r us e = sym (start_told r us) ∙ ap (told (Ok tt) Err) e
 
 table_left_lem : (r : Started) (us : List ℤ) → (start_answer r us).table ≡ us
 table_left_lem (Ok begun) us = refl
 table_left_lem (Err w) us = refl
-
--- the same number
-carries : {P : Type 0} {m n k : ℕ} → m ≡ n → (n ≡ k) ↔ P → (m ≡ k) ↔ P
-carries e h = (λ x. h.0 (sym e ∙ x), λ p. e ∙ h.1 p)
 
 module _ (s : List ℕ) (lent : List ℤ) (a : Agreement) (mains : List ℕ) (st : IsStarted s lent a mains)
     (r : Started) (us : List ℤ) (start : start_answer r us ≡ start_of s lent) (hs : Bytes s) where
@@ -96,30 +69,28 @@ module _ (s : List ℕ) (lent : List ℤ) (a : Agreement) (mains : List ℕ) (st
         × CaseOf a (run_by a before) one.bytes
     unfolding run_by run
     at_call before one later e =
-        let f = found s a mains ck run us us_is run_inv calls hr cs before one later e in (
-          f,
-          case_of a (run_by a before) one.bytes
-              (not_stuck a mains (run_by a before).last_time (run_by a before).outcome f.inv.good),
-        )
+        let f = found s a mains ck run us us_is run_inv calls hr cs before one later e in
+        (f, case_of a (run_by a before) one.bytes (not_stuck a mains _ _ f.inv.good))
 
     upheld : Upheld a mains r us calls
     unfolding run_by run
     upheld =
-        let whole = last_table_lem s a mains ck run us calls us_is run_inv hr cs in
+        let whole = runs s a mains ck run us calls us_is run_inv hr cs in
+        let bound = run_cost s a mains (passed s a mains ck) in
         let typed = table_typed s a mains ck (run_by a calls)
         (after_inv s a mains ck run (readings_in calls) hr run_inv) in
         record {
-          never_stuck = λ before later e. not_stuck a mains (run_by a before).last_time (run_by a before).outcome
+          never_stuck = λ before later e. not_stuck a mains _ _
               (inv_at s a mains ck run us us_is run_inv calls hr cs before later e).good;
           begun = begun_is r us (ap (λ x. x.number) (start ∙ begins_zero));
-          numbers = all_numbers s a mains ck run us calls us_is run_inv hr cs;
-          cells = ap length whole ∙ typed.0;
-          well_typed = (typed.1.0, ap (run_of a mains) whole ∙ typed.1.1);
-          table = whole;
+          numbers = whole.numbers;
+          cells = ap length whole.table ∙ typed.0;
+          well_typed = (typed.1.0, ap (run_of a mains) whole.table ∙ typed.1.1);
+          table = whole.table;
           eleven = λ before one later e. let f = at_call before one later e in
-              carries f.0.number (step_eleven a (run_by a before) one.bytes f.1);
+              rw f.0.number (step_eleven a (run_by a before) one.bytes f.1);
           taken = λ before one later e. let f = at_call before one later e in
-              carries f.0.number (step_taken a (run_by a before) one.bytes f.1);
+              rw f.0.number (step_taken a (run_by a before) one.bytes f.1);
           refused = λ before one later e nz. let f = at_call before one later e in
               f.0.left ∙ ap table_of (step_refused a (run_by a before) one.bytes f.1
               (λ z. nz (f.0.number ∙ z))) ∙ sym f.0.table;
@@ -133,21 +104,14 @@ module _ (s : List ℕ) (lent : List ℤ) (a : Agreement) (mains : List ℕ) (st
               cell_five f.0.left f.0.next
               ∙ ap (λ m. some (pos m)) (step_moves a (run_by a before) one.bytes f.1
               (λ u. h (unaltered_in (sym f.0.table) (sym f.0.left) u)));
-          marks = all_marks s a mains ck run us calls us_is run_inv hr cs;
+          marks = whole.marks;
           early = λ before one later e. let f = (at_call before one later e).0 in
               early_is a (run_by a before) _ one f.table f.number f.left f.early;
-          costs = all_costs s a mains ck run us calls us_is run_inv hr cs;
-          each_unit = λ before one later e. omega (
-            arith,
-            (at_call before one later e).0.cost,
-            run_cost s a mains (passed s a mains ck) (run_by a before) one.bytes,
-          );
-          at_most = λ before one later e. let f = (at_call before one later e).0 in omega (
-            arith,
-            f.cost,
-            f.inv.small,
-            run_cost s a mains (passed s a mains ck) (run_by a before) one.bytes,
-          );
+          costs = whole.costs;
+          each_unit = λ before one later e. let f = (at_call before one later e).0 in
+              omega (arith, f.cost, bound (run_by a before) one.bytes);
+          at_most = λ before one later e. let f = (at_call before one later e).0 in
+              omega (arith, f.cost, f.inv.small, bound (run_by a before) one.bytes);
           breached = λ before one later e. step_shows s a mains ck (run_by a before) one.bytes
               (at_call before one later e).0.inv;
           unbreached = start_unbreached s a mains ck;
@@ -160,23 +124,11 @@ pub demand3 : Demand3
 unfolding Demand3
 demand3 s lent a mains r us calls hs hr st start cs = upheld s lent a mains st r us start hs calls hr cs
 
--- a start that answers 0 was given a table's cells
-begun_table : (s : List ℕ) (mains : List ℕ) (lent : List ℤ) → checked s ≡ accepted (agreement_of s) mains
-    → (start_of s lent).number ≡ 0 → length lent ≡ 3080
-begun_table s mains lent ck e = go (eqb (length lent) 3080) refl
-  where
-    go : (b : Bool) → eqb (length lent) 3080 ≡ b → length lent ≡ 3080
-    go true g = eqb-true (length lent) 3080 g
-    go false g = let z : ◌≡◌ {A = ℕ} 6 0 = sym
-        (ap (λ x. x.number) (start_six lent s (agreement_of s) mains ck (eqb-false (length lent) 3080 g))) ∙ e in
-        absurd (omega arith)
-
 pub begins : Begins
 unfolding Begins
-begins s lent us start = from_check s
-    (λ n h ck _. let z : n ≡ 0 = sym (ap (λ x. x.number) (start_refused_lem lent s n ck))
-    ∙ zero in absurd (omega arith))
-    (λ mains ck _. let l = begun_table s mains lent ck zero in (
+begins s lent us start = by_table s lent
+    (λ n more few x. let z : n ≡ 0 = sym (ap (λ y. y.number) x.start) ∙ zero in absurd (omega arith))
+    (λ mains ck l. (
       agreement_of s,
       mains,
       record {

@@ -5,11 +5,9 @@ use mathlib.Core.Bool.{Bool, true, false}
 use mathlib.Core.List.{List}
 use Rattle.std.specs.Prelude.{Ok, Err}
 use mathlib.Core.Logic.{inl, inr, ◌⊎◌, ◌↔◌}
-use mathlib.Core.Option.{Option, none, some}
+use mathlib.Core.Option.{some}
 use Prim.Native.Nat.{ℕ}
 use native.Mathlib.Omega.{arith}
-use borrow.Author.Tests.{eqb-true, eqb-false}
-use lib.Dec.{eqb}
 use lib.IntN.{ℤ, pos}
 use lib.ListN.{length}
 use Rattle.csl.specs.Lists.{at}
@@ -19,21 +17,20 @@ use Rattle.csl.specs.Check.{checked, accepted}
 use Rattle.csl.specs.Outcomes.{Residue, running}
 use Rattle.csl.specs.Rules.{Reading}
 use Rattle.csl.specs.Run.{Fit, Stepped, fit, fit_of, followed, step, unfit}
-use Rattle.csl.specs.Table.{Run, head_cells, nat_cells, padded, run_of, table_of}
+use Rattle.csl.specs.Table.{Run, head_cells, nat_cells, padded, run_of, table_length, table_of}
 use Rattle.csl.specs.Entries.{answered, reading_of}
 use Rattle.csl.specs.Early.{came_early, mark_of}
 use Rattle.csl.specs.Demand3.{Unaltered, fitting}
 use Rattle.laws.proofs.Clash.{impossible}
 use Rattle.laws.proofs.Options.{none_some, some_inj}
-use Rattle.soundness.proofs.Runs.{fit_cases, is_fair, run_at, stepped}
-use Rattle.soundness.proofs.ReadBack.{run_of_good, table_back}
+use Rattle.soundness.proofs.Runs.{fit_cases, run_at, stepped}
 use Rattle.soundness.proofs.Moved.{altered_not, unaltered_is}
 use Rattle.soundness.proofs.Early.{IsEarly, came_early_lem}
-use Rattle.bridge.proofs.Refusals.{from_check, reading_refused, reading_seven, reading_six, unread}
-use Rattle.monitor.specs.Answers.{Taken, taken_answer}
+use Rattle.monitor.specs.Answers.{TakenOrRefused, taken_answer}
 use Rattle.monitor.specs.Calls.{Call, early_in, number_in}
 use Rattle.monitor.specs.Early.{CameEarly, EarlyClaim, TooEarly}
-use Rattle.monitor.proofs.Calls.{called}
+use Rattle.monitor.proofs.Calls.{called, shown}
+use Rattle.monitor.proofs.Opens.{by_run}
 
 -- ---- a mark that is 1
 mark_one : (b : Bool) → mark_of b ≡ 1 → b ≡ true
@@ -104,7 +101,7 @@ module _ (a : Agreement) (q : Run) (us : List ℤ) (one : Call) (table : us ≡ 
 
 -- ---- whatever is lent
 -- a mark is 1 or 0
-either : (r : Taken) (us : List ℤ) → ((taken_answer r us).early ≡ 1) ⊎ ((taken_answer r us).early ≡ 0)
+either : (r : TakenOrRefused) (us : List ℤ) → ((taken_answer r us).early ≡ 1) ⊎ ((taken_answer r us).early ≡ 0)
 unfolding mark_of
 either (Ok a) us = elim a.early as (λ b. (mark_of b ≡ 1) ⊎ (mark_of b ≡ 0)) [ true ↦ inl refl | false ↦ inr refl ]
 either (Err w) us = inr refl
@@ -112,56 +109,34 @@ either (Err w) us = inr refl
 module _ (s : List ℕ) (us : List ℤ) (one : Call)
     (meets : taken_answer one.answer one.left ≡ reading_of s us one.bytes) where
   -- of a table that shows a run
-  shown_early : (a : Agreement) (mains : List ℕ) (q : Run) → checked s ≡ accepted a mains → length us ≡ 3080
+  shown_early : (a : Agreement) (mains : List ℕ) (q : Run) → checked s ≡ accepted a mains → length us ≡ table_length
       → run_of a mains us ≡ some q → (early_in one ≡ 1) ↔ TooEarly a q us one
   shown_early a mains q ck l e =
-      let is : us ≡ table_of q = sym (table_back a mains us q e l) in
-      let x = called s a mains ck q us one is (run_of_good a mains us q (is_fair s a mains ck) e) meets in
-      early_is a q us one is x.0 x.1 x.2
+      let on = shown s a mains ck q us l e in
+      let x = called s a mains ck q us one on.0 on.1 meets in
+      early_is a q us one on.0 x.number x.left x.early
 
-  -- a refusal's mark is 0
-  unmarked : (n : ℕ) {C : Type 0} → reading_of s us one.bytes ≡ unread n us
-      → early_in one ≡ 1 → C
-  unfolding early_in answered
-  unmarked n e h = let z : ◌≡◌ {A = ℕ} 0 1 = sym (ap (λ x. x.early) (meets ∙ e)) ∙ h in absurd (omega arith)
-
-  to : early_in one ≡ 1 → CameEarly s us one
-  unfolding answered
-  to h = from_check s
-      (λ n pos ck _. unmarked n (reading_refused us s n ck one.bytes) h)
-      (λ mains ck _. by_length mains ck (eqb (length us) 3080) refl)
-    where
-      by_run : (mains : List ℕ) → checked s ≡ accepted (agreement_of s) mains → length us ≡ 3080 → (o : Option Run)
-          → run_of (agreement_of s) mains us ≡ o → CameEarly s us one
-      by_run mains ck l none e = unmarked 7 (reading_seven us s (agreement_of s) mains ck l one.bytes e) h
-      by_run mains ck l (some q) e = record {
-        agreement = agreement_of s;
-        mains = mains;
-        run = q;
-        is_agreement = ck;
-        is_run = e;
-        too_early = (shown_early (agreement_of s) mains q ck l e).0 h;
-      }
-
-      by_length : (mains : List ℕ) → checked s ≡ accepted (agreement_of s) mains → (b : Bool) → eqb (length us) 3080 ≡ b
-          → CameEarly s us one
-      by_length mains ck true e = by_run mains ck (eqb-true (length us) 3080 e) (run_of (agreement_of s) mains us) refl
-      by_length mains ck false e =
-          unmarked 6 (reading_six us s (agreement_of s) mains ck (eqb-false (length us) 3080 e) one.bytes) h
-
-  from : CameEarly s us one → early_in one ≡ 1
-  unfolding answered number_in
-  from x = by_length (eqb (length us) 3080) refl
-    where
-      by_length : (b : Bool) → eqb (length us) 3080 ≡ b → early_in one ≡ 1
-      by_length true e = (shown_early x.agreement x.mains x.run x.is_agreement (eqb-true (length us) 3080 e)
-          x.is_run).1 x.too_early
-      by_length false e =
-          let six = reading_six us s x.agreement x.mains x.is_agreement (eqb-false (length us) 3080 e)
-          one.bytes in
-          let z : ◌≡◌ {A = ℕ} 6 0 = sym (ap (λ a. a.number) (meets ∙ six)) ∙ x.too_early.is_accepted in
-          absurd (omega arith)
+  -- a refusal's mark is 0, and it is no 0
+  early_iff : (early_in one ≡ 1) ↔ CameEarly s us one
+  unfolding early_in number_in answered
+  early_iff = by_run s us
+      (λ n more few reads told.
+      let is = meets ∙ reads one.bytes in (
+        λ h. let z : ◌≡◌ {A = ℕ} 0 1 = sym (ap (λ x. x.early) is) ∙ h in absurd (omega arith),
+        λ x. let z : n ≡ 0 = sym (ap (λ y. y.number) is) ∙ x.too_early.is_accepted in absurd (omega arith),
+      ))
+      (λ mains q ck l e. (
+        λ h. record {
+          agreement = agreement_of s;
+          mains = mains;
+          run = q;
+          is_agreement = ck;
+          is_run = e;
+          too_early = (shown_early (agreement_of s) mains q ck l e).0 h;
+        },
+        λ x. (shown_early x.agreement x.mains x.run x.is_agreement l x.is_run).1 x.too_early,
+      ))
 
 pub early : EarlyClaim
 unfolding EarlyClaim early_in
-early s us one meets = (either one.answer one.left, (to s us one meets, from s us one meets))
+early s us one meets = (either one.answer one.left, early_iff s us one meets)

@@ -1,4 +1,5 @@
--- Laws for a reading: what each part of the code learned, as csl's answer.
+-- Laws for a reading: of a running run the rules on cells give what the step writes, its cost and its mark, which are
+-- csl's; of any other run, and of a reading that is none, csl's answer is at hand.
 use mathlib.Core.Path.{◌≡◌, refl, sym, ap, ap₂, subst, ◌∙◌}
 use mathlib.Core.Bool.{Bool, true, false, cond, not, ◌&&◌}
 use mathlib.Core.List.{List, [], ◌∷◌, ◌++◌}
@@ -10,10 +11,10 @@ use denote.Bor.{Bor}
 use mir.Syntax.{w64}
 use mir.Val.{to_z, SFits}
 use mir.ValLaws.{to_z_pos}
-use lib.Dec.{ltb}
+use lib.Dec.{eqb, ltb}
 use lib.IntN.{ℤ, pos}
 use lib.Signed.{lt_z}
-use lib.ListN.{length, get_or, take, drop, set}
+use lib.ListN.{length, get_or, take, drop, set, length-take}
 use Rattle.std.specs.Prelude.{Result, Some, Ok, Err}
 use Rattle.arith.proofs.Ints.{small}
 use Rattle.csl.specs.Lists.{◌>>=◌}
@@ -25,21 +26,22 @@ use Rattle.csl.specs.Table as csl
 use Rattle.csl.specs.Table.{table_of, table_length, padded, head_cells, nat_cells, cells_of}
 use Rattle.csl.specs.Early.{mark_of}
 use Rattle.csl.specs.Cost.{total}
-use Rattle.csl.specs.Entries.{answered, reading_of}
+use Rattle.csl.specs.Entries.{ReadingAnswer, answered, reading_of}
 use Rattle.csl.specs.Demand3.{fitting}
 use Rattle.soundness.proofs.Checked.{passed}
 use Rattle.soundness.proofs.CostBound.{cost_of_units}
 use Rattle.soundness.proofs.Readings.{reading_ok}
 use Rattle.soundness.proofs.Runs.{is_fair, run_at}
+use Rattle.soundness.proofs.Walks.{Fair}
 use Rattle.soundness.proofs.ReadBack.{table_back}
 use Rattle.cells.specs.Reduce as cells
 use Rattle.cells.specs.Across as table
 use Rattle.cells.specs.declared.Sight.{Sight}
 use Rattle.cells.specs.Across.{some_open_later}
 use Rattle.csl.specs.Check.{mains_of}
-use Rattle.laws.proofs.Bools.{by_test}
+use Rattle.laws.proofs.Bools.{by}
 use Rattle.laws.proofs.Integers.{pos_inj}
-use Rattle.bridge.proofs.Across.{follow_across, follow_costs, sights_of}
+use Rattle.bridge.proofs.Across.{FoundIs, follow_across, follow_costs, sights_of}
 use Rattle.bridge.proofs.Moved.{idle_units}
 use Rattle.bridge.proofs.Tables.{units_in}
 use Rattle.bridge.proofs.Refusals.{answer}
@@ -55,7 +57,8 @@ use Rattle.waits.specs.declared.Event.{Event}
 use Rattle.waits.specs.declared.Event.TheVariants.{Follow}
 use Rattle.residues.specs.Tallies.{most_counted}
 use Rattle.walk.specs.Tree.{Tree}
-use Rattle.walk.proofs.Trees.{tree_only}
+use Rattle.walk.proofs.Trees.{tree_only, tree_taken}
+use Rattle.walk.proofs.Opening.{taken_open}
 use Rattle.cells.specs.Sights.{flat, sights_in}
 use Rattle.state.specs.Shown.{RunShows, RunningAs, BreachedAs, Shows, run_in}
 use Rattle.parties.specs.declared.breach.Breach.{Breach as Broken}
@@ -69,6 +72,8 @@ use Rattle.reduction.specs.Steps.{advanced, cost_in, Advances}
 use Rattle.reduction.specs.declared.TooMany.{TooMany}
 use Rattle.reduction.specs.declared.Wrote.{Wrote}
 use Rattle.monitor.proofs.Begins.{short}
+use Rattle.monitor.proofs.Opens.{opened_as}
+use Rattle.reduction.proofs.Advances.{behind_head}
 use Rattle.reduction.proofs.Tabled.{founds, flat_sighted, has_tree}
 use Rattle.monitor.specs.Steps.{Opened, why_misfit, Fitted, SomeReading, ReadAs, some_later, Judged}
 
@@ -91,35 +96,49 @@ retimed us now m t e = rw e refl
 
 -- ---- what a written table and a refusal say of the residue
 module _ (now n : ℕ) (us : List ℤ) (x : cells.Reduced) where
-  kept_by : {b : Bool} → ltb 128 (units_in x) ≡ b
-      → kept_cells now n us x ≡ cond b (answer 11 us) (answer 0 (stepped_table now n us x))
+  -- an 11 where there are more than 128
+  over : (k : ℕ) {left : List ℤ} → answer k left ≡ kept_cells now n us x → ltb 128 (units_in x) ≡ eqb k 11
   unfolding kept_cells
-  kept_by e = ap (λ b. cond b (answer 11 us) (answer 0 (stepped_table now n us x))) e
+  over k {left} = by (λ b. answer k left ≡ cond b (answer 11 us) (answer 0 (stepped_table now n us x)) → b ≡ eqb k 11)
+      (ltb 128 (units_in x)) (λ _ e. sym (ap (λ a. eqb a.number 11) e)) (λ _ e. sym (ap (λ a. eqb a.number 11) e))
 
-  kept_eleven : {left : List ℤ} → answer 11 left ≡ kept_cells now n us x → ltb 128 (units_in x) ≡ true
-  kept_eleven e = by_test (ltb 128 (units_in x)) (λ t. t) (λ f.
-      let z : ◌≡◌ {A = ℕ} 11 0 = ap (λ a. a.number) (e ∙ kept_by f) in absurd (omega arith))
-
-  module _ {left : List ℤ} (e : answer 0 left ≡ kept_cells now n us x) where
-    kept_zero : ltb 128 (units_in x) ≡ false
-    kept_zero = by_test (ltb 128 (units_in x)) (λ t.
-        let z : ◌≡◌ {A = ℕ} 0 11 = ap (λ a. a.number) (e ∙ kept_by t) in absurd (omega arith)) (λ f. f)
-
-    kept_table : left ≡ stepped_table now n us x
-    kept_table = ap (λ a. a.table) (e ∙ kept_by kept_zero)
+  kept_table : {left : List ℤ} → answer 0 left ≡ kept_cells now n us x → left ≡ stepped_table now n us x
+  unfolding kept_cells
+  kept_table e =
+      let is : kept_cells now n us x ≡ answer 0 (stepped_table now n us x) = rw (over 0 e, kept_cells) refl in
+      ap (λ a. a.table) (e ∙ is)
 
   early_over : {left : List ℤ} (b : Bool) → answer 11 left ≡ kept_cells now n us x → mark_of (early_cells n us x b) ≡ 0
   unfolding early_cells mark_of
-  early_over b e = rw (kept_eleven e) refl
+  early_over b e = rw (over 11 e) refl
 
   early_within : {left : List ℤ} (b : Bool) → answer 0 left ≡ kept_cells now n us x
       → (not (alters n us x) && b) ≡ early_cells n us x b
   unfolding early_cells
-  early_within b e = rw (kept_zero e) refl
+  early_within b e = rw (over 0 e) refl
 
 judged_as : {b c : Bool} (altered : Bool) → (altered ≡ false → b ≡ c) → (not altered && b) ≡ (not altered && c)
 judged_as true h = refl
 judged_as false h = h refl
+
+-- ---- the run and the code have the same units, sights, time and mark
+pub across_as : (m : cells.Mode) (s : List ℕ) (us : List ℤ) {sights seen : List ℕ} {n k : ℕ} {x : cells.Reckoned}
+    → n ≡ k → sights ≡ seen → table.across m s k seen us ≡ x ∷ [] → table.across m s n sights us ≡ x ∷ []
+across_as m s us e f h = rw (e, f) h
+
+later_by : (s : List ℕ) (us : List ℤ) {a bytes : List ℕ} {r : Reading} (f : FittingRead a bytes r)
+    {sights seen : List ℕ} {n k : ℕ} → n ≡ k → sights ≡ seen
+    → some_open_later f.reading.time f.reading.type (cells_of f.reading.values) s k seen us
+    ≡ some_open_later r.time r.tag r.values.items s n sights us
+later_by s us f e g = rw (e, g, f.time, f.type, f.cells) refl
+
+abbrev replied : List ℤ → cells.Reckoned → ℕ → ℕ → Bool → ReadingAnswer
+replied us x time n later =
+    answered (mark_of (early_cells n us x.outcome later)) (total x.tally) (kept_cells time n us x.outcome)
+
+replied_as : (us : List ℤ) (x : cells.Reckoned) {t u n k : ℕ} {b c : Bool} → t ≡ u → n ≡ k → b ≡ c
+    → replied us x u k c ≡ replied us x t n b
+replied_as us x e f g = rw (e, f, g) refl
 
 module _ {s : List ℕ} {us : List ℤ} {sights : List Sight} {state : State} (o : Opened s us sights state) where
   abbrev ag : Agreement
@@ -127,6 +146,12 @@ module _ {s : List ℕ} {us : List ℤ} {sights : List Sight} {state : State} (o
 
   abbrev ck : checked s ≡ accepted (agreement_of s) (mains_of s)
   ck = o.accepted.is
+
+  abbrev fair : Fair (agreement_of s) (mains_of s)
+  fair = is_fair s (agreement_of s) (mains_of s) ck
+
+  abbrev places : FoundIs s
+  places = founds s (mains_of s) ck
 
   in_order : {bytes : List ℕ} {r : Reading} (f : Fitted s bytes us r) {q : _} (shown : RunShows (run_in s us) us q)
       → shown.now ≤ f.fits.reading.time
@@ -142,18 +167,18 @@ module _ {s : List ℕ} {us : List ℤ} {sights : List Sight} {n : ℕ} (o : Ope
   abbrev res : Residue
   res = runs.residue
 
-  abbrev now : ℕ
-  now = runs.shows.now
-
-  abbrev moved : ℕ
-  moved = runs.shows.moved
-
   pub residue_sights : take (units res) sights ≡ sights_in res
   residue_sights = ap (λ k. take k sights) (sym runs.count) ∙ runs.sighted
 
   pub units_ready : Tree (length s) sights (drop 8 us) n
-  units_ready = rw runs.count
-      (has_tree s (mains_of s) (ck o) now moved res us l runs.shows.is sights residue_sights)
+  units_ready = rw runs.count (has_tree s _ (ck o) _ _ res us l runs.shows.is sights residue_sights)
+
+  -- what is in sight at the units, and behind them
+  abbrev more : List ℕ
+  more = flat (drop (units res) sights)
+
+  pub seen : flat sights ≡ sights_of (ag o) res ++ more
+  seen = flat_sighted s _ (ck o) _ _ res us l runs.shows.is sights residue_sights
 
   abbrev later : Reading → Bool
   later r = some_later s n sights us r
@@ -163,94 +188,69 @@ module _ {s : List ℕ} {us : List ℤ} {sights : List Sight} {n : ℕ} (o : Ope
     record Given : Type 0 where
       given : cells.Reckoned
       is : table.across (mode_of r) s n (flat sights) (drop 8 us) ≡ given ∷ []
-      reads : reading_of s us bytes ≡ answered (mark_of (early_cells n us given.outcome (later r)))
-          (total given.tally) (kept_cells r.time n us given.outcome)
+      reads : reading_of s us bytes ≡ replied us given r.time n (later r)
       small : total given.tally ≤ most_counted
       marks : r.tag ≡ 0 → later r ≡ false
+
+    same_later : some_open_later f.fits.reading.time f.fits.reading.type (cells_of f.fits.reading.values) s (units res)
+        (sights_of (ag o) res ++ more) (drop 8 us) ≡ later r
+    same_later = later_by s (drop 8 us) f.fits runs.count seen
 
     following : Given
     following =
         let fits = f.fits in
         let d = fits.reading in
-        let more = flat (drop (units res) sights) in
+        let is = runs.shows.is in
         let le = in_order o f runs.shows in
         let rok = (reading_ok (ag o) fits.raw d fits.typed).0 in
-        let w = follow_across s (mains_of s) (is_fair s (ag o) (mains_of s) (ck o)) (founds s (mains_of s) (ck o)) now
-        moved res us l runs.shows.is more d rok in
-        let seen = flat_sighted s (mains_of s) (ck o) now moved res us l runs.shows.is sights
-        residue_sights in
-        let same : some_open_later d.time d.type (cells_of d.values) s (units res) (sights_of (ag o) res ++ more)
-        (drop 8 us) ≡ later r =
-        ap₂ (λ k q. some_open_later d.time d.type (cells_of d.values) s k q (drop 8 us)) (sym runs.count)
-        (sym seen)
-        ∙ ap₂ (λ t k. some_open_later t k (cells_of d.values) s n (flat sights) (drop 8 us)) (sym fits.time)
-        (sym fits.type)
-        ∙ ap (λ vs. some_open_later r.time r.tag vs s n (flat sights) (drop 8 us)) (sym fits.cells) in
+        let w = follow_across s _ (fair o) (places o) _ _ res us l is more d rok in
         record {
           given = w.given;
-          is = ap (λ m. table.across m s n (flat sights) (drop 8 us)) (mode_as fits)
-              ∙ ap₂ (λ k q. table.across (cells.following d.time d.type (cells_of d.values)) s k q
-              (drop 8 us)) runs.count seen ∙ w.only;
-          reads = reading_running s (mains_of s) (ck o) us l now moved bytes d (fits_as fits) le
-              (founds s (mains_of s) (ck o)) res more w.given runs.shows.is w.only
-              ∙ ap (λ b. answered (mark_of (early_cells (units res) us w.given.outcome b)) (total w.given.tally)
-              (kept_cells d.time (units res) us w.given.outcome)) same
-              ∙ ap₂ (λ t k. answered (mark_of (early_cells k us w.given.outcome (later r)))
-              (total w.given.tally) (kept_cells t k us w.given.outcome)) (sym fits.time) (sym runs.count);
+          is = across_as _ s (drop 8 us) runs.count seen (rw (mode_as fits) w.only);
+          reads = reading_running s _ (ck o) us l _ _ bytes d (fits_as fits) le (places o) res more w.given is w.only
+              ∙ replied_as us w.given fits.time runs.count (sym same_later);
           small = omega (
             arith,
-            follow_costs s (mains_of s) (is_fair s (ag o) (mains_of s) (ck o)) (founds s (mains_of s) (ck o)) now moved
-                res
-                us l runs.shows.is more d rok,
+            follow_costs s _ (fair o) (places o) _ _ res us l is more d rok,
             cost_of_units s (ag o) (mains_of s) (passed s (ag o) (mains_of s) (ck o)) d res,
             runs.count,
             runs.few,
           );
-          marks = λ z. sym same ∙ marks_later s (mains_of s) (ck o) us l now moved bytes d (fits_as fits) le
-              (founds s (mains_of s) (ck o)) res more runs.shows.is (sym fits.type ∙ z);
+          marks = λ z. sym same_later ∙ marks_later s _ (ck o) us l _ _ bytes d (fits_as fits) le (places o) res more
+              is (sym fits.type ∙ z);
         }
 
   module _ (rr : Bor Reading) where
     abbrev e : Event
     e = Follow rr
 
-    pub follow_due : SomeReading s us rr.now → Due s sights us n rr.now.time e
-    follow_due r =
+    pub follow_due : {a : List ℕ} → a ≡ s → SomeReading s us rr.now → Due a sights us n rr.now.time e
+    follow_due same r =
         let f = r.1 in
-        let all : UnitsDue s sights us n e = record {
-          tree = units_ready;
-          given = (following f).given;
-          one = (following f).is;
-        } in
-        record {
-          short = short o.accepted;
-          held = runs.few;
-          soon = f.fits.small;
-          units = all;
-        }
+        let all : UnitsDue s sights us n e =
+        record { tree = units_ready; given = (following f).given; one = (following f).is } in
+        rw same (record { short = short o.accepted; held = runs.few; soon = f.fits.small; units = all })
 
-    module _ {bytes : List ℕ} (f : Fitted s bytes us rr.now) where
+    module _ {bytes : List ℕ} (f : Fitted s bytes us rr.now) {r : Result Wrote TooMany} {left : List ℤ}
+        (a : Advances s sights us n rr.now.time e left r) where
       follows_as : reckoned s sights us n e ≡ (following f).given
       unfolding reckoned
       follows_as = tree_only (following f).is
 
-      module _ {r : Result Wrote TooMany} {left : List ℤ} (a : Advances s sights us n rr.now.time e left r) where
-        -- no cost is so great that it is not counted whole
-        costs_as : cost_in r ≡ total (following f).given.tally
-        costs_as =
-            let tally = (following f).given.tally in
-            a.costs ∙ ap (λ x. min (total x.tally) most_counted) follows_as
-            ∙ (let z : min (total tally) most_counted ≡ total tally = omega (arith, (following f).small) in z)
+      -- no cost is so great that it is not counted whole
+      costs_as : cost_in r ≡ total (following f).given.tally
+      costs_as =
+          let tally = (following f).given.tally in
+          let whole : min (total tally) most_counted ≡ total tally = omega (arith, (following f).small) in
+          a.costs ∙ ap (λ x. min (total x.tally) most_counted) follows_as ∙ whole
 
-        -- the mark is the one judged on cells
-        reads_as : answered (mark_of (early_cells n us (reduced s sights us n e) (later rr.now))) (cost_in r)
-            (advanced r left) ≡ reading_of s us bytes
-        reads_as =
-            let given = (following f).given in
-            ap₂ (λ x y. answered (mark_of (early_cells n us x.outcome (later rr.now))) (cost_in r) y)
-            follows_as (a.is ∙ ap (λ x. kept_cells rr.now.time n us x.outcome) follows_as)
-            ∙ ap (λ c. answered (mark_of (early_cells n us given.outcome (later rr.now))) c
-            (kept_cells rr.now.time n us given.outcome)) costs_as ∙ sym (following f).reads
+      -- the mark is the one judged on cells
+      reads_as : answered (mark_of (early_cells n us (reduced s sights us n e) (later rr.now))) (cost_in r)
+          (advanced r left) ≡ reading_of s us bytes
+      reads_as =
+          ap₂ (λ x y. answered (mark_of (early_cells n us x.outcome (later rr.now))) (cost_in r) y)
+          follows_as (a.is ∙ ap (λ x. kept_cells rr.now.time n us x.outcome) follows_as)
+          ∙ rw costs_as (sym (following f).reads)
 
     pub follow_no : {many : TooMany} {left : List ℤ} → Advances s sights us n rr.now.time e left (Err many)
         → ReadAs s us rr.now (Err (record { why = tooManyUnits; cost = many.cost })) left
@@ -265,15 +265,17 @@ module _ {s : List ℕ} {us : List ℤ} {sights : List Sight} {n : ℕ} (o : Ope
       same_units : w.altered ≡ false → drop 8 left ≡ drop 8 us
       unfolding stepped_table
       same_units h = ap (drop 8) (kept_table rr.now.time n us (reduced s sights us n e) a.is)
-          ∙ idle_units (ag o) (mains_of s) (is_fair s (ag o) (mains_of s) (ck o)) now moved res us l
-          runs.shows.is rr.now.time _ (reduced s sights us n e)
+          ∙ idle_units (ag o) _ (fair o) _ _ res us l runs.shows.is rr.now.time _ (reduced s sights us n e)
           (ap (λ k. alters k us (reduced s sights us n e)) (sym runs.count) ∙ sym a.told ∙ h)
+
+      later_as : w.altered ≡ false → some_later s n sights left rr.now ≡ later rr.now
+      later_as h = ap (λ cs. some_open_later rr.now.time rr.now.tag rr.now.values.items s n (flat sights) cs)
+          (same_units h)
 
       pub judge_due : SomeReading s us rr.now → w.altered ≡ false → Judged s sights left n rr.now
       judge_due reading h = record {
         tree = subst (λ cs. Tree (length s) sights cs n) (sym (same_units h)) units_ready;
-        marks = λ z. ap (λ cs. some_open_later rr.now.time rr.now.tag rr.now.values.items s n (flat sights) cs)
-            (same_units h) ∙ (following reading.1).marks z;
+        marks = λ z. later_as h ∙ (following reading.1).marks z;
       }
 
       pub follow_yes : {early : Bool} → early ≡ (not w.altered && some_later s n sights left rr.now)
@@ -281,10 +283,7 @@ module _ {s : List ℕ} {us : List ℤ} {sights : List Sight} {n : ℕ} (o : Ope
       unfolding answered
       follow_yes {early} h = record {
         is = λ bytes f. ap (λ b. answered (mark_of b) w.cost (advanced (Ok w) left))
-            (h ∙ judged_as w.altered
-            (λ g. ap (λ cs. some_open_later rr.now.time rr.now.tag rr.now.values.items s n (flat sights) cs)
-            (same_units g))
-            ∙ ap (λ b. not b && later rr.now) a.told
+            (h ∙ judged_as w.altered later_as ∙ ap (λ b. not b && later rr.now) a.told
             ∙ early_within rr.now.time n us (reduced s sights us n e) (later rr.now) a.is) ∙ reads_as f a;
       }
 
@@ -296,8 +295,8 @@ module _ {s : List ℕ} {us : List ℤ} {sights : List Sight} {r : Reading} wher
   read_breached {b} o l =
       let shown : BreachedAs (run_in s us) us b.time b.parties = o.shows in
       record {
-        is = λ bytes f. sym (reading_breach s (mains_of s) (ck o) us l shown.shows.now shown.shows.moved bytes
-            f.fits.reading (fits_as f.fits) (in_order o f shown.shows) b.time _ shown.shows.is);
+        is = λ bytes f. sym (reading_breach s _ (ck o) us l _ _ bytes f.fits.reading (fits_as f.fits)
+            (in_order o f shown.shows) shown.time _ shown.shows.is);
       }
 
   pub read_done : Opened s us sights Fulfilled → length us ≡ table_length
@@ -305,15 +304,14 @@ module _ {s : List ℕ} {us : List ℤ} {sights : List Sight} {r : Reading} wher
   unfolding answered mark_of Shows
   read_done o l =
       let shown : RunShows (run_in s us) us done = o.shows in
-      let back = sym (table_back (ag o) (mains_of s) us (run_at shown.now shown.moved done) shown.is l) in
+      let back = sym (table_back (ag o) _ us _ shown.is l) in
       record {
         is = λ bytes f.
             ap (λ cells. answered 0 0 (answer 0 cells))
             (ap (set us 1) (to_z_pos w64 r.time (omega (arith, f.fits.small)) ∙ ap pos f.fits.time)
             ∙ retimed us shown.now shown.moved f.fits.reading.time back)
-            ∙ sym (reading_done s (mains_of s) (ck o) us l shown.now shown.moved bytes f.fits.reading
-            (fits_as f.fits)
-            (in_order o f shown) shown.is);
+            ∙ sym (reading_done s _ (ck o) us l _ _ bytes f.fits.reading (fits_as f.fits) (in_order o f shown)
+            shown.is);
       }
 
 -- ---- before the reading is known to fit
@@ -361,3 +359,12 @@ module _ {s : List ℕ} {us : List ℤ} {sights : List Sight} {state : State} (o
         pos_inj (sym e ∙ shown.cell),
       );
     }
+
+-- ---- what the methods' goals need
+pub ruleset lending = (behind_head, length-take)
+
+pub ruleset asking = (short, tree_taken, taken_open)
+
+pub ruleset stepping = (follow_due, follow_no, follow_yes, judge_due, read_done, read_breached, opened_as)
+
+pub ruleset judging = (time_fits, read_misfit, read_ten, read_fitted)

@@ -15,15 +15,14 @@ use Rattle.csl.specs.Table.{Run, table_of}
 use Rattle.csl.specs.Entries.{Forecast, breach_at, forecast_of, forecast_run, no_breach, shown}
 use Rattle.csl.specs.Demand3.{AllBytes, IsBreach, run_after}
 use Rattle.csl.specs.Marks.{Breached, ForecastFits, breach_table, time_in}
-use Rattle.soundness.proofs.Runs.{is_fair, run_at, step_inv}
+use Rattle.soundness.proofs.Runs.{run_at, step_inv}
 use Rattle.soundness.proofs.Demand3.{after_inv}
-use Rattle.soundness.proofs.ReadBack.{run_of_good, table_back}
 use Rattle.soundness.proofs.Marks.{AtOnce, Marks, Stays, at_once_lem, breach_state, fits, forecast_shows, frozen, given}
 use Rattle.soundness.proofs.Marks.{never, none_breach, not_yet, run_ok, table_state, until}
 use Rattle.monitor.specs.Answers.{forecast_answer}
 use Rattle.monitor.specs.Calls.{Call, Calls, last_table, readings_in}
 use Rattle.monitor.specs.Forecasts.{AcceptedMarks, ForecastClaim, Foretells}
-use Rattle.monitor.proofs.Calls.{Sound, called, found, last_table_lem}
+use Rattle.monitor.proofs.Calls.{Sound, called, found, runs, shown as shows_run}
 
 last_++ : (us : List ℤ) (before later : List Call)
     → last_table us (before ++ later) ≡ last_table (last_table us before) later
@@ -44,12 +43,10 @@ module _ (s : List ℕ) (a : Agreement) (mains : List ℕ) (ck : checked s ≡ a
   unfolding AllBytes readings_in Calls AcceptedMarks Marks
   run_marks q us [] e i h cs m = tt
   run_marks q us (c ∷ marks) e i h cs m =
-      let x = called s a mains ck q us c e i cs.0 in (
-        m.0,
-        sym x.0 ∙ m.1,
-        run_marks (step a q c.bytes).run c.left marks x.1
-            (step_inv s a mains ck q c.bytes h.0 i) h.1 cs.1 m.2,
-      )
+      let x = called s a mains ck q us c e i cs.0 in
+      let more = run_marks (step a q c.bytes).run c.left marks x.left (step_inv s a mains ck q c.bytes h.0 i) h.1 cs.1
+      m.2 in
+      (m.0, sym x.number ∙ m.1, more)
 
   -- of the run q, whose table the marks begin with
   module _ (q : Run) (us : List ℤ) (is : us ≡ table_of q) (i : Sound s a mains ck q) (marks : List Call)
@@ -62,7 +59,7 @@ module _ (s : List ℕ) (a : Agreement) (mains : List ℕ) (ck : checked s ≡ a
 
       end_table : last_table us marks ≡ table_of end
       unfolding end
-      end_table = last_table_lem s a mains ck q us marks is i h cs
+      end_table = (runs s a mains ck q us marks is i h cs).table
 
       end_forecast : f' ≡ shown (forecast_run a end)
       unfolding end
@@ -125,21 +122,18 @@ module _ (s : List ℕ) (a : Agreement) (mains : List ℕ) (ck : checked s ≡ a
           let x = found s a mains ck q us is i marks h cs before one later e in
           let two = marks_split a before (one ∷ later) (subst (AcceptedMarks a) e m) in
           let run = run_after a q (readings_in before) in
-          let open-still : IsBreach run.outcome
-          → ⊥ = λ ib. nb (subst Breached (sym x.table) (breach_state run ib)) in
-          let first : Stays a (breach_at t b) q = (
-            (λ ib. open-still (subst (λ r. IsBreach r.outcome)
-                (sym (frozen s a mains ck q (readings_in before) i ib)) ib)),
-            sym fe ∙ fe₂,
-          ) in
-          let st = until s a mains ck q (readings_in before) x.bytes.0 i
-          (run_marks q us before is i x.bytes.0 x.meets.0 two.0) (breach_at t b) first open-still in
-          let g = given s a mains ck t b run one.bytes x.inv st two.1.0
-          (sym x.number ∙ two.1.1) lt in
           let next = (step a run one.bytes).run in
+          -- before it nothing is breached
+          let still : IsBreach run.outcome → ⊥ = λ ib. nb (subst Breached (sym x.table) (breach_state run ib)) in
+          let at-first : IsBreach q.outcome → ⊥ = λ ib. still (subst (λ r. IsBreach r.outcome)
+          (sym (frozen s a mains ck q (readings_in before) i ib)) ib) in
+          let stays = until s a mains ck q (readings_in before) x.bytes.0 i
+          (run_marks q us before is i x.bytes.0 x.meets.0 two.0) (breach_at t b) (at-first, sym fe ∙ fe₂) still in
+          -- it gives the breach that was foretold, and after that nothing moves
+          let g = given s a mains ck t b run one.bytes x.inv stays two.1.0 (sym x.number ∙ two.1.1) lt in
           let ib : IsBreach next.outcome = subst (λ r. IsBreach r.outcome) (sym g.1) tt in
           let last : last_table us marks ≡ table_of next = ap (last_table us) e ∙ last_++ us before (one ∷ later)
-          ∙ last_table_lem s a mains ck next one.left later x.left x.next x.bytes.1 x.meets.1
+          ∙ (runs s a mains ck next one.left later x.left x.next x.bytes.1 x.meets.1).table
           ∙ ap table_of (frozen s a mains ck next (readings_in later) x.next ib) in (
             last ∙ ap table_of g.1 ∙ ap (breach_table (time_in one.bytes) (time_in one.bytes) t) g.2,
             fe' ∙ ap (forecast_of s) last ∙ forecast_shows s a mains ck next x.next
@@ -180,7 +174,6 @@ module _ (s : List ℕ) (a : Agreement) (mains : List ℕ) (ck : checked s ≡ a
 pub forecasts : ForecastClaim
 unfolding ForecastClaim
 forecasts s a mains us q r marks r' ck l e fe h cs m fe' =
-    let i = run_of_good a mains us q (is_fair s a mains ck) e in
-    let is : us ≡ table_of q = sym (table_back a mains us q e l) in
-    foretells s a mains ck q us is i marks h cs m (forecast_answer r)
-    (fe ∙ ap (forecast_of s) is ∙ forecast_shows s a mains ck q i) (forecast_answer r') fe'
+    let on = shows_run s a mains ck q us l e in
+    foretells s a mains ck q us on.0 on.1 marks h cs m (forecast_answer r)
+    (fe ∙ ap (forecast_of s) on.0 ∙ forecast_shows s a mains ck q on.1) (forecast_answer r') fe'

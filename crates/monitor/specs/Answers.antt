@@ -9,9 +9,9 @@ use Rattle.monitor.specs.declared.Refusal.TheVariants.{AgreementLength, Agreemen
 use Rattle.monitor.specs.declared.Refusal.TheVariants.{AgreementGuards, AgreementWidth, TableLength}
 use Rattle.monitor.specs.declared.Refusal.TheVariants.{TableContent, ReadingForm, ReadingTyping, ReadingTime}
 use Rattle.monitor.specs.declared.Refusal.TheVariants.{Units}
-use Rattle.monitor.specs.declared.Accepted.{Accepted}
+use Rattle.monitor.specs.declared.Taken.{Taken}
 use Rattle.monitor.specs.declared.Refused.{Refused}
-use Rattle.monitor.specs.declared.Breach.{Breach}
+use Rattle.monitor.specs.declared.BreachAhead.{BreachAhead}
 
 -- what each entry answers: the main clause's parties by bit; that a run has begun; of a reading whether it came too
 -- early and what it cost; the breach ahead, if there is one. Or a refusal, of a reading with its cost
@@ -21,11 +21,11 @@ Checked = Result ℕ Refusal
 abbrev pub Started : Type 0
 Started = Result (Unit {0}) Refusal
 
-abbrev pub Taken : Type 0
-Taken = Result Accepted Refused
+abbrev pub TakenOrRefused : Type 0
+TakenOrRefused = Result Taken Refused
 
 abbrev pub Foretold : Type 0
-Foretold = Result (Option Breach) Refusal
+Foretold = Result (Option BreachAhead) Refusal
 
 -- "Refusal table"
 abbrev pub number_of : Refusal → ℕ
@@ -52,7 +52,7 @@ start_answer (Ok begun) table = record { number = 0; table = table }
 start_answer (Err r) table = record { number = number_of r; table = table }
 
 -- a reading; paper 02, Nos. 8 and 9: with the mark "early", and what it costs
-abbrev pub taken_answer : Taken → List ℤ → ReadingAnswer
+abbrev pub taken_answer : TakenOrRefused → List ℤ → ReadingAnswer
 taken_answer (Ok a) table = record { number = 0; early = mark_of a.early; cost = a.cost; table = table }
 taken_answer (Err r) table = record { number = number_of r.why; early = 0; cost = r.cost; table = table }
 

@@ -1,12 +1,12 @@
 -- Calls of `reading` one after another on one lent table, as the entry's contract in src/lib.rt says them.
 use Rattle.std.specs.Prelude.{◌≡◌, List, [], ◌∷◌, ℕ, ℤ}
 use Rattle.csl.specs.Entries.{reading_of}
-use Rattle.monitor.specs.Answers.{Taken, taken_answer}
+use Rattle.monitor.specs.Answers.{TakenOrRefused, taken_answer}
 
 -- one call: the reading's bytes, the answer, and the table it left
 pub record Call : Type 0 where
   pub bytes : List ℕ
-  pub answer : Taken
+  pub answer : TakenOrRefused
   pub left : List ℤ
 
 -- each call meets the contract of `reading`, for agreement s and the table that the call before left

@@ -17,7 +17,7 @@ use Rattle.state.specs.declared.State.{State}
 use Rattle.monitor.specs.declared.Lent.{Lent}
 use Rattle.monitor.specs.declared.Refusal.{Refusal}
 use Rattle.monitor.specs.declared.Refusal.TheVariants.{ReadingForm, ReadingTyping}
-use Rattle.monitor.specs.Answers.{Taken, number_of, taken_answer, forecast_answer}
+use Rattle.monitor.specs.Answers.{TakenOrRefused, number_of, taken_answer, forecast_answer}
 
 -- ---- what is lent
 -- 1 and 2: the agreement in the bytes, which are sized and well formed
@@ -65,7 +65,7 @@ abbrev pub SomeReading : List ℕ → List ℤ → Reading → Type 0
 SomeReading s us r = (bytes : List ℕ) × Fitted s bytes us r
 
 -- the answer and the table `left` answer all bytes that are the reading r
-pub record ReadAs (s : List ℕ) (us : List ℤ) (r : Reading) (answer : Taken) (left : List ℤ) : Type 0 where
+pub record ReadAs (s : List ℕ) (us : List ℤ) (r : Reading) (answer : TakenOrRefused) (left : List ℤ) : Type 0 where
   pub is : (bytes : List ℕ) → Fitted s bytes us r → taken_answer answer left ≡ reading_of s us bytes
 
 -- some unit opens later than the reading, which it waits for

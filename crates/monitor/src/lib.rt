@@ -1,7 +1,7 @@
 // The public entries of paper 01. No entry relies on an earlier check.
 #![tactic(auto)]
 
-ghost use Rattle.std.specs.Prelude.{◌≡◌, length, drop, Ok};
+ghost use Rattle.std.specs.Prelude.{◌≡◌, ◌≤◌, length, take, drop, Ok};
 ghost use Rattle.csl.specs.Check.{Accepted as IsAccepted, check_of};
 ghost use Rattle.csl.specs.Entries.{start_of, reading_of, forecast_of};
 ghost use Rattle.monitor.specs.Answers.{number_of, check_answer, start_answer, taken_answer, forecast_answer};
@@ -62,9 +62,9 @@ impl From<Refusal> for u32 {
 }
 
 // A reading that is taken: `early` says that it came too early (nothing altered, and some unit waits for it and opens
-// later), `cost` what it cost.
+// later), which is a fact of it and no case of its own; `cost` what it cost.
 #[derive(Clone, Copy, Debug, PartialEq, Eq)]
-pub struct Accepted {
+pub struct Taken {
     pub early: bool,
     pub cost: usize,
 }
@@ -111,25 +111,28 @@ impl From<TooMany> for Refused {
     }
 }
 
-// A breach ahead: when, and by whom, by bit.
+// A breach ahead: when, and by whom, by bit. It is in numbers, as C takes it.
 #[derive(Clone, Copy, Debug, PartialEq, Eq)]
-pub struct Breach {
+pub struct BreachAhead {
     pub time: u64,
     pub parties: usize,
 }
 
-impl From<parties::Breach> for Breach {
-    ghost from_gives = { λ breach numbers. numbers ≡ record { time = breach.time; parties = breach.parties } };
+impl From<parties::Breach> for BreachAhead {
+    ghost use Rattle.std.specs.Prelude.{unsigned_abs};
 
-    fn from(breach: parties::Breach) -> Breach {
-        Breach {
-            time: breach.time as u64,
+    ghost from_gives = { λ breach ahead. ahead ≡ record { time = unsigned_abs breach.time; parties = breach.parties } };
+
+    fn from(breach: parties::Breach) -> BreachAhead {
+        BreachAhead {
+            time: breach.time.unsigned_abs(),
             parties: breach.parties.bits(),
         }
     }
 }
 
 // Refusals 1 and 2.
+#[tactic(auto, using(crate::proofs::Checks::forming))]
 fn read(bytes: &[u8]) -> Result<Agreement<'_>, Refusal>
     ensures { Read bytes.now result }
 {
@@ -140,6 +143,7 @@ fn read(bytes: &[u8]) -> Result<Agreement<'_>, Refusal>
 }
 
 // Refusals 1 to 5, each judged over the whole agreement before the next.
+#[tactic(auto, using(crate::proofs::Checks::verifying))]
 fn verify(bytes: &[u8]) -> Result<places::Accepted<'_>, Refusal>
     ensures { Verified bytes.now result }
 {
@@ -155,6 +159,7 @@ fn verify(bytes: &[u8]) -> Result<places::Accepted<'_>, Refusal>
 }
 
 // Checks an agreement of any bytes: the main clause's parties by bit, or why not.
+#[tactic(auto, using(crate::proofs::Checks::checking))]
 pub fn check(agreement: &[u8]) -> Result<usize, Refusal>
     ensures { check_answer result ≡ check_of agreement.now }
 {
@@ -162,6 +167,7 @@ pub fn check(agreement: &[u8]) -> Result<usize, Refusal>
 }
 
 // Start, for an accepted agreement and a table's cells. Nothing is in sight.
+#[tactic(auto, using(crate::proofs::Begins::beginning))]
 fn begin(agreement: &places::Accepted<'_>, table: &mut [i64; TABLE_CELLS]) -> Result<(), Refusal>
     requires { IsAccepted agreement.now }
     ensures { start_answer result table.new ≡ start_of agreement.now table.old }
@@ -174,6 +180,7 @@ fn begin(agreement: &places::Accepted<'_>, table: &mut [i64; TABLE_CELLS]) -> Re
 }
 
 // Starts a run of an agreement of any bytes; a refusal leaves the table.
+#[tactic(auto, using(crate::proofs::Opens::starting))]
 pub fn start(agreement: &[u8], table: &mut [i64]) -> Result<(), Refusal>
     ensures { start_answer result table.new ≡ start_of agreement.now table.old }
 {
@@ -191,6 +198,7 @@ struct Lent<'a> {
 }
 
 // Refusal 7; the sights are filled on the way.
+#[tactic(auto, using(crate::proofs::Opens::open_damaged))]
 fn open_run<'a>(
     agreement: places::Accepted<'a>,
     table: &[i64; TABLE_CELLS],
@@ -209,17 +217,20 @@ fn open_run<'a>(
 
 impl<'a> Lent<'a> {
     // So many units of the table.
+    #[tactic(auto, using(crate::proofs::Follows::lending))]
     fn units<'t>(&'t self, table: &'t [i64; TABLE_CELLS], used: usize) -> Units<'t>
-        ensures { (result.sights.now ≡ self.now.sights.now) × (result.cells.now ≡ drop 8 table.now) × (result.count ≡ used) }
+        requires { used ≤ length self.now.sights.now }
+        ensures { (result.sights.now ≡ take used self.now.sights.now) × (length result.sights.now ≡ used)
+            × (result.cells.now ≡ drop 8 table.now) }
     {
         Units {
-            sights: self.sights,
+            sights: &self.sights[..used],
             cells: &table[HEAD_CELLS..],
-            count: used,
         }
     }
 
     // Whether a reading that altered nothing came too early. No unit waits for a time mark.
+    #[tactic(auto, using(crate::proofs::Follows::asking))]
     fn came_early(&self, table: &[i64; TABLE_CELLS], used: usize, reading: &Reading) -> bool
         requires { Judged self.now.agreement self.now.sights.now table.now used reading.now }
         ensures { result ≡ some_later self.now.agreement used self.now.sights.now table.now reading.now }
@@ -232,8 +243,9 @@ impl<'a> Lent<'a> {
     }
 
     // A reading that fits and is not before the last. A breached run is left as it is; of a fulfilled one the last
-    // reading time moves.
-    fn follow(&self, table: &mut [i64; TABLE_CELLS], reading: &Reading) -> Result<Accepted, Refused>
+    // reading time moves. A time is a cell by `as`: `try_from` has a case that cannot occur.
+    #[tactic(auto, using(crate::proofs::Follows::stepping))]
+    fn follow(&self, table: &mut [i64; TABLE_CELLS], reading: &Reading) -> Result<Taken, Refused>
         requires opened { Opened self.now.agreement table.old self.now.sights.now self.now.state }
         requires some_reading { SomeReading self.now.agreement table.old reading.now }
         ensures { ReadAs self.now.agreement table.old reading.now result table.new }
@@ -249,19 +261,19 @@ impl<'a> Lent<'a> {
                     Event::Follow(reading),
                 )?;
                 let early = !wrote.altered && self.came_early(table, used, reading);
-                Ok(Accepted {
+                Ok(Taken {
                     early,
                     cost: wrote.cost,
                 })
             }
             State::Fulfilled => {
                 table[LAST_TIME] = reading.time as i64;
-                Ok(Accepted {
+                Ok(Taken {
                     early: false,
                     cost: 0,
                 })
             }
-            State::Breached(_) => Ok(Accepted {
+            State::Breached(_) => Ok(Taken {
                 early: false,
                 cost: 0,
             }),
@@ -269,7 +281,8 @@ impl<'a> Lent<'a> {
     }
 
     // A reading of any bytes.
-    fn read_on(&self, table: &mut [i64; TABLE_CELLS], bytes: &[u8]) -> Result<Accepted, Refused>
+    #[tactic(auto, using(crate::proofs::Follows::judging))]
+    fn read_on(&self, table: &mut [i64; TABLE_CELLS], bytes: &[u8]) -> Result<Taken, Refused>
         requires { Opened self.now.agreement table.old self.now.sights.now self.now.state }
         ensures { taken_answer result table.new ≡ reading_of self.now.agreement table.old bytes.now }
     {
@@ -281,7 +294,8 @@ impl<'a> Lent<'a> {
     }
 
     // The breach that a running run comes to without further readings. Nothing waits on, so nothing needs room.
-    fn breach_ahead(&self, table: &[i64; TABLE_CELLS], used: usize) -> Option<Breach>
+    #[tactic(auto, using(crate::proofs::Foretells::foreseeing))]
+    fn breach_ahead(&self, table: &[i64; TABLE_CELLS], used: usize) -> Option<BreachAhead>
         requires { Opened self.now.agreement table.now self.now.sights.now (State.Running used) }
         ensures { forecast_answer (Ok result) ≡ forecast_of self.now.agreement table.now }
     {
@@ -293,7 +307,8 @@ impl<'a> Lent<'a> {
         }
     }
 
-    fn foretell(&self, table: &[i64; TABLE_CELLS]) -> Option<Breach>
+    #[tactic(auto, using(crate::proofs::Foretells::foretelling))]
+    fn foretell(&self, table: &[i64; TABLE_CELLS]) -> Option<BreachAhead>
         requires { Opened self.now.agreement table.now self.now.sights.now self.now.state }
         ensures { forecast_answer (Ok result) ≡ forecast_of self.now.agreement table.now }
     {
@@ -306,7 +321,8 @@ impl<'a> Lent<'a> {
 }
 
 // Gives a run a reading, both of any bytes; a refusal leaves the table.
-pub fn reading(agreement: &[u8], table: &mut [i64], reading: &[u8]) -> Result<Accepted, Refused>
+#[tactic(auto, using(crate::proofs::Opens::taking))]
+pub fn reading(agreement: &[u8], table: &mut [i64], reading: &[u8]) -> Result<Taken, Refused>
     ensures { taken_answer result table.new ≡ reading_of agreement.now table.old reading.now }
 {
     let accepted = verify(agreement)?;
@@ -317,7 +333,8 @@ pub fn reading(agreement: &[u8], table: &mut [i64], reading: &[u8]) -> Result<Ac
 }
 
 // What a run comes to without further readings: the breach ahead, or none. The table is only read.
-pub fn forecast(agreement: &[u8], table: &[i64]) -> Result<Option<Breach>, Refusal>
+#[tactic(auto, using(crate::proofs::Opens::foretelling))]
+pub fn forecast(agreement: &[u8], table: &[i64]) -> Result<Option<BreachAhead>, Refusal>
     ensures { forecast_answer result ≡ forecast_of agreement.now table.now }
 {
     let agreement = verify(agreement)?;

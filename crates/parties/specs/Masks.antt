@@ -23,6 +23,7 @@ pub record ValidMembers (ps : List ℕ) : Type 0 where
 abbrev pub may_blame : ℕ → ℕ → ℕ → Bool
 may_blame parties params b = ltb b parties || (leb 128 b && ltb b (128 + params))
 
--- r is the union of a and b: it stands for the members of both
+-- r is the union of a and b: it stands for the members of both, and where both have 20 bits, so has it
 abbrev pub Union : ℕ → ℕ → ℕ → Type 0
-Union a b r = (r ≡ bit_or a b) × ((ps qs : List ℕ) → a ≡ mask_of ps → b ≡ mask_of qs → r ≡ mask_of (ps ++ qs))
+Union a b r = (r ≡ bit_or a b) × (a < mask_end → b < mask_end → r < mask_end)
+    × ((ps qs : List ℕ) → a ≡ mask_of ps → b ≡ mask_of qs → r ≡ mask_of (ps ++ qs))

@@ -1,11 +1,8 @@
-ghost use Rattle.std.specs.Prelude.{◌<◌, ◌^◌};
-
 use super::PartySet;
 
 // A breach: when, and by whom.
 #[derive(Clone, Copy, Debug, PartialEq, Eq)]
 pub struct Breach {
-    pub time: usize,
+    pub time: i64,
     pub parties: PartySet,
-    ghost held: { time < 2 ^ 63 },
 }

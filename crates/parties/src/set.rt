@@ -3,27 +3,24 @@ ghost use Rattle.std.specs.Int.Bits.{bit_or};
 ghost use Rattle.std.specs.Int.Count.{ones};
 ghost use Rattle.csl.specs.Lists.{all};
 ghost use Rattle.csl.specs.Parties.{member_count, members, bits_of};
-ghost use Rattle.parties.specs.Masks.{mask_of, mask_end, may_blame, ValidMembers, Union};
+ghost use Rattle.parties.specs.Masks.{mask_of, may_blame, ValidMembers, Union};
 
 use super::{PARAMS_FROM, PARTIES, bit};
 use std::marker::Model;
 use std::ops::{BitOr, BitOrAssign};
 
-// A set of parties by bit: bit n for party n, bit 16 + n for the party parameter n. Clauses see the bits.
+// A set of parties by bit: bit n for party n, bit 16 + n for the party parameter n. Clauses see the bits, any number.
 #[derive(Clone, Copy, Debug, PartialEq, Eq)]
 pub struct PartySet {
     bits: usize,
 }
 
 impl Model for PartySet {
-    ghost use Rattle.std.specs.Prelude.{ℕ, ◌<◌};
-    ghost use Rattle.parties.specs.Masks.{mask_end};
+    ghost use Rattle.std.specs.Prelude.{ℕ};
 
     ghost Value = { ℕ };
 
     ghost view = { λ a. a.bits };
-
-    ghost invariant = { λ a. a.bits < mask_end };
 
     ghost inverse = { λ n. record { bits = n } };
 }
@@ -47,7 +44,6 @@ impl PartySet {
     }
 
     pub fn of_bits(bits: usize) -> Self
-        requires { bits < mask_end }
         ensures { result ≡ bits }
     {
         PartySet { bits }
@@ -69,7 +65,7 @@ impl PartySet {
     }
 
     pub fn bits(self) -> usize
-        ensures { (result ≡ self) × (result < mask_end) }
+        ensures { result ≡ self }
     {
         self.bits
     }

@@ -195,8 +195,7 @@ module _ {A s types : List ℕ} {k from to : ℕ} (h : Accepted A) (l : k < byte
         let same = its_bytes b e in
         rw same (record {
           typed = record { depth = 22; at = body_typed l b h v };
-          fits = omega (arith, b.ordered, b.inside, length_part A from to b.inside);
-          short = accepted_short h;
+          fits = omega (arith, accepted_short h, b.ordered, b.inside, length_part A from to b.inside);
         })
 
     pub body_found : {out : List ℕ} {r : Maybe WaitKind} {place : ℕ} → DescentIs A from s place types out r
@@ -369,8 +368,7 @@ module _ {A : List ℕ} (x : Lists A) (place : ℕ) where
           let within = main_within x in
           rw (b, e) (record {
             typed = record { depth = 23; at = main_typed h refl z };
-            fits = omega (arith, length_part A (main_place A) (length A) (omega arith));
-            short = accepted_short h;
+            fits = omega (arith, accepted_short h, length_part A (main_place A) (length A) (omega arith));
           })
 
       pub main_found : {out : List ℕ} {r : Maybe WaitKind} → m ≤ place → DescentIs A m s place types out r

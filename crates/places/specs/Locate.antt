@@ -1,5 +1,5 @@
 -- What the search for a clause at a byte place answers.
-use Rattle.std.specs.Prelude.{◌≡◌, List, ℕ, ◌+◌, ◌-◌, ◌≤◌, T, length, Option as Maybe, Some, None}
+use Rattle.std.specs.Prelude.{◌≡◌, List, ℕ, ◌+◌, ◌-◌, ◌^◌, ◌≤◌, ◌<◌, T, length, Option as Maybe, Some, None}
 use Rattle.std.proofs.Math.Option.{Option, none, some}
 use Rattle.csl.specs.Bytes.{part}
 use Rattle.csl.specs.Lists.{or_nil}
@@ -62,8 +62,7 @@ seen_in a types wanted = then_sight (tys_of types) (or_nil (reading_of_type (agr
 -- s is a clause of the agreement that stands at p, typed under the type bytes
 pub record Stands (a : List ℕ) (p : ℕ) (s types : List ℕ) : Type 0 where
   pub typed : Typed a p s (tys_of types)
-  pub fits : p + length s ≤ length a
-  pub short : length a ≤ 16_384
+  pub fits : p + length s < 2 ^ 64
 
 -- ---- one step down: not in this clause, this clause, or only in the clause from x up to e, with the types `out` in
 -- sight there

@@ -4,7 +4,6 @@
 mod accepted;
 
 ghost use Rattle.std.specs.Prelude.{◌≡◌, Some, List, ℕ, ◌+◌, ◌^◌, ◌≤◌, ◌<◌, length};
-ghost use Rattle.csl.specs.Bytes as bytes;
 ghost use Rattle.csl.specs.Bytes.{kind_number};
 ghost use Rattle.csl.specs.Check as check;
 ghost use Rattle.csl.specs.Decode.{tys_of, agreement_of};
@@ -15,7 +14,7 @@ pub use accepted::Accepted;
 use arrayvec::ArrayVec;
 use kinds::{Type, WaitKind};
 use octets::{byte, kind, record_end};
-use records::{Agreement, IN_SIGHT, first_clause};
+use records::{Agreement, IN_SIGHT, Template, first_clause, sides_at};
 
 // The waiting clause at a place: how it waits, how many party parameters it has, and the types in sight.
 #[derive(Drop)]
@@ -32,138 +31,121 @@ enum Step {
     Into { from: usize, to: usize },
 }
 
-// What `then` sees: the reading's values, and behind them the remaining time.
-fn then_sight(agreement: &Agreement<'_>, wanted: usize, sight: &mut ArrayVec<u8, IN_SIGHT>)
-    requires { SeesIn agreement.now sight.old.items wanted }
-    ensures { tys_of sight.new.items ≡ seen_in agreement.now sight.old.items wanted }
-{
-    let types = agreement.reading_types(wanted - 1);
-    sight.try_extend_from_slice(types).unwrap();
-    sight.push(usize::from(Type::Number) as u8);
-}
-
-// What a step takes stays apart: `s` and `base` are new at each step and the sight is lent, so a struct of them would
-// be made anew each time.
-// One step towards the place, from an obligation s that stands at `base`. (Three functions and not one: an obligation
-// has no else, and a clause with two sides neither waits nor lets its first side see more.)
-fn from_obligation(
-    agreement: &Agreement<'_>,
-    s: &[u8],
-    base: usize,
+// The search for the clause at a place of an agreement. (The sight is lent beside it, since it changes on the way, and
+// the record and its place are new at each step: what `Stands` asks is of the step, and no value goes on with it.)
+#[derive(Clone, Copy)]
+struct Search<'a> {
+    agreement: &'a Agreement<'a>,
     place: usize,
-    sight: &mut ArrayVec<u8, IN_SIGHT>,
-) -> Step
-    requires stands { Stands agreement.now base s.now sight.old.items }
-    requires is_obligation { kind_number s.now ≡ 17 }
-    ensures { StepIs agreement.now base s.now place sight.old.items sight.new.items (Some result) }
-{
-    if place == base {
-        return Step::Here(WaitKind::Obligation);
-    }
-    let c = first_clause(s, 17);
-    then_sight(agreement, byte(s, 5), sight);
-    Step::Into {
-        from: c,
-        to: s.len(),
-    }
 }
 
-// The same from a choice.
-fn from_choice(
-    agreement: &Agreement<'_>,
-    s: &[u8],
-    base: usize,
-    place: usize,
-    sight: &mut ArrayVec<u8, IN_SIGHT>,
-) -> Step
-    requires stands { Stands agreement.now base s.now sight.old.items }
-    requires is_choice { kind_number s.now ≡ 18 }
-    ensures { StepIs agreement.now base s.now place sight.old.items sight.new.items (Some result) }
-{
-    if place == base {
-        return Step::Here(WaitKind::Choice);
+impl Search<'_> {
+    // What `then` sees: the reading's values, and behind them the remaining time.
+    fn then_sight(&self, wanted: usize, sight: &mut ArrayVec<u8, IN_SIGHT>)
+        requires { SeesIn self.now.agreement.now sight.old.items wanted }
+        ensures { tys_of sight.new.items ≡ seen_in self.now.agreement.now sight.old.items wanted }
+    {
+        let types = self.agreement.reading_types(wanted - 1);
+        // types stand as the format's bytes, as in the agreement
+        sight.try_extend_from_slice(types).unwrap();
+        sight.push(usize::from(Type::Number) as u8);
     }
-    let c = first_clause(s, 18);
-    let f = record_end(s, c);
-    if place < base + f {
-        then_sight(agreement, byte(s, 4), sight);
-        return Step::Into { from: c, to: f };
-    }
-    Step::Into {
-        from: f,
-        to: s.len(),
-    }
-}
 
-// The same from a clause of kind 19 to 21, whose sides see what it sees.
-fn from_sides(s: &[u8], kind: usize, base: usize, place: usize) -> Step
-    requires { (4 ≤ length s.now) × (kind ≡ kind_number s.now) × (19 ≤ kind) × (kind < 22) × (base + length s.now < 2 ^ 64) }
-    ensures { (a types : List ℕ) → StepIs a base s.now place types types (Some result) }
-{
-    let c = first_clause(s, kind);
-    let f = record_end(s, c);
-    if place < base + f {
-        return Step::Into { from: c, to: f };
+    // One step towards the place, from an obligation s that stands at `base`. (Three functions and not one: an
+    // obligation has no else, and a clause with two sides neither waits nor lets its first side see more.)
+    fn from_obligation(&self, s: &[u8], base: usize, sight: &mut ArrayVec<u8, IN_SIGHT>) -> Step
+        requires stands { Stands self.now.agreement.now base s.now sight.old.items }
+        requires is_obligation { kind_number s.now ≡ 17 }
+        ensures { StepIs self.now.agreement.now base s.now self.now.place sight.old.items sight.new.items (Some result) }
+    {
+        if self.place == base {
+            return Step::Here(WaitKind::Obligation);
+        }
+        let c = first_clause(s, 17);
+        self.then_sight(byte(s, 5), sight);
+        Step::Into {
+            from: c,
+            to: s.len(),
+        }
     }
-    Step::Into {
-        from: f,
-        to: s.len(),
-    }
-}
 
-// The same from any clause; one that has no clause parts and does not wait has no step.
-fn step_down(
-    agreement: &Agreement<'_>,
-    s: &[u8],
-    base: usize,
-    place: usize,
-    sight: &mut ArrayVec<u8, IN_SIGHT>,
-) -> Option<Step>
-    requires { Stands agreement.now base s.now sight.old.items }
-    ensures { StepIs agreement.now base s.now place sight.old.items sight.new.items result }
-{
-    let k = kind(s);
-    match k {
-        17 => Some(from_obligation(agreement, s, base, place, sight)),
-        18 => Some(from_choice(agreement, s, base, place, sight)),
-        19..=21 => Some(from_sides(s, k, base, place)),
-        _ => None,
+    // The same from a choice.
+    fn from_choice(&self, s: &[u8], base: usize, sight: &mut ArrayVec<u8, IN_SIGHT>) -> Step
+        requires stands { Stands self.now.agreement.now base s.now sight.old.items }
+        requires is_choice { kind_number s.now ≡ 18 }
+        ensures { StepIs self.now.agreement.now base s.now self.now.place sight.old.items sight.new.items (Some result) }
+    {
+        if self.place == base {
+            return Step::Here(WaitKind::Choice);
+        }
+        let (c, f) = sides_at(s, 18);
+        if self.place < base + f {
+            self.then_sight(byte(s, 4), sight);
+            return Step::Into { from: c, to: f };
+        }
+        Step::Into {
+            from: f,
+            to: s.len(),
+        }
     }
-}
 
-// The waiting clause at the place, in the clause s that stands at `base`: how it waits. The sight becomes its own.
-fn descend(
-    agreement: &Agreement<'_>,
-    s: &[u8],
-    base: usize,
-    place: usize,
-    sight: &mut ArrayVec<u8, IN_SIGHT>,
-) -> Option<WaitKind>
-    requires { Stands agreement.now base s.now sight.old.items }
-    ensures { DescentIs agreement.now base s.now place sight.old.items sight.new.items result }
-{
-    match step_down(agreement, s, base, place, sight)? {
-        Step::Here(wait) => Some(wait),
-        Step::Into { from, to } => {
-            let part = &s[from..to];
-            descend(agreement, part, base + from, place, sight)
+    // The same from a clause of kind 19 to 21, whose sides see what it sees.
+    fn from_sides(&self, s: &[u8], kind: usize, base: usize) -> Step
+        requires { (4 ≤ length s.now) × (kind ≡ kind_number s.now) × (19 ≤ kind) × (kind < 22) × (base + length s.now < 2 ^ 64) }
+        ensures { (a types : List ℕ) → StepIs a base s.now self.now.place types types (Some result) }
+    {
+        let (c, f) = sides_at(s, kind);
+        if self.place < base + f {
+            return Step::Into { from: c, to: f };
+        }
+        Step::Into {
+            from: f,
+            to: s.len(),
+        }
+    }
+
+    // The same from any clause; one that has no clause parts and does not wait has no step. (A record's kind is decided
+    // by its number: a rule of the project.)
+    fn step_down(&self, s: &[u8], base: usize, sight: &mut ArrayVec<u8, IN_SIGHT>) -> Option<Step>
+        requires { Stands self.now.agreement.now base s.now sight.old.items }
+        ensures { StepIs self.now.agreement.now base s.now self.now.place sight.old.items sight.new.items result }
+    {
+        let k = kind(s);
+        match k {
+            17 => Some(self.from_obligation(s, base, sight)),
+            18 => Some(self.from_choice(s, base, sight)),
+            19..=21 => Some(self.from_sides(s, k, base)),
+            _ => None,
+        }
+    }
+
+    // The waiting clause at the place, in the clause s that stands at `base`: how it waits. The sight becomes its own.
+    fn descend(&self, s: &[u8], base: usize, sight: &mut ArrayVec<u8, IN_SIGHT>) -> Option<WaitKind>
+        requires { Stands self.now.agreement.now base s.now sight.old.items }
+        ensures { DescentIs self.now.agreement.now base s.now self.now.place sight.old.items sight.new.items result }
+    {
+        match self.step_down(s, base, sight)? {
+            Step::Here(wait) => Some(wait),
+            Step::Into { from, to } => {
+                let part = &s[from..to];
+                self.descend(part, base + from, sight)
+            }
         }
     }
 }
 
-// The same in the body of template k.
-fn in_template(agreement: &Agreement<'_>, k: usize, place: usize) -> Option<Located>
-    requires { (k < bytes.byte agreement.now 10) × check.Accepted agreement.now }
-    ensures { Locates (in_template agreement.now k place) result }
+// The same in the template's body.
+fn in_template(template: &Template<'_>, place: usize) -> Option<Located>
+    requires { check.Accepted template.now.agreement.now }
+    ensures { Locates (in_template template.now.agreement.now template.now.number place) result }
 {
-    let types = agreement.value_types(k);
-    let mut sight = ArrayVec::try_from(types).unwrap();
-    let body = agreement.body_span(k);
-    let s = agreement.body(k);
-    let wait = descend(agreement, s, body.from, place, &mut sight)?;
+    let mut sight = ArrayVec::try_from(template.value_types()).unwrap();
+    let agreement = template.agreement;
+    let base = template.body_span().start;
+    let wait = Search { agreement, place }.descend(template.body(), base, &mut sight)?;
     Some(Located {
         wait,
-        params: agreement.param_count(k),
+        params: template.param_count(),
         sight,
     })
 }
@@ -176,7 +158,7 @@ pub fn locate(agreement: &Agreement<'_>, place: usize) -> Option<Located>
     let m = agreement.main_place();
     if m <= place {
         let mut sight = ArrayVec::new();
-        let wait = descend(agreement, agreement.main(), m, place, &mut sight)?;
+        let wait = Search { agreement, place }.descend(agreement.main(), m, &mut sight)?;
         return Some(Located {
             wait,
             params: 0,
@@ -185,6 +167,7 @@ pub fn locate(agreement: &Agreement<'_>, place: usize) -> Option<Located>
     }
     let bytes = agreement.bytes();
     let n = agreement.template_count();
-    let k = (0..n).find(|&k| place < record_end(bytes, agreement.template_place(k)))?;
-    in_template(agreement, k, place)
+    // by `template_place`: in a closure nothing says that there is such a template
+    let number = (0..n).find(|&k| place < record_end(bytes, agreement.template_place(k)))?;
+    in_template(&Template { agreement, number }, place)
 }

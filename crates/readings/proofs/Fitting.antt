@@ -2,6 +2,7 @@
 use mathlib.Core.Path.{◌≡◌, refl, sym, ap, ◌∙◌}
 use mathlib.Core.Bool.{Bool, true, false, ◌&&◌}
 use mathlib.Core.List.{List, []}
+use mathlib.Core.Logic.{◌⊎◌, inl, inr}
 use mathlib.Core.Option.{none, some}
 use Prim.Native.Nat.{ℕ, zero, suc, ◌-◌, ◌<◌}
 use native.Mathlib.Omega.{arith}
@@ -11,8 +12,9 @@ use lib.IntN.{ℤ}
 use lib.ListN.{length}
 use Rattle.std.specs.Prelude.{Option, Some, None, Ok}
 use Rattle.std.specs.Option.{ok_or}
+use Rattle.std.specs.Bool.{then_some}
 use Rattle.readings.specs.declared.Misfit.{Misfit}
-use Rattle.arith.proofs.Ints.{some_bits}
+use Rattle.readings.specs.declared.Misfit.TheVariants.{Untyped}
 use Rattle.csl.specs.Lists.{◌>>=◌, at}
 use Rattle.csl.specs.Bytes.{byte}
 use Rattle.csl.specs.Syntax.{Ty, Agreement}
@@ -28,6 +30,7 @@ use Rattle.records.specs.Index.{ReadingTypes}
 use Rattle.records.proofs.Index.{readings_past}
 use Rattle.readings.specs.declared.reading.Reading.{Reading as Read}
 use Rattle.readings.specs.Taking.{given, RawRead, RawIs, TypedIs, UntypedRead, FittingRead}
+use Rattle.readings.specs.Taking.{TakenIs}
 use Rattle.readings.proofs.Options.{given_some, given_none, given_then}
 use Rattle.records.specs.TypedValues.{values_ok}
 use Rattle.readings.proofs.Values.{all_given, values_cells}
@@ -87,16 +90,21 @@ typed_mark s vs {k} e = record {
 }
 
 -- ---- "type over the reading count"
-pub typed_past : (s : List ℕ) (vs : List ℤ) {k b : ℕ} → b ≡ byte s 9 → b < k → TypedIs s k vs false
+typed_past : (s : List ℕ) (vs : List ℤ) {k b : ℕ} → b ≡ byte s 9 → b < k → TypedIs s k vs false
 typed_past s vs {k} p l = record {
   is = λ w h q. typed_none (agreement_of s) w
       (rw (← h) (wanted_at (agreement_of s) k (omega arith) ∙ readings_past s (k - 1) (omega arith)));
 }
 
+-- no values are wanted, and it is no mark
+pub typed_unwanted : (s : List ℕ) (vs : List ℤ) {k : ℕ} → (k ≡ 0) ⊎ (byte s 9 < k) → (k ≡ 0 → ⊥) → TypedIs s k vs false
+typed_unwanted s vs (inl e) f = absurd (f e)
+typed_unwanted s vs (inr l) f = typed_past s vs refl l
+
 -- ---- the reading type's types are ts, the values vs
-module _ {s : List ℕ} {k : ℕ} {ts : List ℕ} (f : k ≡ 0 → ⊥) (x : ReadingTypes s (k - 1) ts) (vs : List ℤ) where
+module _ {s : List ℕ} {k : ℕ} {ts : List ℕ} (l : 0 < k) (x : ReadingTypes s (k - 1) ts) (vs : List ℤ) where
   wanted : (w : run.Raw) → k ≡ w.type → values_wanted (agreement_of s) w.type ≡ some (tys_of ts)
-  wanted w h = rw (← h) (wanted_at (agreement_of s) k (some_bits f) ∙ x.typed)
+  wanted w h = rw (← h) (wanted_at (agreement_of s) k l ∙ x.typed)
 
   -- "wrong value count"
   pub typed_count : (length ts ≡ length vs → ⊥) → TypedIs s k vs false
@@ -131,14 +139,14 @@ module _ {s bytes : List ℕ} {r : Read} {u : Bool} (x : RawRead bytes r) (y : T
   told : u ≡ given (typed_reading (agreement_of s) x.raw)
   told = y.is x.raw x.type x.numbers
 
-  pub gives_untyped : u ≡ false → UntypedRead s bytes
+  gives_untyped : u ≡ false → UntypedRead s bytes
   gives_untyped e = record {
     raw = x.raw;
     is = x.is;
     untyped = given_none (typed_reading (agreement_of s) x.raw) (sym told ∙ e);
   }
 
-  pub gives_fitting : u ≡ true → FittingRead s bytes r
+  gives_fitting : u ≡ true → FittingRead s bytes r
   gives_fitting e = given_some (typed_reading (agreement_of s) x.raw) (sym told ∙ e) λ d h.
       let q = typed_kept (agreement_of s) x.raw d h in
       record {
@@ -153,3 +161,10 @@ module _ {s bytes : List ℕ} {r : Read} {u : Bool} (x : RawRead bytes r) (y : T
         few = x.few;
         small = x.small;
       }
+
+  pub gives : TakenIs s bytes (ok_or (then_some u r) Untyped)
+  gives = go u refl
+    where
+      go : (b : Bool) → u ≡ b → TakenIs s bytes (ok_or (then_some b r) Untyped)
+      go true e = gives_fitting e
+      go false e = gives_untyped e

@@ -16,7 +16,9 @@ use Rattle.csl.specs.Run as run
 use Rattle.csl.specs.Run.{raw_reading, numbers_from}
 use Rattle.laws.proofs.Bools.{both_true, T→true, true→T, refused}
 use Rattle.readings.specs.declared.reading.Reading.{Reading as Read}
-use Rattle.readings.specs.Taking.{given, RawRead}
+use Rattle.std.specs.Prelude.{Option, Some}
+use Rattle.std.specs.Bool.{then_some}
+use Rattle.readings.specs.Taking.{given, CountIs, RawRead}
 use Rattle.readings.proofs.Options.{given_none, given_needs, some_needs}
 
 -- ---- the bytes are a reading, but that its values may be cut short
@@ -54,17 +56,26 @@ module _ (s : List ℕ) where
         short = leb→le (length s) 25 h₄;
       }
 
-  pub raw_no : (Holds s → ⊥) → false ≡ given (raw_reading s)
-  raw_no f = refused (given (raw_reading s)) λ t. f (holds (T→true _ t))
+  pub raw_no : (Holds s → ⊥) → given (raw_reading s) ≡ false
+  raw_no f = sym (refused (given (raw_reading s)) λ t. f (holds (T→true _ t)))
 
-  pub raw_last : Holds s → eqb ((length s - 9) % 4) 0 ≡ given (raw_reading s)
+  -- what the last test says is whether they are a reading
+  raw_last : Holds s → given (raw_reading s) ≡ eqb ((length s - 9) % 4) 0
   unfolding between
-  raw_last h = sym (tests ∙ rw (
+  raw_last h = tests ∙ rw (
     h.is_one,
     eq-eqb (kind_number s) 64 h.kind,
     le-leb 9 (length s) h.long,
     le-leb (length s) 25 h.short,
-  ) refl)
+  ) refl
+
+  pub raw_count : Holds s → {o : Option ℕ} → o ≡ then_some (eqb ((length s - 9) % 4) 0) ((length s - 9) / 4)
+      → CountIs s o
+  raw_count h p = rw p (go (eqb ((length s - 9) % 4) 0) (raw_last h))
+    where
+      go : (b : Bool) → given (raw_reading s) ≡ b → CountIs s (then_some b ((length s - 9) / 4))
+      go true q = (q, refl, omega (arith, h.short))
+      go false q = q
 
 -- ---- its numbers
 numbers_length : (n : ℕ) (s : List ℕ) (i : ℕ) → length (numbers_from n s i) ≡ n
@@ -92,25 +103,19 @@ pub numbers_none : (s : List ℕ) → [] ≡ numbers_from 0 s 9
 unfolding numbers_from
 numbers_none s = refl
 
--- ---- u is what the code was told
-pub raw_bad : (s : List ℕ) {u : Bool} → u ≡ given (raw_reading s) → u ≡ false → raw_reading s ≡ none
-raw_bad s e f = given_none (raw_reading s) (sym e ∙ f)
+-- ---- n is how many there are
+pub raw_bad : (s : List ℕ) → given (raw_reading s) ≡ false → raw_reading s ≡ none
+raw_bad s e = given_none (raw_reading s) e
 
-pub raw_long : (s : List ℕ) {u : Bool} → u ≡ given (raw_reading s) → u ≡ true → Holds s
-raw_long s e f = holds s (sym e ∙ f)
-
-pub raw_read : (s : List ℕ) (r : Read) {u : Bool} {n : ℕ} → u ≡ given (raw_reading s) → u ≡ true
-    → n ≡ (length s - 9) / 4 → r.values.items ≡ numbers_from n s 9 → r.time ≡ le32 s 4 → r.time < 4_294_967_296
-    → r.tag ≡ byte s 8 → RawRead s r
+pub raw_read : (s : List ℕ) (r : Read) {n : ℕ} → CountIs s (Some n) → r.values.items ≡ numbers_from n s 9
+    → r.time ≡ le32 s 4 → r.time < 4_294_967_296 → r.tag ≡ byte s 8 → RawRead s r
 unfolding raw_reading
-raw_read s r {u} {n} e f p q g l h =
-    let y = sym e ∙ f in
-    record {
-      raw = raw_of s;
-      is = some_needs (is_kind s) (in_length s) (raw_of s) y;
-      time = g;
-      type = h;
-      numbers = q ∙ ap (λ i. numbers_from i s 9) p;
-      few = omega (arith, numbers_room n s q, (holds s y).short);
-      small = l;
-    }
+raw_read s r {n} y q g l h = record {
+  raw = raw_of s;
+  is = some_needs (is_kind s) (in_length s) (raw_of s) y.0;
+  time = g;
+  type = h;
+  numbers = q ∙ ap (λ i. numbers_from i s 9) y.1;
+  few = omega (arith, numbers_room n s q, y.2);
+  small = l;
+}

@@ -1,6 +1,7 @@
 -- What the code answers for a reading's bytes, by csl's functions. The cases exclude one another, so each answer is
 -- given just where its case holds.
-use Rattle.std.specs.Prelude.{◌≡◌, Bool, true, false, List, ℕ, ◌≤◌, ◌<◌, ℤ, length, Option, Some, None, Result, Ok, Err}
+use Rattle.std.specs.Prelude.{◌≡◌, Bool, true, false, List, ℕ, ◌≤◌, ◌<◌, ◌-◌, ◌/◌, ℤ, length, Option, Some, None}
+use Rattle.std.specs.Prelude.{Result, Ok, Err}
 use Rattle.std.proofs.Math.Option.{Option as Math, none, some}
 use Rattle.csl.specs.Decode.{agreement_of}
 use Rattle.csl.specs.Rules.{Reading}
@@ -17,6 +18,11 @@ given none = false
 given (some a) = true
 
 -- ---- refusal 8
+-- the bytes are a reading of so many values
+abbrev pub CountIs : List ℕ → Option ℕ → Type 0
+CountIs bytes None = given (raw_reading bytes) ≡ false
+CountIs bytes (Some n) = (given (raw_reading bytes) ≡ true) × (n ≡ (length bytes - 9) / 4) × (n ≤ 4)
+
 -- the bytes are the reading r
 pub record RawRead (bytes : List ℕ) (r : Read) : Type 0 where
   pub raw : run.Raw

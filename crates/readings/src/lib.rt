@@ -5,7 +5,7 @@ mod reading;
 
 ghost use Rattle.std.specs.Prelude.{◌≡◌, ◌≤◌};
 ghost use Rattle.csl.specs.Run.{raw_reading, numbers_from};
-ghost use Rattle.readings.specs.Taking.{given, RawIs, TypedIs, TakenIs};
+ghost use Rattle.readings.specs.Taking.{CountIs, RawIs, TypedIs, TakenIs};
 
 use arrayvec::ArrayVec;
 use octets::{byte, is_record, kind, signed32, unsigned32};
@@ -25,18 +25,20 @@ const SHORTEST: usize = 9;
 
 const LONGEST: usize = 25;
 
-// The bytes are a record of kind 64 with 0 to 4 values.
-fn is_reading(bytes: &[u8]) -> bool
-    ensures { result ≡ given (raw_reading bytes.now) }
+// How many values the bytes have, where they are a record of kind 64 with 0 to 4.
+fn value_count(bytes: &[u8]) -> Option<usize>
+    ensures { CountIs bytes.now result }
 {
     match bytes.len() {
-        n @ SHORTEST..=LONGEST if is_record(bytes) && kind(bytes) == 64 => (n - SHORTEST) % 4 == 0,
-        _ => false,
+        n @ SHORTEST..=LONGEST if is_record(bytes) && kind(bytes) == 64 => {
+            ((n - SHORTEST) % 4 == 0).then_some((n - SHORTEST) / 4)
+        }
+        _ => None,
     }
 }
 
-// The n numbers of a reading, by number, as the definition reads them at their places: of `chunks_exact` each would be
-// read at place 0 of a part.
+// The n numbers of a reading. (No plainer by `chunks_exact`: the bytes behind byte 9 are to be cut off first, and each
+// number is then read at place 0 of a part, which the definition reads at its place.)
 fn read_numbers(bytes: &[u8], n: usize) -> ArrayVec<i64, MOST_VALUES>
     requires { n ≤ 4 }
     ensures { result.items ≡ numbers_from n bytes.now 9 }
@@ -52,10 +54,7 @@ fn read_numbers(bytes: &[u8], n: usize) -> ArrayVec<i64, MOST_VALUES>
 fn raw_reading(bytes: &[u8]) -> Option<Reading>
     ensures { RawIs bytes.now result }
 {
-    if !is_reading(bytes) {
-        return None;
-    }
-    let n = (bytes.len() - 9) / 4;
+    let n = value_count(bytes)?;
     Some(Reading {
         time: unsigned32(bytes, 4),
         tag: byte(bytes, 8),
@@ -68,13 +67,11 @@ fn is_typed(agreement: &Agreement<'_>, reading: &Reading) -> bool
     ensures { TypedIs agreement.now reading.now.tag reading.now.values.items result }
 {
     let values = reading.values.as_slice();
-    if reading.tag == 0 {
-        values.len() == 0
-    } else if agreement.reading_count() < reading.tag {
-        false
-    } else {
-        let types = agreement.reading_types(reading.tag - 1);
-        types.len() == values.len() && values_ok(types, values, agreement.parties())
+    match agreement.types_wanted(reading.tag) {
+        Some(types) => {
+            types.len() == values.len() && values_ok(types, values, agreement.parties())
+        }
+        None => reading.tag == 0 && values.len() == 0,
     }
 }
 
@@ -83,8 +80,7 @@ pub fn take(agreement: &Agreement<'_>, bytes: &[u8]) -> Result<Reading, Misfit>
     ensures { TakenIs agreement.now bytes.now result }
 {
     let reading = raw_reading(bytes).ok_or(Misfit::Malformed)?;
-    if !is_typed(agreement, &reading) {
-        return Err(Misfit::Untyped);
-    }
-    Ok(reading)
+    is_typed(agreement, &reading)
+        .then_some(reading)
+        .ok_or(Misfit::Untyped)
 }

@@ -258,7 +258,7 @@ pub spans : {s : List ℕ} {k a n h e : ℕ} → Lists s × (k < byte s 10) → 
 unfolding body_place
 spans x p q m o = rw (o, m, q, p) (body_there x)
 
--- from and to are what `body_span` gave
+-- from and to are the ends of what `body_span` gave
 module _ {s : List ℕ} {k from to : ℕ} (b : Spans s k from to) where
   pub body_is : (hs : List Head) → body_of hs (template_piece s k) ≡ clause hs 22 from (part s from to)
   unfolding body_of

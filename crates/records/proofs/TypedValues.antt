@@ -5,7 +5,7 @@ use mathlib.Core.List.{List, [], ◌∷◌}
 use mathlib.Core.Logic.{inl, inr}
 use Prim.Native.Nat.{ℕ, zero, suc, ◌≤◌}
 use native.Mathlib.Omega.{arith}
-use borrow.Author.Tests.{lt-leb, le-ltb, ne_eqb}
+use borrow.Author.Tests.{lt-leb, le-leb, le-ltb, ne_eqb}
 use lib.Dec.{ltb}
 use lib.IntN.{ℤ, pos, negsuc, nat_abs}
 use lib.ListN.{length}
@@ -14,12 +14,12 @@ use mir.Val.{SFits}
 use Rattle.std.specs.Int.{FitsUnsignedBits}
 use Rattle.std.specs.List.{list_all, zip}
 use Rattle.std.specs.Prelude.{Result, Ok, Err, MatchResult}
-use Rattle.std.specs.Result.{result_unwrap_or, OkIff}
+use Rattle.std.specs.Result.{is_ok, result_unwrap_or, OkIff}
 use Rattle.kinds.specs.declared.«Type».{«Type»}
 use Rattle.kinds.specs.declared.«Type».TheVariants.{Number, Truth, Party}
 use Rattle.kinds.specs.declared.Unknown.{Unknown}
 use Rattle.csl.specs.Syntax.{truth, party}
-use Rattle.csl.specs.Decode.{ty_of, tys_of}
+use Rattle.csl.specs.Decode.{between, is_type, ty_of, tys_of}
 use Rattle.kinds.specs.Kinds.{ty_in, NamesType}
 use Rattle.records.specs.TypedValues.{value_ok, values_ok}
 
@@ -31,6 +31,14 @@ type_named n (Ok Truth) e = rw (← e)
 type_named n (Ok Party) e = rw (← e)
 type_named n (Err u) (inl l) = rw (ne_eqb n 1 (λ q. omega arith), ne_eqb n 2 (λ q. omega arith))
 type_named n (Err u) (inr l) = rw (ne_eqb n 1 (λ q. omega arith), ne_eqb n 2 (λ q. omega arith))
+
+pub type_found : (n : ℕ) (r : Result «Type» Unknown) → NamesType n r → is_ok r ≡ is_type n
+unfolding is_type between
+type_found n (Ok Number) e = rw (← e) refl
+type_found n (Ok Truth) e = rw (← e) refl
+type_found n (Ok Party) e = rw (← e) refl
+type_found n (Err u) (inl l) = rw (lt-leb 1 n l) refl
+type_found n (Err u) (inr l) = rw (le-leb 1 n (omega arith), lt-leb n 3 l) refl
 
 -- ---- the cast r of an i64 fails below 0 only; P says what is told of b where it does not
 pub cast_below : {E : Type 0} {P : ℕ → Type 0} (b : Bool) (end : ℕ) (r : Result ℕ E) (z : ℤ) → SFits w64 z

@@ -1,23 +1,24 @@
 // The parts of an agreement: where its records stand, and what the heads of its templates say.
 #![tactic(auto)]
 
+mod template;
 pub mod values;
 
 ghost use Rattle.std.specs.Prelude.{◌≡◌, true, false, ◌&&◌, ℕ, ◌+◌, ◌≤◌, ◌<◌, min, eqb, length};
-ghost use Rattle.std.specs.Prelude.{MatchOption};
+ghost use Rattle.std.specs.Prelude.{MatchOption, ◌⊎◌, ◌-◌};
 ghost use Rattle.std.specs.Fn.{FnReturnsAt};
 ghost use Rattle.csl.specs.Lists.{all};
 ghost use Rattle.csl.specs.Bytes as bytes;
-ghost use Rattle.csl.specs.Bytes.{kind_number, le32};
+ghost use Rattle.csl.specs.Bytes.{kind_number, le32, record_end};
 ghost use Rattle.csl.specs.Decode as decode;
 ghost use Rattle.csl.specs.Decode.{wait_end, main_place, between, is_type, reading_type_ok, template_ok, counts_ok};
 ghost use Rattle.csl.specs.Decode.{listed};
-ghost use Rattle.records.specs.Index.{Lists, reading_place, template_place, head_at, value_count, declared_bits};
-ghost use Rattle.records.specs.Index.{Spans, ReadingTypes, ValueTypes, body_bytes, main_bytes, first_clause};
+ghost use Rattle.records.specs.Index.{Lists, reading_place, template_place, ReadingTypes, main_bytes, first_clause};
 ghost use Rattle.records.specs.Index.{Placed, SomeFails};
 
 use octets::{byte, is_record, kind, record_end, unsigned16, unsigned32};
 use std::marker::Model;
+pub use template::Template;
 
 // The byte place of an agreement's start time.
 pub const START_AT: usize = 4;
@@ -49,13 +50,6 @@ pub const IN_SIGHT: usize = 16;
 // Where the first reading type begins.
 const READINGS_FROM: usize = 11;
 
-// Where a template's body begins and ends.
-#[derive(Clone, Copy, Debug, PartialEq, Eq)]
-pub struct Span {
-    pub from: usize,
-    pub to: usize,
-}
-
 // Where `within` ends, the wanted reading type standing at i.
 pub fn wait_end(s: &[u8], i: usize) -> usize
     requires { i ≤ 5 }
@@ -67,8 +61,8 @@ pub fn wait_end(s: &[u8], i: usize) -> usize
 }
 
 // Where the first clause part of a clause of kind 17 to 21 begins. (A record's kind is decided by its number: a rule of
-// the project.)
-fn clause_part(s: &[u8], kind: usize) -> usize
+// the project. That the record is whole is asked by itself: a type for it would be made anew at each step of a walk.)
+pub fn first_clause(s: &[u8], kind: usize) -> usize
     requires { 4 ≤ length s.now }
     ensures { (result ≡ first_clause kind s.now) × (result ≤ length s.now) × (4 ≤ result) }
 {
@@ -80,17 +74,19 @@ fn clause_part(s: &[u8], kind: usize) -> usize
     }
 }
 
-// The same, asked of a slice made for it: a walker whose own slice is lent to no function keeps it in registers.
-pub fn first_clause(s: &[u8], kind: usize) -> usize
+// Where the two clauses within a clause of kind 18 to 21 begin.
+pub fn sides_at(s: &[u8], kind: usize) -> (usize, usize)
     requires { 4 ≤ length s.now }
-    ensures { (result ≡ first_clause kind s.now) × (result ≤ length s.now) × (4 ≤ result) }
+    ensures first { (result.0 ≡ first_clause kind s.now) × (4 ≤ result.0) × (result.0 ≤ result.1) }
+    ensures second { (result.1 ≡ record_end s.now result.0) × (result.1 ≤ length s.now) }
 {
-    clause_part(&s[0..], kind)
+    let first = first_clause(s, kind);
+    (first, record_end(s, first))
 }
 
 // An agreement whose counts, reading types and templates' heads are as listed, with the places where its reading types,
 // its templates and its main clause begin. Clauses see its bytes. (Each method ensures `Lists` too: callers know the
-// value alone, and learn of the invariant what a clause says.)
+// value alone, and learn of the invariant what a clause says. Places and not slices: a table names clauses by place.)
 #[derive(Drop)]
 pub struct Agreement<'a> {
     bytes: &'a [u8],
@@ -164,7 +160,8 @@ impl<'a> Agreement<'a> {
         byte(self.bytes, TEMPLATES_AT)
     }
 
-    // Where reading type k + 1, template k and the main clause begin.
+    // Where reading type k + 1, template k and the main clause begin. (Through a reference to the places: an index into
+    // the field asks, before the invariant is known, that the place's offset in it fits.)
     pub fn reading_place(&self, k: usize) -> usize
         requires { k < bytes.byte self.now 9 }
         ensures { (result ≡ reading_place self.now k) × (result ≤ length self.now) × Lists self.now }
@@ -192,75 +189,26 @@ impl<'a> Agreement<'a> {
         requires { k < bytes.byte self.now 9 }
         ensures { ReadingTypes self.now k result.now × Lists self.now }
     {
-        let bytes = self.bytes;
         let a = self.reading_place(k);
-        let e = record_end(bytes, a);
-        &bytes[a + 5..e]
-    }
-
-    // The head of template k: how many values and party parameters it has, and its declared parties by bit.
-    pub fn value_count(&self, k: usize) -> usize
-        requires { k < bytes.byte self.now 10 }
-        ensures { (result ≡ value_count self.now k) × (result ≡ length (head_at self.now k).values) × (result ≤ 8) × Lists self.now }
-    {
-        byte(self.bytes, self.template_place(k) + 4)
-    }
-
-    pub fn value_types(&self, k: usize) -> &'a [u8]
-        requires { k < bytes.byte self.now 10 }
-        ensures { ValueTypes self.now k result.now × Lists self.now }
-    {
-        let bytes = self.bytes;
-        let a = self.template_place(k) + 5;
-        let n = self.value_count(k);
-        &bytes[a..a + n]
-    }
-
-    pub fn param_count(&self, k: usize) -> usize
-        requires { k < bytes.byte self.now 10 }
-        ensures { (result ≡ (head_at self.now k).params) × (result ≤ 4) × Lists self.now }
-    {
-        let n = self.value_count(k);
-        byte(self.bytes, self.template_place(k) + (5 + n))
-    }
-
-    pub fn declared_bits(&self, k: usize) -> usize
-        requires { k < bytes.byte self.now 10 }
-        ensures { (result ≡ declared_bits self.now k) × (result < 65_536) × Lists self.now }
-    {
-        let n = self.value_count(k);
-        unsigned16(self.bytes, self.template_place(k) + (6 + n))
-    }
-
-    // Where the body of template k stands.
-    pub fn body_span(&self, k: usize) -> Span
-        requires { k < bytes.byte self.now 10 }
-        ensures { Spans self.now k result.from result.to × Lists self.now }
-    {
-        let a = self.template_place(k);
-        let n = self.value_count(k);
         let e = record_end(self.bytes, a);
-        Span {
-            from: a + head_size(n),
-            to: e,
-        }
+        &self.bytes[a + 5..e]
     }
 
-    pub fn body(&self, k: usize) -> &'a [u8]
-        requires { k < bytes.byte self.now 10 }
-        ensures { (result.now ≡ body_bytes self.now k) × Lists self.now }
+    // The same of the reading type that a clause or a reading names by its tag: `reading types [count] from 1`.
+    pub fn types_wanted(&self, tag: usize) -> Option<&'a [u8]>
+        ensures { MatchOption result ((tag ≡ 0) ⊎ (bytes.byte self.now 9 < tag)) (λ types. (0 < tag) × ReadingTypes self.now (tag - 1) types.now) }
     {
-        let bytes = self.bytes;
-        let body = self.body_span(k);
-        &bytes[body.from..body.to]
+        if 0 < tag && tag <= self.reading_count() {
+            Some(self.reading_types(tag - 1))
+        } else {
+            None
+        }
     }
 
     pub fn main(&self) -> &'a [u8]
         ensures { (result.now ≡ main_bytes self.now) × Lists self.now }
     {
-        let bytes = self.bytes;
-        let main = self.main_place();
-        &bytes[main..]
+        &self.bytes[self.main_place()..]
     }
 }
 
@@ -288,7 +236,7 @@ pub fn sized(agreement: &[u8]) -> bool
 fn types_ok(types: &[u8]) -> bool
     ensures { result ≡ all is_type types.now }
 {
-    types.iter().all(|&t| 1 <= t && t <= 3)
+    types.iter().all(|&t| values::is_type(t))
 }
 
 fn reading_ok(piece: &[u8]) -> bool

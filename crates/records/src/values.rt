@@ -1,12 +1,18 @@
 // Values of a type, which a byte names.
 ghost use Rattle.std.specs.Prelude.{◌≡◌, ◌≤◌, length};
 ghost use Rattle.csl.specs.Syntax.{party};
-ghost use Rattle.csl.specs.Decode.{ty_of, tys_of};
+ghost use Rattle.csl.specs.Decode.{is_type, ty_of, tys_of};
 ghost use Rattle.kinds.specs.Kinds.{ty_in};
 ghost use Rattle.records.specs.TypedValues.{value_ok, values_ok};
 
 use arith::in_range;
 use kinds::Type;
+
+pub(crate) fn is_type(byte: u8) -> bool
+    ensures { result ≡ is_type byte }
+{
+    Type::try_from(usize::from(byte)).is_ok()
+}
 
 // The type that a type byte names. A byte that names none reads as a party's, as the definition reads it.
 pub fn type_of(byte: u8) -> Type

@@ -9,19 +9,22 @@ use mir.Syntax.{w64}
 use mir.Val.{to_z}
 use mir.ValLaws.{to_z_pos}
 use lib.IntN.{ℤ, pos}
-use lib.ListN.{length, take, drop, length-drop}
+use lib.ListN.{length, take, drop, length-drop, length-take}
 use lib.Seq.{take_all}
 use Rattle.std.specs.Prelude.{Ok, Err}
 use Rattle.cells.specs.Reduce as cells
 use Rattle.cells.specs.Across.{nat_of}
+use Rattle.cells.specs.Sights.{flat}
 use Rattle.cells.specs.declared.Sight.{Sight}
 use Rattle.bridge.proofs.Tables.{units_in}
 use Rattle.bridge.proofs.Refusals.{answer}
 use Rattle.bridge.proofs.Entries.{kept_cells}
-use Rattle.residues.specs.Reduces.{Is, units_of}
+use Rattle.residues.specs.Reduces.{Is, units_of, bits_in}
 use Rattle.residues.specs.Tallies.{Reckons}
 use Rattle.waits.specs.Fates.{mode_at}
 use Rattle.walk.specs.Tree.{Tree, tree_reckoned}
+use Rattle.walk.proofs.Trees.{tree_only, tree_long, tree_taken, taken_reckoned}
+use Rattle.reduction.proofs.Few.{reduce_few, outcome_few, answer_few}
 use Rattle.settling.specs.Settles.{Settles}
 use Rattle.residues.specs.declared.Reduced.{Reduced}
 use Rattle.residues.specs.declared.Reckoned.{Reckoned}
@@ -90,8 +93,18 @@ due_by Forecast U f d = d
 due_by (Follow r) U f d = d
 
 module _ {s : List ℕ} {sights : List Sight} {us : List ℤ} {n time : ℕ} {e : Event} (d : Due s sights us n time e) where
-  pub units_due : length us ≡ 3080 → OnUnits e → Tree (length s) sights (take 3072 (drop 8 us)) n
-  units_due l f = let u = due_by e (UnitsDue s sights us n e) f d.units in rw (behind_head us l) u.tree
+  -- the units, with as many sights
+  abbrev sighted : List Sight
+  sighted = take n sights
+
+  tree : OnUnits e → Tree (length s) sights (drop 8 us) n
+  tree f = (due_by e (UnitsDue s sights us n e) f d.units).tree
+
+  pub long : OnUnits e → length sighted ≡ n
+  long f = omega (arith, length-take n sights, tree_long (tree f))
+
+  pub units_due : length us ≡ 3080 → OnUnits e → Tree (length s) sighted (take 3072 (drop 8 us)) (length sighted)
+  units_due l f = rw (behind_head us l, long f) (tree_taken (tree f))
 
   module _ (x : Reckoned) (out : List ℤ) where
     pub reckoned_main : e ≡ Activate → Reckons (main_reckoned s) x out → Reckons (reckoned s sights us n e) x out
@@ -100,13 +113,37 @@ module _ {s : List ℕ} {sights : List Sight} {us : List ℤ} {n time : ℕ} {e 
         (tree_reckoned (mode_at e) s n sights (drop 8 us))) x out) (sym f) i
 
     pub reckoned_units : length us ≡ 3080 → OnUnits e
-        → Reckons (tree_reckoned (mode_at e) s n sights (take 3072 (drop 8 us))) x out
+        → Reckons (tree_reckoned (mode_at e) s (length sighted) sighted (take 3072 (drop 8 us))) x out
         → Reckons (reckoned s sights us n e) x out
     unfolding reckoned
     reckoned_units l f i = subst (λ y. Reckons y x out)
-        (ap (tree_reckoned (mode_at e) s n sights) (behind_head us l) ∙ sym (by_units e (main_reckoned s) _ f)) i
+        (ap (tree_reckoned (mode_at e) s (length sighted) sighted) (behind_head us l)
+        ∙ ap (λ k. tree_reckoned (mode_at e) s k sighted (drop 8 us)) (long f)
+        ∙ taken_reckoned (tree f) (mode_at e) s ∙ sym (by_units e (main_reckoned s) _ f)) i
+
+  module _ (r : Reduced) (out : List ℤ) where
+    main_few : Is (main_reckoned s).outcome r out → bits_in r < 65_536
+    unfolding main_reckoned
+    main_few i = answer_few (main_reckoned s).outcome r out (reduce_few cells.activating _ _ _ _ _) i
+
+    units_few : UnitsDue s sights us n e → Is (tree_reckoned (mode_at e) s n sights (drop 8 us)).outcome r out
+        → bits_in r < 65_536
+    units_few u i = answer_few u.given.outcome r out (outcome_few (mode_at e) s n (flat sights) (drop 8 us) u.one)
+        (subst (λ x. Is x.outcome r out) (tree_only u.one) i)
+
+    bits_few : (k : Event) → DueBy k (UnitsDue s sights us n e)
+        → Is (reckoned_by k (main_reckoned s) (tree_reckoned (mode_at e) s n sights (drop 8 us))).outcome r out
+        → bits_in r < 65_536
+    bits_few Activate u i = main_few i
+    bits_few Forecast u i = units_few u i
+    bits_few (Follow f) u i = units_few u i
 
   module _ (r : Reduced) (out : List ℤ) (i : Is (reduced s sights us n e) r out) where
+    -- what `settle` asks of the answer
+    pub reduced_few : bits_in r < 65_536
+    unfolding reckoned
+    reduced_few = bits_few r out e d.units i
+
     pub tried_none : {room : ℕ} {short : Short} → short.cost ≡ counted_cost s sights us n e
         → short.units ≡ units_of r → room < 24 * short.units → NoRoom s sights us n e room us short
     tried_none ec eu h = record {

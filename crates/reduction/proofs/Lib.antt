@@ -1,3 +1,4 @@
 pub mod Advances
+pub mod Few
 pub mod Main
 pub mod Tabled

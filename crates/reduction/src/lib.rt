@@ -5,16 +5,16 @@ ghost use Rattle.std.specs.Prelude.{ℕ, ◌≡◌, ◌≤◌, length};
 ghost use Rattle.residues.specs.Tallies.{Reckons};
 ghost use Rattle.reduction.specs.Steps.{room_length, main_reckoned, Due, reckoned, Advances, Tried};
 
-use activation::{Clause, Placed, Site, activate};
-use cells::{HEAD_CELLS, MOST_UNITS, Sight, TABLE_CELLS, UNIT_CELLS};
-use records::{Agreement, MAIN_DEPTH};
+use activation::{Placed, activate};
+use cells::{HEAD_CELLS, MOST_UNITS, Sight, TABLE_CELLS, UNIT_CELLS, Values};
+use records::Agreement;
 use residues::{Reckoned, units_of};
 use settling::settle;
 use waits::Event;
 use walk::{Units, across};
 
 // Room for as many units as a table has.
-const ROOM: usize = MOST_UNITS * UNIT_CELLS;
+const ALL_ROOM: usize = MOST_UNITS * UNIT_CELLS;
 
 // A residue is first tried in room for so few units: to clear more room costs more than most readings do.
 const FEW_UNITS: usize = 16;
@@ -29,7 +29,7 @@ struct Short {
     cost: usize,
 }
 
-// A step that is written: whether a unit or the state altered, and what it costs.
+// A step that is written: whether a unit or the state altered, a fact of it and no case of its own, and what it costs.
 #[derive(Clone, Copy, Debug, PartialEq, Eq)]
 pub struct Wrote {
     pub altered: bool,
@@ -42,7 +42,7 @@ pub struct TooMany {
     pub cost: usize,
 }
 
-// What is tried in too little room and not tried anew.
+// A try in too little room that is the last one.
 impl From<Short> for TooMany {
     ghost from_gives = { λ short many. many ≡ record { cost = short.cost } };
 
@@ -53,24 +53,19 @@ impl From<Short> for TooMany {
 
 // The main clause activated at the start time; a residue grows downward from the end of out.
 fn activate_main(agreement: &Agreement<'_>, out: &mut [i64]) -> Reckoned
-    requires { (length agreement.now ≤ 16_384) × (length out.old ≤ room_length) }
+    requires { length agreement.now ≤ 16_384 }
     ensures { Reckons (main_reckoned agreement.now) result out.new }
 {
-    let site = Site {
-        below: agreement.template_count(),
-        place: agreement.main_place(),
-        a: agreement.start(),
-        depth: MAIN_DEPTH,
-    };
-    let clause = Clause {
+    let none = Values { cells: &[] };
+    let main = Placed::new(
         agreement,
-        site,
-        bytes: agreement.main(),
-        params: &[],
-        values: &[],
-    };
-    let placed = Placed { clause };
-    activate(Event::Activate, &placed, out)
+        agreement.main_place(),
+        agreement.start(),
+        agreement.main(),
+        &[],
+        none,
+    );
+    activate(Event::Activate, &main, out)
 }
 
 // What an event makes of the main clause, at the start, or of a table's units; a residue stands at the end of out.
@@ -82,22 +77,21 @@ fn reduce(
     event: Event<'_>,
     out: &mut [i64],
 ) -> Reckoned
-    requires { ((time : ℕ) × Due agreement.now sights.now table.now used time event) × (length out.old ≤ room_length) }
+    requires { (time : ℕ) × Due agreement.now sights.now table.now used time event }
     ensures { Reckons (reckoned agreement.now sights.now table.now used event.entry) result out.new }
 {
     if let Event::Activate = event {
         return activate_main(agreement, out);
     }
     let units = Units {
-        sights,
+        sights: &sights[..used],
         cells: &table[HEAD_CELLS..],
-        count: used,
     };
     across(agreement, event, units, out)
 }
 
-// The table is written where the residue's units have room in ROOM cells.
-fn advance_in<const ROOM: usize>(
+// The table is written where the residue's units have room in CELLS cells.
+fn advance_in<const CELLS: usize>(
     agreement: &Agreement<'_>,
     sights: &[Sight],
     table: &mut [i64; TABLE_CELLS],
@@ -105,21 +99,22 @@ fn advance_in<const ROOM: usize>(
     time: usize,
     event: Event<'_>,
 ) -> Result<Wrote, Short>
-    requires { Due agreement.now sights.now table.old used time event × (ROOM ≤ room_length) }
-    ensures { Tried agreement.now sights.now table.old used time event.entry ROOM table.new result }
+    requires { Due agreement.now sights.now table.old used time event × (CELLS ≤ room_length) }
+    ensures { Tried agreement.now sights.now table.old used time event.entry CELLS table.new result }
 {
-    let mut out = [0i64; ROOM];
+    let mut out = [0i64; CELLS];
     let x = reduce(agreement, sights, table, used, event, &mut out);
     let cost = x.tally.total();
     let units = units_of(x.outcome);
-    if UNIT_CELLS * units > ROOM {
+    if UNIT_CELLS * units > CELLS {
         return Err(Short { units, cost });
     }
     let altered = settle(table, used, time as i64, x.outcome, &out);
     Ok(Wrote { altered, cost })
 }
 
-// The table that an event leads to is written, and dated by the time, where it has few enough units.
+// The table that an event leads to is written, and dated by the time, where it has few enough units. (What says the
+// step goes on as it is: a struct of it would hold three things at one lifetime, to be lent again at each call.)
 pub fn advance(
     agreement: &Agreement<'_>,
     sights: &[Sight],
@@ -138,5 +133,5 @@ pub fn advance(
             Err(_) => {}
         }
     }
-    Ok(advance_in::<ROOM>(agreement, sights, table, used, time, event)?)
+    Ok(advance_in::<ALL_ROOM>(agreement, sights, table, used, time, event)?)
 }

@@ -10,8 +10,8 @@ use borrow.Fn.Kinds.{Dens, ended_of}
 use denote.Triple.Clauses.{AtExit}
 use Rattle.csl.specs.Check.{check_of}
 use Rattle.csl.specs.Entries.{forecast_of, reading_of, start_of}
-use Rattle.monitor.specs.Answers.{Checked, Foretold, Started, Taken, check_answer, forecast_answer, start_answer}
-use Rattle.monitor.specs.Answers.{taken_answer}
+use Rattle.monitor.specs.Answers.{Checked, Foretold, Started, TakenOrRefused, check_answer, forecast_answer}
+use Rattle.monitor.specs.Answers.{start_answer, taken_answer}
 use Rattle.givuntha.specs.Numbers.{forecast_numbers}
 use Rattle.givuntha.proofs.Apart.{apart}
 use Rattle.monitor.proofs.Calls.{forecast_call, reading_call, start_call}
@@ -34,7 +34,7 @@ starts : (κs : Lfts 2) (given : Dens {n = 2} κs start-kinds.ps) (r : Started)
     → start.Post κs given r left → start_answer r left.1.0.now ≡ start_of given.0.now given.1.0.now
 starts = start_call
 
-reads : (κs : Lfts 3) (given : Dens {n = 3} κs reading-kinds.ps) (r : Taken)
+reads : (κs : Lfts 3) (given : Dens {n = 3} κs reading-kinds.ps) (r : TakenOrRefused)
     (left : AtExit (ended_of 3 reading-kinds.ps reading-kinds.r) κs)
     → reading.Post κs given r left
     → taken_answer r left.1.0.now ≡ reading_of given.0.now given.1.0.now given.1.1.0.now

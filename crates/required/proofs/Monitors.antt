@@ -8,8 +8,8 @@ use lib.ListN.{get_or, set}
 use Rattle.csl.specs.Bytes.{le32}
 use Rattle.csl.specs.Check.{CheckAnswer, check_of}
 use Rattle.csl.specs.Entries.{Answer, ReadingAnswer, Forecast, forecast_of, reading_of, refused_forecast, start_of}
-use Rattle.monitor.specs.Answers.{Checked, Foretold, Started, Taken, check_answer, forecast_answer, start_answer}
-use Rattle.monitor.specs.Answers.{taken_answer}
+use Rattle.monitor.specs.Answers.{Checked, Foretold, Started, TakenOrRefused, check_answer, forecast_answer}
+use Rattle.monitor.specs.Answers.{start_answer, taken_answer}
 use Rattle.monitor.proofs.Apart.{checked_by, started_by, taken_by, foretold_by, check_told, start_told, reading_told}
 use Rattle.monitor.proofs.Apart.{forecast_told}
 use Rattle.monitor.proofs.WrongMonitors.{refuses_all_lem, eleven_at_once, invented_units}
@@ -59,7 +59,7 @@ checks_apart = check_told
 starts_apart : (r : Started) (table : List ℤ) → started_by (start_answer r table) ≡ r
 starts_apart = start_told
 
-readings_apart : (r : Taken) (table : List ℤ) → taken_by (taken_answer r table) ≡ r
+readings_apart : (r : TakenOrRefused) (table : List ℤ) → taken_by (taken_answer r table) ≡ r
 readings_apart = reading_told
 
 forecasts_apart : (r : Foretold) → foretold_by (forecast_answer r) ≡ r

@@ -1,5 +1,5 @@
 -- What the code's answer says of the rules on cells.
-use Rattle.std.specs.Prelude.{◌≡◌, List, ℕ, ◌-◌, ◌*◌, ◌≤◌, min, ℤ, length, take, drop}
+use Rattle.std.specs.Prelude.{◌≡◌, List, ℕ, ◌-◌, ◌*◌, ◌≤◌, min, ℤ, pos, length, take, drop}
 use Rattle.csl.specs.Syntax.{Join}
 use Rattle.cells.specs.Reduce as cells
 use Rattle.parties.specs.declared.breach.Breach.{Breach as Broken}
@@ -11,12 +11,12 @@ use Rattle.cells.specs.Reduce.{breach}
 abbrev pub farthest : ℕ
 farthest = 200_000_000_000_000
 
--- the residue's cells stand at the end of `out`, where they fit; their units are counted up to 129
+-- the residue's cells stand at the end of `out`, where a table holds them and they fit; the units are counted up to 129
 pub record Stands (cs : List ℤ) (n : ℕ) (out : List ℤ) : Type 0 where
   pub units : ℕ
   pub size : length cs ≡ 24 * units
   pub count : n ≡ min units 129
-  pub wrote : length cs ≤ length out → drop (length out - length cs) out ≡ cs
+  pub wrote : units ≤ 128 → length cs ≤ length out → drop (length out - length cs) out ≡ cs
 
 -- the answer r, with what stands in `out`, is what the rules on cells give
 unfoldable pub Is : cells.Reduced → Reduced → List ℤ → Type 0
@@ -24,7 +24,7 @@ Is cells.done Done out = Unit {0}
 Is cells.done (Breach b) out = ⊥
 Is cells.done (Running n) out = ⊥
 Is (cells.breach u c) Done out = ⊥
-Is (cells.breach u c) (Breach b) out = (b.time ≡ u) × (b.parties ≡ c)
+Is (cells.breach u c) (Breach b) out = (b.time ≡ pos u) × (b.parties ≡ c)
 Is (cells.breach u c) (Running n) out = ⊥
 Is (cells.running cs) Done out = ⊥
 Is (cells.running cs) (Breach b) out = ⊥
@@ -45,12 +45,19 @@ pub record Sides (left right : cells.Reduced) (l r : Reduced) (out : List ℤ) :
 pub record JoinIs (j : Join) (l r : Reduced) (before : List ℤ) (a : Reduced) (written : List ℤ) : Type 0 where
   pub is : (left right : cells.Reduced) → Sides left right l r before → Is (cells.joined j left right) a written
 
--- a is what f makes of the breaches l and r
-abbrev pub BreachIs : (ℕ → ℕ → ℕ → ℕ → cells.Reduced) → Broken → Broken → Broken → Type 0
-BreachIs f l r a = f l.time l.parties r.time r.parties ≡ cells.breach a.time a.parties
+-- the same of two breaches, by their times
+pub record BreachIs (f : ℕ → ℕ → ℕ → ℕ → cells.Reduced) (l r a : Broken) : Type 0 where
+  pub is : (x y : ℕ) → l.time ≡ pos x → r.time ≡ pos y → (out : List ℤ)
+      → Is (f x l.parties y r.parties) (Breach a) out
 
 -- ---- the units of a residue, as an answer counts them
 abbrev pub units_of : Reduced → ℕ
 units_of Done = 0
 units_of (Breach b) = 0
 units_of (Running n) = n
+
+-- a breach's parties by bit
+abbrev pub bits_in : Reduced → ℕ
+bits_in Done = 0
+bits_in (Breach b) = b.parties
+bits_in (Running n) = 0

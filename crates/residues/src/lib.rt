@@ -10,7 +10,7 @@ ghost use Rattle.cells.specs.Reduce.{unit_of, running, earlier, later};
 ghost use Rattle.kinds.specs.Kinds.{join_in};
 ghost use Rattle.residues.specs.Reduces.{Is, farthest, room_left, JoinIs, BreachIs, units_of};
 
-use cells::{FIRST_PARAM, FIRST_VALUE, UNIT_CELLS};
+use cells::{FIRST_PARAM, FIRST_VALUE, MOST_UNITS, UNIT_CELLS, Values};
 use kinds::Join;
 use parties::Breach;
 use std::cmp::Ordering;
@@ -24,7 +24,8 @@ pub enum Reduced {
 }
 
 // What is counted of a clause: whether it is fulfilled as soon as it is activated, the clauses activated with it, and
-// those that a reading activates beyond them. Both numbers are counted up to the most that a reading costs.
+// those that a reading activates beyond them. Both numbers are counted up to the most that a reading costs. (`once`
+// is a fact beside the counts, no case of an enum.)
 #[derive(Clone, Copy, Debug, PartialEq, Eq)]
 pub struct Tally {
     pub once: bool,
@@ -49,30 +50,38 @@ pub fn fill(dst: &mut [i64], src: &[i64])
     dst[..src.len()].copy_from_slice(src);
 }
 
-// A unit's 24 cells.
-fn write_unit(unit: &mut [i64], sort: usize, place: usize, a: usize, params: &[i64], values: &[i64])
-    requires { (length unit.old ≡ 24) × (sort ≤ farthest) × (place ≤ farthest) × (a ≤ farthest)
-        × (length params.now ≤ 5) × (length values.now ≤ 16) }
-    ensures { unit.new ≡ unit_of sort place a params.now values.now }
+// A unit's 24 cells. (A slice, as a part of `out` is: to be an array it would need an `unwrap`. Cells are i64 in the C
+// interface, and what is counted or found is a usize.)
+fn write_unit(
+    unit: &mut [i64],
+    sort: usize,
+    place: usize,
+    a: usize,
+    params: &[i64],
+    values: Values<'_>,
+)
+    requires { (length unit.old ≡ 24) × (sort ≤ farthest) × (place ≤ farthest) × (a ≤ farthest) × (length params.now ≤ 5) }
+    ensures { unit.new ≡ unit_of sort place a params.now values.entry.cells.now }
 {
     unit[0] = sort as i64;
     unit[1] = place as i64;
     unit[2] = a as i64;
     fill(&mut unit[FIRST_PARAM..FIRST_VALUE], params);
-    fill(&mut unit[FIRST_VALUE..UNIT_CELLS], values);
+    fill(&mut unit[FIRST_VALUE..UNIT_CELLS], values.cells);
 }
 
-// A waiting unit, at the end of out where there is room.
+// A waiting unit, at the end of out where there is room. (Its sort is the format's number: a rule of the project has
+// kinds as numbers, and a WaitKind would ask more of callers.)
 pub fn put_unit(
     out: &mut [i64],
     sort: usize,
     place: usize,
     a: usize,
     params: &[i64],
-    values: &[i64],
+    values: Values<'_>,
 ) -> Reduced
-    requires { (sort ≤ farthest) × (place ≤ farthest) × (a ≤ farthest) × (length params.now ≤ 5) × (length values.now ≤ 16) }
-    ensures { Is (running (unit_of sort place a params.now values.now)) result out.new }
+    requires { (sort ≤ farthest) × (place ≤ farthest) × (a ≤ farthest) × (length params.now ≤ 5) }
+    ensures { Is (running (unit_of sort place a params.now values.entry.cells.now)) result out.new }
 {
     if out.len() >= UNIT_CELLS {
         let from = out.len() - UNIT_CELLS;
@@ -117,24 +126,23 @@ fn later_breach(l: Breach, r: Breach) -> Breach
 const COUNTED: usize = 129;
 
 // Two residues of n and m units, one below the other at the end of out, become one: the join's unit goes below both
-// where there is room.
-fn put_join(kind: Join, n: usize, m: usize, out: &mut [i64]) -> Reduced
-    requires { length out.old ≤ 3072 }
-    ensures { JoinIs (join_in kind) (Reduced.Running n) (Reduced.Running m) out.old result out.new }
+// where there is room, and they are no more than a table holds.
+fn put_join(join: Join, n: usize, m: usize, out: &mut [i64]) -> Reduced
+    ensures { JoinIs (join_in join) (Reduced.Running n) (Reduced.Running m) out.old result out.new }
 {
     let units = n.saturating_add(m).saturating_add(1);
     let cells = UNIT_CELLS.saturating_mul(units);
-    if cells > out.len() {
+    let room = out.len().min(UNIT_CELLS * MOST_UNITS);
+    if cells > room {
         return Reduced::Running(units.min(COUNTED));
     }
     let from = out.len() - cells;
-    let head = [usize::from(kind) as i64; 1];
+    let head = [usize::from(join) as i64; 1];
     fill(&mut out[from..from + UNIT_CELLS], &head);
     Reduced::Running(units)
 }
 
 fn join_both(l: Reduced, r: Reduced, out: &mut [i64]) -> Reduced
-    requires { length out.old ≤ 3072 }
     ensures { JoinIs and l r out.old result out.new }
 {
     match (l, r) {
@@ -148,7 +156,6 @@ fn join_both(l: Reduced, r: Reduced, out: &mut [i64]) -> Reduced
 }
 
 fn join_either(l: Reduced, r: Reduced, out: &mut [i64]) -> Reduced
-    requires { length out.old ≤ 3072 }
     ensures { JoinIs or l r out.old result out.new }
 {
     match (l, r) {
@@ -162,11 +169,10 @@ fn join_either(l: Reduced, r: Reduced, out: &mut [i64]) -> Reduced
 }
 
 // The answer for an `and` or `or` from its sides' answers.
-pub fn join(kind: Join, l: Reduced, r: Reduced, out: &mut [i64]) -> Reduced
-    requires { length out.old ≤ 3072 }
-    ensures { JoinIs (join_in kind) l r out.old result out.new }
+pub fn join(join: Join, l: Reduced, r: Reduced, out: &mut [i64]) -> Reduced
+    ensures { JoinIs (join_in join) l r out.old result out.new }
 {
-    match kind {
+    match join {
         Join::And => join_both(l, r, out),
         Join::Or => join_either(l, r, out),
     }

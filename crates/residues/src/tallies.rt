@@ -101,20 +101,20 @@ impl Tally {
     }
 }
 
-fn both_at_once(kind: Join, l: bool, r: bool) -> bool
-    ensures { result ≡ both_at_once (join_in kind) l r }
+fn both_at_once(join: Join, l: bool, r: bool) -> bool
+    ensures { result ≡ both_at_once (join_in join) l r }
 {
-    match kind {
+    match join {
         Join::And => l && r,
         Join::Or => l || r,
     }
 }
 
 // The two sides of a join and the join itself.
-pub fn join_tallies(kind: Join, l: Tally, r: Tally) -> Tally
-    ensures { JoinTallies (join_in kind) l r result }
+pub fn join_tallies(join: Join, l: Tally, r: Tally) -> Tally
+    ensures { JoinTallies (join_in join) l r result }
 {
-    let once = both_at_once(kind, l.once, r.once);
+    let once = both_at_once(join, l.once, r.once);
     let activated = (1 + l.activated + r.activated).min(MOST_COUNTED);
     let further = (l.further + r.further).min(MOST_COUNTED);
     Tally {

@@ -40,9 +40,10 @@ module _ (now used : ℕ) (out before : List ℤ) {time : ℤ} (is-now : time �
       → left ≡ padded 3080 (ended time (Some b)) → Settles now used r out before left true
   unfolding alters
   settled_breach left b e f = rw e (record {
-    wrote = λ x h. f ∙ breach_table_lem b.time b.parties
-        ∙ ap (stepped_table now used before) (sym (is_breach out x b h));
-    told = λ x h. rw (is_breach out x b h) refl;
+    wrote = λ x h.
+        let k = is_breach out x b h in
+        rw k.2 at f ∙ breach_table_lem k.0 b.parties ∙ ap (stepped_table now used before) (sym k.1);
+    told = λ x h. rw (is_breach out x b h).1 refl;
   })
 
   module _ (n : ℕ) (few : n ≤ 128) (room : 24 * n ≤ length out) (left : List ℤ)
@@ -52,7 +53,7 @@ module _ (now used : ℕ) (out before : List ℤ) {time : ℤ} (is-now : time �
         → (length cs / 24 ≡ n) × (drop (length out - 24 * n) out ≡ cs)
     stands_there cs k =
         let size : length cs ≡ 24 * n = k.size ∙ ap (λ (v : ℕ). 24 * v) (sym (counted k.count few)) in
-        (rw size (omega arith), rw size at (k.wrote (rw size room)))
+        (rw size (omega arith), rw size at (k.wrote (omega (arith, k.count, few)) (rw size room)))
 
     running_table_lem : (cs : List ℤ) → Stands cs n out → left ≡ stepped_table now used before (cells.running cs)
     unfolding stepped_table moved_cell alters other_units reduced_table head_of nat_cells gone_on

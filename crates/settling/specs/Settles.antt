@@ -17,7 +17,7 @@ pub record Whole (r : Reduced) (out : List ℤ) : Type 0 where
 -- the head of a run that ends at `time`, fulfilled or with a breach
 abbrev pub ended : ℤ → Option Breach → List ℤ
 ended time None = pos 2 ∷ time ∷ pos 0 ∷ pos 0 ∷ pos 0 ∷ time ∷ pos 0 ∷ pos 0 ∷ []
-ended time (Some b) = pos 3 ∷ time ∷ pos b.time ∷ pos b.parties ∷ pos 0 ∷ time ∷ pos 0 ∷ pos 0 ∷ []
+ended time (Some b) = pos 3 ∷ time ∷ b.time ∷ pos b.parties ∷ pos 0 ∷ time ∷ pos 0 ∷ pos 0 ∷ []
 
 -- the residue's cells are not those of the units that were in use
 unfoldable pub other_units : ℕ → List ℤ → List ℤ → Bool

@@ -1,37 +1,36 @@
 // A run's table after a reading.
 #![tactic(auto)]
 
-ghost use Rattle.std.specs.Prelude.{◌≡◌, cond, not, ◌||◌, ◌++◌, ◌∷◌, [], ◌+◌, ◌*◌, ◌≤◌, ◌<◌, pos, length, drop};
-ghost use Rattle.std.specs.Prelude.{get_or, take};
+ghost use Rattle.std.specs.Prelude.{◌≡◌, cond, not, ◌||◌, ◌++◌, ◌∷◌, [], ◌+◌, ◌*◌, ◌/◌, ◌%◌, ◌≤◌, ◌<◌, pos, length};
+ghost use Rattle.std.specs.Prelude.{drop, get_or, take};
+ghost use Rattle.std.specs.Option.{ForSome};
 ghost use Rattle.csl.specs.Run.{same_numbers};
 ghost use Rattle.csl.specs.Table.{padded};
 ghost use Rattle.cells.specs.Across.{nat_of};
+ghost use Rattle.residues.specs.Reduces.{bits_in};
 ghost use Rattle.settling.specs.Settles.{Settles, Whole, ended, gone_on, other_units};
 
 use cells::{HEAD_CELLS, LAST_MOVED, TABLE_CELLS, UNIT_CELLS};
+use kinds::RunState;
 use parties::Breach;
 use residues::{Reduced, fill};
 
-// A run's state, by the number in its table's first cell.
-const RUNNING: i64 = 1;
-
-const FULFILLED: i64 = 2;
-
-const BREACHED: i64 = 3;
-
-// The table of a run that ends at `time`, fulfilled or with a breach: a head, and no unit.
+// The table of a run that ends at `time`, fulfilled or with a breach: a head, and no unit. (Here and below a cell is an
+// i64 as in the C interface, and what is counted or a set's bits are a usize.)
 fn end_run(table: &mut [i64; TABLE_CELLS], time: i64, breach: Option<Breach>)
+    requires { ForSome breach (λ b. b.parties < 65_536) }
     ensures { table.new ≡ padded 3080 (ended time breach) }
 {
     let (state, at, parties) = match breach {
-        None => (FULFILLED, 0, 0),
-        Some(b) => (BREACHED, b.time as i64, b.parties.bits() as i64),
+        None => (RunState::Fulfilled, 0, 0),
+        Some(b) => (RunState::Breached, b.time, b.parties.bits() as i64),
     };
-    let head = [state, time, at, parties, 0, time, 0, 0];
+    let head = [i64::from(state), time, at, parties, 0, time, 0, 0];
     fill(table, &head);
 }
 
-// The cells are those of the unit. (`==` on the slices takes 132 instructions for a unit, this takes 74.)
+// The cells are those of the unit. (`==` on the slices takes 132 instructions for a unit, this takes 74. To be arrays,
+// parts of a table and a residue would need an `unwrap`.)
 fn same(cells: &[i64], unit: &[i64]) -> bool
     requires { (length cells.now ≡ 24) × (length unit.now ≡ 24) }
     ensures { result ≡ same_numbers cells.now unit.now }
@@ -52,15 +51,15 @@ fn put_unit(unit: &mut [i64], cells: &[i64], altered: bool) -> bool
     altered
 }
 
-// A residue's n units go to the front of the table's, unit by unit. The answer is whether something has altered.
+// A residue's units go to the front of the table's, unit by unit. The answer is whether something has altered.
 // By number: of parts that `chunks_exact_mut` lends a proof knows no cell afterwards.
-fn put_units(units: &mut [i64], residue: &[i64], n: usize, known: bool) -> bool
-    requires { (length residue.now ≡ 24 * n) × (24 * n ≤ length units.old) }
+fn put_units(units: &mut [i64], residue: &[i64], known: bool) -> bool
+    requires { (length residue.now % 24 ≡ 0) × (length residue.now ≤ length units.old) }
     ensures { (units.new ≡ residue.now ++ drop (length residue.now) units.old)
-        × (result ≡ (known || not (same_numbers residue.now (take (24 * n) units.old)))) }
+        × (result ≡ (known || not (same_numbers residue.now (take (length residue.now) units.old)))) }
 {
     let mut altered = known;
-    for k in 0..n {
+    for k in 0..residue.len() / UNIT_CELLS {
         let at = UNIT_CELLS * k;
         altered = put_unit(
             &mut units[at..at + UNIT_CELLS],
@@ -71,25 +70,27 @@ fn put_units(units: &mut [i64], residue: &[i64], n: usize, known: bool) -> bool
     altered
 }
 
-// When the run last moved: at `time`, or when the table says.
+// When the run last moved: at `time`, or when the table says. (Table and time go on as they are: a struct of them would
+// lend the table once more.)
 fn last_moved(table: &[i64; TABLE_CELLS], time: i64, altered: bool) -> i64
     ensures { result ≡ cond altered time (get_or table.now 5 (pos 0)) }
 {
     if altered { time } else { table[LAST_MOVED] }
 }
 
-// The table of a run that goes on with a residue's n units where so many were in use. It has moved unless they are the
+// The table of a run that goes on with a residue's units where so many were in use. It has moved unless they are the
 // same, which the answer says; other units in use have altered without looking further.
-fn go_on(table: &mut [i64; TABLE_CELLS], used: usize, time: i64, residue: &[i64], n: usize) -> bool
-    requires { (length residue.now ≡ 24 * n) × (n ≤ 128) × (used ≤ 128) }
-    ensures { (table.new ≡ gone_on time used n residue.now table.old)
+fn go_on(table: &mut [i64; TABLE_CELLS], used: usize, time: i64, residue: &[i64]) -> bool
+    requires { (length residue.now % 24 ≡ 0) × (length residue.now ≤ 3072) × (used ≤ 128) }
+    ensures { (table.new ≡ gone_on time used (length residue.now / 24) residue.now table.old)
         × (result ≡ other_units used residue.now table.old) }
 {
-    let altered = put_units(&mut table[HEAD_CELLS..], residue, n, n != used);
+    let n = residue.len() / UNIT_CELLS;
+    let altered = put_units(&mut table[HEAD_CELLS..], residue, n != used);
     table[HEAD_CELLS + UNIT_CELLS * n..].fill(0);
     let moved = last_moved(table, time, altered);
     let units = n as i64;
-    let head = [RUNNING, time, 0, 0, units, moved, 0, 0];
+    let head = [i64::from(RunState::Running), time, 0, 0, units, moved, 0, 0];
     table[..HEAD_CELLS].copy_from_slice(&head);
     altered
 }
@@ -103,7 +104,7 @@ pub fn settle(
     r: Reduced,
     out: &[i64],
 ) -> bool
-    requires { (used ≤ 128) × Whole r out.now × (time ≡ pos (nat_of time)) }
+    requires { (used ≤ 128) × Whole r out.now × (time ≡ pos (nat_of time)) × (bits_in r < 65_536) }
     ensures { Settles (nat_of time) used r out.now table.old table.new result }
 {
     match r {
@@ -117,7 +118,7 @@ pub fn settle(
         }
         Reduced::Running(n) => {
             let from = out.len() - UNIT_CELLS * n;
-            go_on(table, used, time, &out[from..], n)
+            go_on(table, used, time, &out[from..])
         }
     }
 }

@@ -1,5 +1,8 @@
-pub mod Tests
 pub mod Trees
 pub mod Heads
+pub mod Zeros
 pub mod Shows
+pub mod FulfilledTables
+pub mod BreachedTables
+pub mod RunningTables
 pub mod Times

@@ -16,7 +16,7 @@ use Rattle.units.proofs.Cells.{below_is, below_not}
 use Rattle.laws.proofs.Integers.{pos_inj}
 use Rattle.std.specs.Prelude.{Option as Maybe, Some, None}
 use Rattle.std.specs.Bool.{then_some}
-use Rattle.state.proofs.Tests.{by_then}
+use Rattle.units.proofs.Tests.{by_then}
 use Rattle.state.specs.Shown.{TimeIs, TimesAt}
 
 module _ (a : List ℕ) (cells : List ℤ) where

@@ -46,7 +46,7 @@ use Rattle.kinds.specs.declared.Join.TheVariants.{And, Or}
 use Rattle.kinds.specs.declared.WaitKind.{WaitKind}
 use Rattle.kinds.specs.declared.WaitKind.TheVariants.{Obligation, Choice}
 use Rattle.units.specs.declared.Waiting.{Waiting}
-use Rattle.units.specs.Units.{cells_in, sight_numbers, PartiesOf, WaitingIs}
+use Rattle.units.specs.Units.{cells_in, PartiesOf, WaitingIs}
 use Rattle.units.proofs.Blames.{at_past, joined_bits}
 use Rattle.units.proofs.Waits.{option_none, split_takes, split_is}
 use Rattle.state.specs.declared.Tree.{Tree}
@@ -54,9 +54,9 @@ use Rattle.state.specs.declared.First.{First}
 use Rattle.state.specs.declared.First.TheVariants as kind
 use Rattle.cells.specs.Sights.{join_as, sights_in}
 use Rattle.cells.specs.declared.Sight.{Sight}
-use Rattle.cells.specs.declared.Sight.TheVariants.{Waits, Joins}
+use Rattle.cells.specs.declared.Sight.TheVariants.{Joins}
 use Rattle.std.specs.Bool.{then_some}
-use Rattle.state.proofs.Tests.{by_then}
+use Rattle.units.proofs.Tests.{by_then}
 use Rattle.state.specs.Tree.{WaitsFirst, JoinsFirst, ReadsAs, FirstIs, TreeAs, WalkIs, SidesAs}
 
 -- ---- the rule for joins
@@ -108,15 +108,7 @@ sort_waiting : (w : WaitKind) → unit_sort (pos (wait_number w)) ≡ some (wait
 sort_waiting Obligation = unfold unit_sort as_nat ◌>>=◌ need at in refl
 sort_waiting Choice = unfold unit_sort as_nat ◌>>=◌ need at in refl
 
--- ---- what is in sight at one unit, and at a join
-sight_of : (r : Residue) {n c : ℕ} → units r ≡ 1 → sight_numbers r ≡ n ∷ c ∷ [] → sights_in r ≡ Waits n c ∷ []
-unfolding sight_numbers sights_in units
-sight_of (unit s p a e) {n = n} {c = c} one h =
-    let params : length e.params ≡ n = cc in
-    let values : length e.values ≡ c = cc in
-    ap₂ (λ x y. Waits x y ∷ []) params values
-sight_of (both j l r) one h = absurd (omega (arith, some_units l, some_units r))
-
+-- ---- how a join joins
 same_join : (j : kinds.Join) → join_as (join_in j) ≡ j
 unfolding join_as
 same_join And = refl
@@ -448,7 +440,7 @@ module _ (a : List ℕ) (now n : ℕ) (cells : List ℤ) where
 
     pub waits_of : {r : Maybe Waiting} {u : Waiting} {bits : ℕ} (sights : List Sight) → 24 ≤ length cells → 0 < n
         → WaitingIs a now (sort_in wait) (cells_in cells 1 24) r → r ≡ Some u → bits ≡ u.parties
-        → WalkIs a now n cells (Waits u.params u.count ∷ sights) (Some (record { units = 1; parties = bits }))
+        → WalkIs a now n cells (u.sight ∷ sights) (Some (record { units = 1; parties = bits }))
     unfolding WalkIs WaitingIs
     waits_of {u = u} sights room Some-of h g same =
         let w = rw g at h in
@@ -459,7 +451,7 @@ module _ (a : List ℕ) (now n : ℕ) (cells : List ℤ) where
           count = sym w.one;
           few = omega arith;
           parties = w.parties;
-          sighted = sym (sight_of w.residue w.one w.sights);
+          sighted = sym w.sights;
         }
 
   -- the sides

@@ -29,7 +29,9 @@ pub record RunningAs (o : Option Run) (cells : List ℤ) (sights : List Sight) (
   pub few : n ≤ 128
   pub sighted : take n sights ≡ sights_in residue
 
-pub record BreachedAs (o : Option Run) (cells : List ℤ) (time bits : ℕ) : Type 0 where
+pub record BreachedAs (o : Option Run) (cells : List ℤ) (t : ℤ) (bits : ℕ) : Type 0 where
+  pub time : ℕ
+  pub is_time : t ≡ pos time
   pub small : bits < 65_536
   pub shows : RunShows o cells (breach time (members bits))
 

@@ -40,14 +40,12 @@ ReadsAs ag (both j l r) cells = JoinsFirst j cells × ReadsAs ag l (drop 24 cell
 
 -- ---- what is asked for
 -- the first unit waits so, and its cells are there
-pub record UnitFirst (now : ℕ) (wait : WaitKind) (cells : List ℤ) : Type 0 where
-  pub soon : now < 4_294_967_296
+pub record UnitFirst (wait : WaitKind) (cells : List ℤ) : Type 0 where
   pub long : 24 ≤ length cells
   pub first : get_or cells 0 (pos 0) ≡ pos (wait_number wait)
 
 -- the cells of n units are there
-pub record TreeRoom (now n : ℕ) (cells : List ℤ) : Type 0 where
-  pub soon : now < 4_294_967_296
+pub record TreeRoom (n : ℕ) (cells : List ℤ) : Type 0 where
   pub few : n ≤ 128
   pub long : 24 * n ≤ length cells
 

@@ -10,18 +10,16 @@ ghost use Rattle.state.specs.Tree.{UnitFirst, UnitIs, TreeRoom, FirstIs, JoinedI
 ghost use Rattle.state.specs.Shown.{Shows, run_in, HeadAt, TimeIs, FulfilledIs};
 
 use cells::{HEAD_CELLS, LAST_MOVED, LAST_TIME, Sight, TABLE_CELLS, UNIT_CELLS};
-use kinds::{Join, WaitKind};
+use kinds::{Join, RunState, WaitKind};
 use parties::{Breach, PartySet};
 use places::Accepted;
 use records::Agreement;
 use units::{number_below, waiting_unit, zeros};
 
-// A state, a count of units, a set of parties and a time are below these.
-const STATES: usize = 4;
-
+// A count of units, a set of parties and a time are below these.
 const COUNTS: usize = 129;
 
-const PARTIES: usize = 65_536;
+const SETS: usize = 65_536;
 
 const TIMES: usize = 4_294_967_296;
 
@@ -45,28 +43,6 @@ pub enum State {
     Running(usize),
     Fulfilled,
     Breached(Breach),
-}
-
-// A waiting unit at the front of the cells, and what is in sight there.
-fn read_unit(
-    accepted: &Accepted<'_>,
-    time: usize,
-    wait: WaitKind,
-    cells: &[i64],
-    sight: &mut Sight,
-) -> Option<Tree>
-    requires { UnitFirst time wait cells.now }
-    ensures { UnitIs accepted.now time cells.now sight.new result }
-{
-    let unit = waiting_unit(accepted, time, wait, &cells[1..UNIT_CELLS])?;
-    *sight = Sight::Waits {
-        params: unit.params,
-        values: unit.count,
-    };
-    Some(Tree {
-        units: 1,
-        parties: unit.parties,
-    })
 }
 
 // 'The two sides of an `or` together have at most one member': of the parties of both sides.
@@ -109,75 +85,12 @@ fn first_unit(cells: &[i64]) -> Option<First>
     zeros(&cells[1..UNIT_CELLS]).then_some(First::Joins(join))
 }
 
-// The tree at the front of units, as many as there are sights: a unit that waits, or a join with its left side behind
-// it and then its right side.
-fn walk_tree(
-    accepted: &Accepted<'_>,
-    time: usize,
-    cells: &[i64],
-    sights: &mut [Sight],
-) -> Option<Tree>
-    requires { TreeRoom time (length sights.old) cells.now }
-    ensures { WalkIs accepted.now time (length sights.old) cells.now sights.new result }
-{
-    let (sight, rest) = sights.split_first_mut()?;
-    match first_unit(cells)? {
-        First::Waits(wait) => read_unit(accepted, time, wait, cells, sight),
-        First::Joins(join) => {
-            let left = walk_tree(accepted, time, &cells[UNIT_CELLS..], rest)?;
-            let more = &cells[UNIT_CELLS + UNIT_CELLS * left.units..];
-            let right = walk_tree(accepted, time, more, &mut rest[left.units..])?;
-            read_join(join, left, right, sight)
-        }
-    }
-}
-
 // Fulfilled: all other cells are zero.
 fn fulfilled(table: &[i64; TABLE_CELLS]) -> Option<State>
     ensures { FulfilledIs table.now result }
 {
     let is_sound = zeros(&table[2..5]) && zeros(&table[HEAD_CELLS..]);
     is_sound.then_some(State::Fulfilled)
-}
-
-// Breached: by someone of the main clause, at a time from the start to the last reading time.
-fn breached(accepted: &Accepted<'_>, time: usize, table: &[i64; TABLE_CELLS]) -> Option<State>
-    requires { HeadAt accepted.now table.now 3 time }
-    ensures { (sights : List Sight) → Shows (run_in accepted.now table.now) table.now sights result }
-{
-    let when = number_below(table[2], TIMES)?;
-    let bits = number_below(table[3], PARTIES)?;
-    let parties = PartySet::of_bits(bits);
-    let mains = accepted.mains();
-    let is_sound = (accepted.agreement().start()..=time).contains(&when)
-        && !parties.is_empty()
-        && parties.is_subset(mains)
-        && zeros(&table[4..5])
-        && zeros(&table[HEAD_CELLS..]);
-    let breach = Breach {
-        time: when,
-        parties,
-    };
-    is_sound.then_some(State::Breached(breach))
-}
-
-// Running: the units show one residue.
-fn running(
-    accepted: &Accepted<'_>,
-    time: usize,
-    table: &[i64; TABLE_CELLS],
-    sights: &mut [Sight],
-) -> Option<State>
-    requires room { 128 ≤ length sights.old }
-    requires head_at { HeadAt accepted.now table.now 1 time }
-    ensures { Shows (run_in accepted.now table.now) table.now sights.new result }
-{
-    let used = number_below(table[4], COUNTS)?;
-    let tree = walk_tree(accepted, time, &table[HEAD_CELLS..], &mut sights[..used])?;
-    let is_sound = tree.units == used
-        && zeros(&table[2..4])
-        && zeros(&table[HEAD_CELLS + UNIT_CELLS * used..]);
-    is_sound.then_some(State::Running(used))
 }
 
 // The last reading time; the run last moved from the start to it.
@@ -191,6 +104,80 @@ fn last_time(agreement: &Agreement<'_>, table: &[i64; TABLE_CELLS]) -> Option<us
     is_sound.then_some(time)
 }
 
+// An accepted agreement at a run's last reading time.
+#[derive(Clone, Copy)]
+struct Moment<'a> {
+    accepted: &'a Accepted<'a>,
+    time: usize,
+}
+
+impl Moment<'_> {
+    // A waiting unit at the front of the cells, and what is in sight there.
+    fn read_unit(&self, wait: WaitKind, cells: &[i64], sight: &mut Sight) -> Option<Tree>
+        requires { UnitFirst wait cells.now }
+        ensures { UnitIs self.now.accepted.now self.now.time cells.now sight.new result }
+    {
+        let unit = waiting_unit(self.accepted, self.time, wait, &cells[1..UNIT_CELLS])?;
+        *sight = unit.sight;
+        Some(Tree {
+            units: 1,
+            parties: unit.parties,
+        })
+    }
+
+    // The tree at the front of units, as many as there are sights: a unit that waits, or a join with its left side
+    // behind it and then its right side.
+    fn walk_tree(&self, cells: &[i64], sights: &mut [Sight]) -> Option<Tree>
+        requires { TreeRoom (length sights.old) cells.now }
+        ensures { WalkIs self.now.accepted.now self.now.time (length sights.old) cells.now sights.new result }
+    {
+        let (sight, rest) = sights.split_first_mut()?;
+        match first_unit(cells)? {
+            First::Waits(wait) => self.read_unit(wait, cells, sight),
+            First::Joins(join) => {
+                let left = self.walk_tree(&cells[UNIT_CELLS..], rest)?;
+                let more = &cells[UNIT_CELLS + UNIT_CELLS * left.units..];
+                let right = self.walk_tree(more, &mut rest[left.units..])?;
+                read_join(join, left, right, sight)
+            }
+        }
+    }
+
+    // Breached: by someone of the main clause, at a time from the start to the last reading time.
+    fn breached(&self, table: &[i64; TABLE_CELLS]) -> Option<State>
+        requires { HeadAt self.now.accepted.now table.now 3 self.now.time }
+        ensures { (sights : List Sight) → Shows (run_in self.now.accepted.now table.now) table.now sights result }
+    {
+        let when = number_below(table[2], TIMES)?;
+        let parties = PartySet::of_bits(number_below(table[3], SETS)?);
+        let mains = self.accepted.mains();
+        let is_sound = (self.accepted.agreement().start()..=self.time).contains(&when)
+            && !parties.is_empty()
+            && parties.is_subset(mains)
+            && zeros(&table[4..5])
+            && zeros(&table[HEAD_CELLS..]);
+        let breach = Breach {
+            time: table[2],
+            parties,
+        };
+        is_sound.then_some(State::Breached(breach))
+    }
+
+    // Running: the units show one residue.
+    fn running(&self, table: &[i64; TABLE_CELLS], sights: &mut [Sight]) -> Option<State>
+        requires room { 128 ≤ length sights.old }
+        requires head_at { HeadAt self.now.accepted.now table.now 1 self.now.time }
+        ensures { Shows (run_in self.now.accepted.now table.now) table.now sights.new result }
+    {
+        let used = number_below(table[4], COUNTS)?;
+        let tree = self.walk_tree(&table[HEAD_CELLS..], &mut sights[..used])?;
+        let is_sound = tree.units == used
+            && zeros(&table[2..4])
+            && zeros(&table[HEAD_CELLS + UNIT_CELLS * used..]);
+        is_sound.then_some(State::Running(used))
+    }
+}
+
 // The state that a table shows, where it shows one; a running run's units go into the sights.
 pub fn state_of(
     accepted: &Accepted<'_>,
@@ -201,10 +188,10 @@ pub fn state_of(
     ensures { Shows (run_in accepted.now table.now) table.now sights.new result }
 {
     let time = last_time(accepted.agreement(), table)?;
-    match number_below(table[0], STATES)? {
-        1 => running(accepted, time, table, sights),
-        2 => fulfilled(table),
-        3 => breached(accepted, time, table),
-        _ => None,
+    let moment = Moment { accepted, time };
+    match RunState::try_from(table[0]).ok()? {
+        RunState::Running => moment.running(table, sights),
+        RunState::Fulfilled => fulfilled(table),
+        RunState::Breached => moment.breached(table),
     }
 }

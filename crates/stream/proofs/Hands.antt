@@ -7,7 +7,7 @@ use borrow.Author.Tests.{eqb-false}
 use Rattle.std.proofs.Math.Seq.{take-add, take-append-le}
 use Rattle.std.specs.Io.KnownBytes.{Consumes, IsAtEnd}
 use Rattle.csl.specs.Bytes.{part}
-use Rattle.stream.specs.Hands.{Comes}
+use Rattle.stream.specs.Hands.{Brings}
 
 -- what is left behind the first n bytes
 pub left_of : (l : List ℕ) (from to n : ℕ) → n ≤ length (part l from to)
@@ -18,7 +18,7 @@ left_of l from to n h =
     sym (ap (λ k. drop n (take k (drop from l))) s ∙ drop-take n m (drop from l) ∙ ap (take m) (drop-drop n from l))
 
 -- ---- a read puts its bytes behind the first `at` of the buffer
-module _ (before buf read post : List ℕ) (at n : ℕ) (first : take at buf ≡ before) (there : at ≡ length before)
+module _ (before buf read post : List ℕ) (at n capacity : ℕ) (first : take at buf ≡ before) (there : at ≡ length before)
     (fits : n ≤ length read) where
   read_behind : part (take at buf ++ (read ++ post)) 0 (at + n) ≡ before ++ take n read
   read_behind =
@@ -34,8 +34,12 @@ module _ (before buf read post : List ℕ) (at n : ℕ) (first : take at buf ≡
       ) refl
 
   pub comes : (coming left : Option (List ℕ)) → Consumes coming left (take n read)
-      → (n ≡ 0 → IsAtEnd left) → Comes before
-      (record { bytes = part (take at buf ++ (read ++ post)) 0 (at + n); ended = nat_eq n 0 }) coming left
+      → (n ≡ 0 → IsAtEnd left) → Brings before
+      (record {
+        bytes = part (take at buf ++ (read ++ post)) 0 (at + n);
+        ended = nat_eq n 0;
+        capacity = capacity;
+      }) coming left
   comes coming left brings over = record {
     came = take n read;
     behind = read_behind;

@@ -2,13 +2,15 @@
 use Rattle.std.specs.Prelude.{◌≡◌, Bool, true, false, List, [], ◌++◌, ℕ, ◌<◌, length, Option}
 use Rattle.std.specs.Io.KnownBytes.{Consumes, IsAtEnd}
 
+-- the bytes, whether the input has ended behind them, and how many the buffer takes
 pub record AtHand : Type 0 where
   pub bytes : List ℕ
   pub ended : Bool
+  pub capacity : ℕ
 
 -- what a read brought are the first of the bytes that were to come, one at least; or it brought none, and none is to
 -- come
-pub record Comes (before : List ℕ) (hand : AtHand) (coming left : Option (List ℕ)) : Type 0 where
+pub record Brings (before : List ℕ) (hand : AtHand) (coming left : Option (List ℕ)) : Type 0 where
   pub came : List ℕ
   pub behind : hand.bytes ≡ before ++ came
   pub brings : Consumes coming left came

@@ -2,7 +2,7 @@
 ghost use Rattle.std.specs.Prelude.{◌≡◌, ◌≤◌, ◌<◌, [], false, length, drop, OnOk, OnErr};
 ghost use Rattle.std.specs.Io.KnownBytes.{Keeps};
 ghost use Rattle.stream.specs.Next.{next_of};
-ghost use Rattle.stream.specs.Hands.{Comes};
+ghost use Rattle.stream.specs.Hands.{Brings};
 ghost use Rattle.stream.specs.declared.Next.TheVariants.{Wait};
 
 use super::{Next, keep, next_record};
@@ -10,37 +10,40 @@ use std::io;
 use std::io::Read;
 use std::marker::Model;
 
-// The bytes of the buffer: no record is longer, and input that is there is read in large pieces.
-const ROOM: usize = 65_536;
-
-// They stand in the buffer from `from` up to `to`: a read wants the buffer itself.
+// They stand in a lent buffer from `from` up to `to`: a read wants the buffer itself. Whether the input has ended is a
+// fact beside them, and no case.
 #[derive(Drop)]
-pub struct Hand {
-    buffer: [u8; ROOM],
+pub struct Hand<'a> {
+    buffer: &'a mut [u8],
     from: usize,
     to: usize,
     ended: bool,
 }
 
-impl Model for Hand {
-    ghost use Rattle.std.specs.Prelude.{◌≤◌};
+impl<'a> Model for Hand<'a> {
+    ghost use Rattle.std.specs.Prelude.{◌≤◌, length};
     ghost use Rattle.csl.specs.Bytes.{part};
     ghost use Rattle.stream.specs.Hands.{AtHand};
 
     ghost Value = { AtHand };
 
-    ghost view = { λ hand. record { bytes = part hand.buffer hand.from hand.to; ended = hand.ended } };
+    ghost view = { λ hand. record {
+      bytes = part hand.buffer.now hand.from hand.to;
+      ended = hand.ended;
+      capacity = length hand.buffer.now;
+    } };
 
-    ghost invariant = { λ hand. (hand.from ≤ hand.to) × (hand.to ≤ 65_536) };
+    ghost invariant = { λ hand. (hand.from ≤ hand.to) × (hand.to ≤ length hand.buffer.now) };
 }
 
-impl Hand {
-    pub fn new() -> Self
+impl<'a> Hand<'a> {
+    pub fn new(buffer: &'a mut [u8]) -> Self
         ensures empty { result.bytes ≡ [] }
         ensures open { result.ended ≡ false }
+        ensures capacity { result.capacity ≡ length buffer.old }
     {
         Hand {
-            buffer: [0; ROOM],
+            buffer,
             from: 0,
             to: 0,
             ended: false,
@@ -49,7 +52,7 @@ impl Hand {
 
     pub fn bytes(&self) -> &[u8]
         ensures bytes { result.now ≡ self.now.bytes }
-        ensures bound { length result.now ≤ 65_536 }
+        ensures bound { length result.now ≤ self.now.capacity }
     {
         &self.buffer[self.from..self.to]
     }
@@ -67,19 +70,21 @@ impl Hand {
         requires { n ≤ length self.old.bytes }
         ensures bytes { self.new.bytes ≡ drop n self.old.bytes }
         ensures ended { self.new.ended ≡ self.old.ended }
+        ensures capacity { self.new.capacity ≡ self.old.capacity }
     {
         self.from += n;
     }
 
     // Waits for more input: one read, for as many bytes as are there and fit.
     pub fn wait<R: Read>(&mut self, input: &mut R) -> io::Result<()>
-        requires { length self.old.bytes < 65_536 }
-        ensures comes { OnOk result (Comes self.old.bytes self.new (R.remaining input.old) (R.remaining input.new)) }
-        ensures bound { OnOk result (length self.new.bytes ≤ 65_536) }
+        requires { length self.old.bytes < self.old.capacity }
+        ensures brings { OnOk result (Brings self.old.bytes self.new (R.remaining input.old) (R.remaining input.new)) }
+        ensures bound { OnOk result (length self.new.bytes ≤ self.new.capacity) }
+        ensures capacity { self.new.capacity ≡ self.old.capacity }
         ensures fails { OnErr result (Keeps (R.remaining input.old) (R.remaining input.new)) }
         ensures kept { OnErr result (self.new ≡ self.old) }
     {
-        self.to = keep(&mut self.buffer, self.from, self.to);
+        self.to = keep(self.buffer, self.from, self.to);
         self.from = 0;
         let came = input.read(&mut self.buffer[self.to..])?;
         self.to += came;

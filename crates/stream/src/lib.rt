@@ -1,7 +1,7 @@
 // The input, read piece by piece and cut into records, and what is written.
 #![tactic(auto)]
 
-ghost use Rattle.std.specs.Prelude.{◌≡◌, ◌-◌, ◌<◌, ◌≤◌, [], length, take, OnOk, OnErr};
+ghost use Rattle.std.specs.Prelude.{◌≡◌, ◌-◌, ◌<◌, ◌≤◌, length, take, OnOk};
 ghost use Rattle.std.specs.Io.KnownBytes.{Appends};
 ghost use Rattle.csl.specs.Bytes.{part};
 ghost use Rattle.stream.specs.Records.{size_of};
@@ -11,7 +11,6 @@ ghost use Rattle.stream.specs.declared.Next.TheVariants.{Wait};
 pub mod hand;
 
 pub use hand::Hand;
-use lines::Page;
 use octets::unsigned16;
 use std::io;
 use std::io::Write;
@@ -31,15 +30,14 @@ pub fn next_record(s: &[u8], ended: bool) -> Next
 {
     let size = record_size(s);
     if size <= s.len() {
-        return Next::Record(size);
+        Next::Record(size)
+    } else if !ended {
+        Next::Wait
+    } else if s.is_empty() {
+        Next::End
+    } else {
+        Next::Record(s.len())
     }
-    if !ended {
-        return Next::Wait;
-    }
-    if s.len() == 0 {
-        return Next::End;
-    }
-    Next::Record(s.len())
 }
 
 // What the first record's length field says; the field itself has two bytes.
@@ -51,7 +49,7 @@ fn record_size(s: &[u8]) -> usize
 }
 
 // Moves the bytes from `from` up to `to` to the front, and answers how many they are.
-fn keep(buf: &mut [u8], from: usize, to: usize) -> usize
+pub fn keep(buf: &mut [u8], from: usize, to: usize) -> usize
     requires { (from ≤ to) × (to ≤ length buf.old) }
     ensures size { result ≡ to - from }
     ensures bytes { take result buf.new ≡ part buf.old from to }
@@ -62,13 +60,9 @@ fn keep(buf: &mut [u8], from: usize, to: usize) -> usize
     to - from
 }
 
-// Writes the page's lines, and clears it.
-pub fn emit<W: Write>(output: &mut W, page: &mut Page) -> io::Result<()>
-    ensures writes { OnOk result (Appends (W.contents output.old) (W.contents output.new) page.old) }
-    ensures clears { OnOk result (page.new ≡ []) }
-    ensures kept { OnErr result (page.new ≡ page.old) }
+// Writes all of the bytes.
+pub fn emit<W: Write>(output: &mut W, bytes: &[u8]) -> io::Result<()>
+    ensures { OnOk result (Appends (W.contents output.old) (W.contents output.new) bytes.now) }
 {
-    output.write_all(page.as_bytes())?;
-    page.clear();
-    Ok(())
+    output.write_all(bytes)
 }

@@ -1,17 +1,20 @@
 -- What the state of a table says of its line, and what the number of a refusal says.
-use mathlib.Core.Path.{◌≡◌, refl, sym, ap, ◌∙◌}
+use mathlib.Core.Path.{◌≡◌, refl, sym, ap, ◌∙◌, subst}
 use mathlib.Core.Bool.{true, false}
 use mathlib.Core.List.{List, [], ◌∷◌, ◌++◌}
 use Prim.Native.Nat.{ℕ, zero, suc, ◌^◌, ◌<◌}
-use borrow.Author.Tests.{eq-eqb, ne_eqb}
+use borrow.Author.Tests.{ne_eqb}
 use lib.Dec.{eqb}
-use lib.IntN.{ℤ, pos}
+use lib.IntN.{ℤ, pos, negsuc}
 use lib.ListN.{get_or}
 use lib.Signed.{mag}
-use mir.Syntax.{w64}
-use mir.Val.{of_z}
-use Rattle.std.proofs.Common.{Option, unwrap_or, slice_get}
-use Rattle.arith.proofs.Ints.{eqb_bits}
+use Rattle.std.proofs.Common.{Option, Result, Ok, Err, unwrap_or, slice_get}
+use Rattle.std.specs.Result.{result_unwrap_or}
+use Rattle.arith.proofs.Ints.{seen, read}
+use Rattle.kinds.specs.declared.RunState.{RunState}
+use Rattle.kinds.specs.declared.RunState.TheVariants.{Running, Fulfilled, Breached}
+use Rattle.kinds.specs.Kinds.{NamesState}
+use Rattle.kinds.specs.declared.Unknown.{Unknown}
 use Rattle.csl.specs.Numbers.{eq_z}
 use Rattle.csl.specs.Bytes.{le32}
 use Rattle.csl.specs.Entries.{forecast_of}
@@ -24,35 +27,48 @@ use Rattle.lines.specs.Text.{decimal, dash, live, done, breach, fields, newline,
 use Rattle.lines.specs.Lines.{forecast_fields, state_by, state_fields, verdict_fields, refusal_fields, answer_fields}
 use Rattle.lines.specs.Lines.{time_field, reading_time}
 
--- ---- the first cell, and what the code's tests of it say
+-- ---- the first cell, and what it is not
 pub first_cell : (cells : List ℤ) {first state : Option ℤ} {z : ℤ} → first ≡ slice_get cells 0 → state ≡ first
-    → z ≡ unwrap_or state (pos 0) → z ≡ get_or cells 0 (pos 0)
-first_cell [] e f g = g ∙ ap (λ o. unwrap_or o (pos 0)) (f ∙ e)
-first_cell (z ∷ cells) e f g = g ∙ ap (λ o. unwrap_or o (pos 0)) (f ∙ e)
+    → z ≡ unwrap_or state (pos 0) → mag z < 2 ^ 63 → seen z ≡ get_or cells 0 (pos 0)
+first_cell [] {z = z} e f g h = read (record { sfits = h }) ∙ g ∙ ap (λ o. unwrap_or o (pos 0)) (f ∙ e)
+first_cell (x ∷ cells) {z = z} e f g h = read (record { sfits = h }) ∙ g ∙ ap (λ o. unwrap_or o (pos 0)) (f ∙ e)
 
-module _ (z : ℤ) (n : ℕ) (h : mag z < 2 ^ 63) (small : n < 2 ^ 63) where
-  pub same_cell : of_z w64 z ≡ n → eq_z z (pos n) ≡ true
-  same_cell e = sym (eqb_bits z (pos n) (record { sfits = h }) (record { sfits = small })) ∙ eq-eqb (of_z w64 z) n e
+other_state : (z : ℤ) (n : ℕ) → (pos n ≡ z → ⊥) → eq_z z (pos n) ≡ false
+unfolding eq_z
+other_state (pos a) n f = ne_eqb a n (λ e. f (ap pos (sym e)))
+other_state (negsuc a) n f = refl
 
-  pub other_cell : (of_z w64 z ≡ n → ⊥) → eq_z z (pos n) ≡ false
-  other_cell f = sym (eqb_bits z (pos n) (record { sfits = h }) (record { sfits = small })) ∙ ne_eqb (of_z w64 z) n f
+-- ---- what a state says of the cell that named it; a cell that names none is taken for a breach's
+abbrev Told : RunState → ℤ → Type 0
+Told Fulfilled z = eq_z z (pos 2) ≡ true
+Told Running z = (eq_z z (pos 2) ≡ false) × (eq_z z (pos 1) ≡ true)
+Told Breached z = (eq_z z (pos 2) ≡ false) × (eq_z z (pos 1) ≡ false)
 
--- ---- the verdict, by the tests of the state
-module _ (s : List ℕ) (cells : List ℤ) {state : ℤ} (is : state ≡ get_or cells 0 (pos 0)) where
-  pub verdict_done : eq_z state (pos 2) ≡ true → fields (done ∷ []) ≡ fields (verdict_fields s cells)
+told_by : (z : ℤ) (r : Result RunState Unknown) → NamesState z r → Told (result_unwrap_or r Breached) z
+unfolding eq_z
+told_by z (Ok Running) e = rw (sym e) (refl, refl)
+told_by z (Ok Fulfilled) e = rw (sym e) refl
+told_by z (Ok Breached) e = rw (sym e) (refl, refl)
+told_by z (Err u) e = (other_state z 2 (e Fulfilled), other_state z 1 (e Running))
+
+pub told : (z : ℤ) (r : Result RunState Unknown) → NamesState z r → {s t : RunState} → s ≡ result_unwrap_or r Breached
+    → s ≡ t → Told t z
+told z r names e is = subst (λ s. Told s z) (sym e ∙ is) (told_by z r names)
+
+-- ---- the verdict, by the state
+module _ (s : List ℕ) (cells : List ℤ) {z : ℤ} (is : z ≡ get_or cells 0 (pos 0)) where
+  pub verdict_done : Told Fulfilled z → fields (done ∷ []) ≡ fields (verdict_fields s cells)
   unfolding verdict_fields state_fields state_by
   verdict_done e = rw (sym is, e) refl
 
-  module _ (no : eq_z state (pos 2) ≡ false) (ahead : List ℕ)
-      (shown : ahead ++ (newline ∷ []) ≡ fields (forecast_fields (forecast_of s cells))) where
-    pub verdict_live : eq_z state (pos 1) ≡ true → fields ((live ++ ahead) ∷ []) ≡ fields (verdict_fields s cells)
+  module _ (ahead : List ℕ) (shown : ahead ++ (newline ∷ []) ≡ fields (forecast_fields (forecast_of s cells))) where
+    pub verdict_live : Told Running z → fields ((live ++ ahead) ∷ []) ≡ fields (verdict_fields s cells)
     unfolding verdict_fields state_fields state_by fields
-    verdict_live e = rw (sym is, no, e) (ap (λ l. space ∷ (live ++ l)) shown)
+    verdict_live e = rw (sym is, e.0, e.1) (ap (λ l. space ∷ (live ++ l)) shown)
 
-    pub verdict_breach : eq_z state (pos 1) ≡ false
-        → fields ((breach ++ ahead) ∷ []) ≡ fields (verdict_fields s cells)
+    pub verdict_breach : Told Breached z → fields ((breach ++ ahead) ∷ []) ≡ fields (verdict_fields s cells)
     unfolding verdict_fields state_fields state_by fields
-    verdict_breach e = rw (sym is, no, e) (ap (λ l. space ∷ (breach ++ l)) shown)
+    verdict_breach e = rw (sym is, e.0, e.1) (ap (λ l. space ∷ (breach ++ l)) shown)
 
 -- ---- no refusal has the number 0, and one alone has 8
 pub not_zero : (why : Refusal) → eqb (number_of why) 0 ≡ false

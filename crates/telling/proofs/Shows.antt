@@ -6,7 +6,7 @@ use native.Mathlib.Omega.{arith}
 use lib.ListN.{length, length-append}
 use Rattle.std.proofs.Common.{Option, Some, None, Result, Ok, Err}
 use Rattle.monitor.specs.Answers.{forecast_answer}
-use Rattle.monitor.specs.declared.Breach.{Breach}
+use Rattle.monitor.specs.declared.BreachAhead.{BreachAhead}
 use Rattle.monitor.specs.declared.Refusal.{Refusal}
 use Rattle.lines.specs.Text.{decimal, fields, line, space, newline}
 use Rattle.lines.specs.Lines.{forecast_fields, refusal_fields}
@@ -15,17 +15,17 @@ use Rattle.lines.proofs.Decimal.{few}
 use Rattle.telling.specs.Verdicts.{shown_ahead, shown_verdict}
 
 -- ---- a forecast, and the line's end
-pub ahead_shown : (r : Result (Option Breach) Refusal)
+pub ahead_shown : (r : Result (Option BreachAhead) Refusal)
     → shown_ahead r ++ (newline ∷ []) ≡ fields (forecast_fields (forecast_answer r))
 unfolding fields forecast_fields
 ahead_shown (Ok (Some b)) = append_assoc (space ∷ decimal b.time) (space ∷ decimal b.parties) (newline ∷ [])
 ahead_shown (Ok None) = refl
 ahead_shown (Err why) = refl
 
-abbrev pub Fits : Result (Option Breach) Refusal → Type 0
-Fits r = (b : Breach) → r ≡ Ok (Some b) → (b.time < 2 ^ 64) × (b.parties < 2 ^ 64)
+abbrev pub Fits : Result (Option BreachAhead) Refusal → Type 0
+Fits r = (b : BreachAhead) → r ≡ Ok (Some b) → (b.time < 2 ^ 64) × (b.parties < 2 ^ 64)
 
-pub ahead_short : (r : Result (Option Breach) Refusal) → Fits r → length (shown_ahead r) ≤ 42
+pub ahead_short : (r : Result (Option BreachAhead) Refusal) → Fits r → length (shown_ahead r) ≤ 42
 ahead_short (Ok (Some b)) h =
     let fits = h b refl in
     let both = length-append (space ∷ decimal b.time) (space ∷ decimal b.parties) in

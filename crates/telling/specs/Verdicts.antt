@@ -4,16 +4,16 @@ use Rattle.lines.specs.Text.{decimal, live, done, breach, none, space}
 use Rattle.lines.specs.Shown.{shown_line}
 use Rattle.lines.specs.declared.Line.{Line}
 use Rattle.monitor.specs.declared.Refusal.{Refusal}
-use Rattle.monitor.specs.declared.Breach.{Breach as Foreseen}
+use Rattle.monitor.specs.declared.BreachAhead.{BreachAhead}
 use Rattle.telling.specs.declared.Forecast.{Forecast}
 use Rattle.telling.specs.declared.Verdict.{Verdict}
 use Rattle.telling.specs.declared.Verdict.TheVariants.{Live, Done, Breach}
 
-abbrev pub shown_breach : Foreseen → List ℕ
+abbrev pub shown_breach : BreachAhead → List ℕ
 shown_breach b = (space ∷ decimal b.time) ++ (space ∷ decimal b.parties)
 
 -- behind the word of a verdict
-abbrev pub shown_ahead : Result (Option Foreseen) Refusal → List ℕ
+abbrev pub shown_ahead : Result (Option BreachAhead) Refusal → List ℕ
 shown_ahead (Ok (Some breach)) = shown_breach breach
 shown_ahead (Ok None) = space ∷ none
 shown_ahead (Err why) = []

@@ -11,8 +11,9 @@ ghost use Rattle.monitor.specs.Answers.{number_of};
 ghost use Rattle.telling.specs.Told.{Begins, Follows};
 ghost use Rattle.telling.specs.Verdicts.{shown_breach, shown_forecast, shown_verdict};
 
+use kinds::RunState;
 use lines::{Line, Page, Put};
-use monitor::{Breach, Refusal, Refused};
+use monitor::{BreachAhead, Refusal, Refused};
 use octets::unsigned32;
 use records::START_AT;
 
@@ -22,22 +23,22 @@ pub const LINE_ROOM: usize = 96;
 // What the entry `forecast` answers. A table that start or a reading left has a forecast, so that no refusal occurs
 // here, and nothing is shown for it.
 #[derive(Clone, Copy, Debug, PartialEq, Eq)]
-pub struct Forecast(pub Result<Option<Breach>, Refusal>);
+pub struct Forecast(pub Result<Option<BreachAhead>, Refusal>);
 
 impl Put for Forecast {
     ghost text = { shown_forecast };
 
-    fn put_on(&self, page: &mut Page) {
+    fn put_on(&self, page: &mut Page<'_>) {
         match self.0 {
             Ok(Some(breach)) => put_breach(breach, page),
             Ok(None) => page.put_bytes(b" NONE"),
-            Err(_) => page.put_bytes(b""),
+            Err(_) => {}
         }
     }
 }
 
 // The time, and the parties by bit.
-fn put_breach(breach: Breach, page: &mut Page)
+fn put_breach(breach: BreachAhead, page: &mut Page<'_>)
     ensures { page.new ≡ put page.old (shown_breach breach) }
 {
     page.put_next(breach.time);
@@ -55,7 +56,7 @@ pub enum Verdict {
 impl Put for Verdict {
     ghost text = { shown_verdict };
 
-    fn put_on(&self, page: &mut Page) {
+    fn put_on(&self, page: &mut Page<'_>) {
         match *self {
             Verdict::Live(forecast) => {
                 page.put_bytes(b"LIVE");
@@ -77,20 +78,17 @@ fn forecast_on(agreement: &[u8], table: &[i64]) -> Forecast
     Forecast(monitor::forecast(agreement, table))
 }
 
-// The verdict on a table, by its state: 2 is fulfilled, and 1 runs.
+// The verdict on a table, by its state; a cell that names none is taken for a breach's.
 fn verdict_on(agreement: &[u8], table: &[i64]) -> Verdict
     ensures shows { fields (shown_verdict result ∷ []) ≡ fields (verdict_fields agreement.now table.now) }
     ensures room { length (shown_verdict result) ≤ 48 }
 {
-    let state = table.first().copied().unwrap_or(0);
-    if state == 2 {
-        return Verdict::Done;
+    let cell = table.first().copied().unwrap_or(0);
+    match RunState::try_from(cell).unwrap_or(RunState::Breached) {
+        RunState::Running => Verdict::Live(forecast_on(agreement, table)),
+        RunState::Fulfilled => Verdict::Done,
+        RunState::Breached => Verdict::Breach(forecast_on(agreement, table)),
     }
-    let forecast = forecast_on(agreement, table);
-    if state == 1 {
-        return Verdict::Live(forecast);
-    }
-    Verdict::Breach(forecast)
 }
 
 // Starts the agreement.

@@ -2,7 +2,7 @@
 use crate::Entry;
 use crate::given::{Given, MOST_CELLS};
 use arrayvec::ArrayVec;
-use monitor::{Accepted, Breach, Refusal, Refused};
+use monitor::{BreachAhead, Refusal, Refused, Taken};
 use std::io;
 use std::io::Write;
 
@@ -98,7 +98,7 @@ impl<W: Write> Lines<W> {
         reading: &[u8],
     ) -> io::Result<()> {
         match monitor::reading(agreement, table, reading) {
-            Ok(Accepted { early, cost }) => {
+            Ok(Taken { early, cost }) => {
                 let early = u8::from(early);
                 write!(self.text, "reading 0 {early} {cost}")?;
             }
@@ -115,7 +115,7 @@ impl<W: Write> Lines<W> {
         let foretold = monitor::forecast(agreement, table);
         let number = number_of(&foretold);
         match foretold {
-            Ok(Some(Breach { time, parties })) => write!(
+            Ok(Some(BreachAhead { time, parties })) => write!(
                 self.text,
                 "forecast {number} {time} {parties}"
             ),

@@ -1,12 +1,13 @@
 -- Instances: arguments, blame bytes, and the parties of both.
 use mathlib.Core.Path.{◌≡◌, refl, sym, ap, ◌∙◌}
-use mathlib.Core.Bool.{Bool, true, false, cond, ◌&&◌, not, not-not}
+use mathlib.Core.Bool.{Bool, true, false, cond, ◌&&◌}
 use mathlib.Core.List.{List, [], ◌∷◌, ◌++◌}
 use mathlib.Core.Option.{Option, none, some}
 use Prim.Native.Nat.{ℕ, zero, suc, ◌+◌, ◌-◌, ◌<◌, ◌≤◌}
 use native.Mathlib.Nat.{le_of_suc-le-suc, not-suc-le-zero}
 use native.Mathlib.Numerals.{add-one}
 use native.Mathlib.Omega.{arith}
+use native.Mathlib.Decide.{dec_le}
 use borrow.Author.Tests.{ne_eqb, eq-eqb}
 use lib.Bits.{bit_or}
 use lib.Dec.{eqb}
@@ -18,19 +19,20 @@ use Rattle.csl.specs.Lists.{◌>>=◌, need, all, at}
 use Rattle.csl.specs.Bytes.{byte, le16, part, record_end}
 use Rattle.csl.specs.Parties.{members}
 use Rattle.csl.specs.Syntax.{Ty, Expr, instance, bad_clause}
-use Rattle.csl.specs.Decode.{ty_of, tys_of, arguments, records_end, instance_of, heads_of, template_head}
+use Rattle.csl.specs.Decode.{expr, ty_of, tys_of, arguments, records_end, instance_of, heads_of, template_head}
 use Rattle.csl.specs.Typing.{names_of, blame_ok, have_types, type_clause}
 use Rattle.laws.proofs.Clash.{impossible}
 use Rattle.laws.proofs.Types.{types_length}
 use Rattle.arith.proofs.Lists.{length_part}
+use Rattle.octets.proofs.Bytes.{record_end_within}
 use Rattle.kinds.specs.declared.«Type».{«Type»}
 use Rattle.kinds.specs.Kinds.{ty_in}
 use Rattle.records.specs.Index.{ValueTypes, head_at, piece_at, template_place}
 use Rattle.records.proofs.Index.{heads_in_lem, heads_at, heads_past}
 use Rattle.parties.specs.Masks.{mask_of, may_blame}
-use Rattle.parties.proofs.Masks.{mask_lt, mask_nil, mask_append, mask_members}
+use Rattle.parties.proofs.Masks.{mask_nil, mask_append, mask_members}
 use Rattle.typing.specs.Clauses.{names_in, is_typed, arguments_as, arguments_of, blames_of, typed_as}
-use Rattle.typing.proofs.Sights.{has_is, parties_is, not_there, there}
+use Rattle.typing.proofs.Sights.{has_is, part_none, parties_is, not_there, there}
 
 -- ---- parties that code has found
 pub from_typed : {C : Type 0} (o : Option (List ℕ)) {m : ℕ} → Some m ≡ typed_as o
@@ -252,10 +254,6 @@ module _ (g : List ℕ) (params : ℕ) (env : List Ty) (f : List ℕ → Expr) (
       unfolding ◌>>=◌
       typed_from = instance_is ∙ rw (as_some (has_arguments g k env f s) (end_of g k s) h, ← ends_at)
 
-      pub instance_long : length s < j
-          → None ≡ typed_as (type_clause (names_in g params) env (instance_of f s (at (heads_of g) (byte s 4))))
-      instance_long m = untyped (typed_from ∙ rw (ne_eqb (j + (head_at g k).params) (length s) (λ q. omega arith)))
-
       module _ {m : ℕ} (p : m ≡ (head_at g k).params) (u : j ≤ length s) where
         pub instance_other : (length s - j ≡ m → ⊥)
             → None ≡ typed_as (type_clause (names_in g params) env (instance_of f s (at (heads_of g) (byte s 4))))
@@ -287,3 +285,33 @@ module _ (g : List ℕ) (params : ℕ) (env : List Ty) (f : List ℕ → Expr) (
           unfolding blames_of
           instance_typed v b w = rw (behind, w) (blames_on d (part s j (length s))
               (all (may_blame ps params) (part s j (length s))) v b)
+
+-- a record of fewer than 5 bytes, which read as template 0's: without values its arguments end behind it, and the first
+-- value has no bytes
+module _ (g : List ℕ) (params : ℕ) (env : List Ty) (d : ℕ) (s : List ℕ) (h : length s ≤ 4) where
+  no_first : (t : Ty) (ts : List Ty) → have_types (byte g 8) env (arguments (expr d) (length (t ∷ ts)) s 5) (t ∷ ts)
+      ≡ none
+  unfolding have_types arguments ◌>>=◌ need
+  no_first t ts = rw (
+    has_is (byte g 8) env (expr d (part s 5 (record_end s 5))) t,
+    ← part_none (byte g 8) env d s 5 (record_end s 5) t (omega (arith, record_end_within s 5)),
+  ) refl
+
+  pub instance_short : None ≡ typed_as (type_clause (names_in g params) env
+      (instance_of (expr d) s (at (heads_of g) (byte s 4))))
+  unfolding records_end ◌>>=◌
+  instance_short = test (dec_le (byte g 10) (byte s 4))
+    where
+      by_values : byte s 4 < byte g 10 → (ts : List Ty) → (head_at g (byte s 4)).values ≡ ts
+          → None ≡ typed_as (type_clause (names_in g params) env (instance_of (expr d) s (at (heads_of g) (byte s 4))))
+      by_values l [] q = untyped (instance_is g params env (expr d) s refl l
+          ∙ rw (ne_eqb (end_of g (byte s 4) s + (head_at g (byte s 4)).params) (length s)
+          (λ p. let e : end_of g (byte s 4) s ≡ 5 = rw q refl in absurd (omega arith))) refl)
+      by_values l (t ∷ ts) q = untyped (instance_is g params env (expr d) s refl l
+          ∙ rw (q, no_first t ts)
+          (neither (eqb (records_end (length (t ∷ ts)) s 5 + (head_at g (byte s 4)).params) (length s))))
+
+      test : Dec (byte g 10 ≤ byte s 4)
+          → None ≡ typed_as (type_clause (names_in g params) env (instance_of (expr d) s (at (heads_of g) (byte s 4))))
+      test (yes l) = instance_past g params env (expr d) s refl refl l
+      test (no l) = by_values (omega arith) (head_at g (byte s 4)).values refl

@@ -1,17 +1,20 @@
 -- The types in sight: what is written into their bytes, and what csl's typing of a wait says of them.
 use mathlib.Core.Path.{◌≡◌, refl, sym, ap, ◌∙◌}
-use mathlib.Core.Bool.{Bool, true, false, cond, ◌&&◌, not, not-not}
+use mathlib.Core.Bool.{Bool, true, false, cond, ◌&&◌}
 use mathlib.Core.List.{List, [], ◌∷◌, ◌++◌}
+use mathlib.Core.Logic.{◌⊎◌, inl, inr}
 use mathlib.Core.Option.{Option, none, some}
-use Prim.Native.Nat.{ℕ, zero, suc, ◌+◌, ◌-◌, ◌<◌}
+use Prim.Native.Nat.{ℕ, zero, suc, ◌+◌, ◌-◌, ◌<◌, ◌≤◌}
 use native.Mathlib.Numerals.{sub-one}
 use native.Mathlib.Omega.{arith}
+use native.Mathlib.Decide.{dec_le}
 use borrow.Author.Tests.{ne_eqb, leb-true, leb-false}
-use lib.Dec.{eqb, leb}
-use lib.ListN.{length, take, length-map, length-append}
+use lib.Dec.{leb}
+use lib.ListN.{length, take, length-map, length-append, get_or-eq_default}
 use lib.Seq.{take_at}
 use Rattle.std.specs.Prelude.{Some, None}
 use Rattle.std.specs.Prelude as prelude
+use Rattle.std.specs.Bool.{then_some as seen_some}
 use Rattle.arrayvec.specs.ArrayVec.{ArrayVec}
 use Rattle.csl.specs.Lists.{◌>>=◌, need, at}
 use Rattle.csl.specs.Bytes.{byte, part, is_record, record_end}
@@ -50,15 +53,20 @@ then_none : (rs : List (List Ty)) (env : List Ty) (k : ℕ) → reading_of_type 
 unfolding then_of ◌>>=◌
 then_none rs env k e = rw e
 
-pub then_zero : (rs : List (List Ty)) (env : List Ty) (k : ℕ) → k ≡ 0 → then_of rs env k ≡ seen_as None
+then_zero : (rs : List (List Ty)) (env : List Ty) (k : ℕ) → k ≡ 0 → then_of rs env k ≡ seen_as None
 unfolding reading_of_type seen_as
 then_zero rs env k e = then_none rs env k (rw e)
 
-pub then_past : (s : List ℕ) (env : List Ty) (k : ℕ) {n : ℕ} → n ≡ byte s 9 → n < k
+then_past : (s : List ℕ) (env : List Ty) (k : ℕ) {n : ℕ} → n ≡ byte s 9 → n < k
     → then_of (agreement_of s).readings env k ≡ seen_as None
 unfolding seen_as
 then_past s env k e l = then_none (agreement_of s).readings env k
     (reading_suc (agreement_of s).readings k (λ z. omega arith) ∙ readings_past s (k - 1) (omega arith))
+
+pub then_unnamed : (s : List ℕ) (env : List Ty) (k : ℕ) → (k ≡ 0) ⊎ (byte s 9 < k)
+    → then_of (agreement_of s).readings env k ≡ seen_as None
+then_unnamed s env k (inl e) = then_zero (agreement_of s).readings env k e
+then_unnamed s env k (inr l) = then_past s env k refl l
 
 sight_length : (bs vs : List ℕ) → length (then_sight (tys_of bs) (tys_of vs)) ≡ length bs + length vs + 1
 unfolding then_sight tys_of
@@ -170,6 +178,14 @@ pub parties_is : (s : List ℕ) → (agreement_of s).parties ≡ byte s 8
 unfolding agreement_of
 parties_is s = refl
 
+-- a wanted type is named by a byte that is there
+pub named : (s : List ℕ) (i : ℕ) {k : ℕ} → k ≡ byte s i → 0 < k → i < length s
+named s i {k} p l = test (dec_le (length s) i)
+  where
+    test : Dec (length s ≤ i) → i < length s
+    test (yes h) = absurd (let z : k ≡ 0 = p ∙ get_or-eq_default s 0 {n = i} h in omega arith)
+    test (no h) = omega arith
+
 -- what the code has found: the types that `then` sees, and whether the expressions are typed under all but the last one
 module _ (g bs : List ℕ) (d : ℕ) (s : List ℕ) (i : ℕ) {k : ℕ} (p : k ≡ byte s i) where
   pub wait_over : then_of (agreement_of g).readings (tys_of bs) k ≡ seen_as None
@@ -192,13 +208,22 @@ module _ (g bs : List ℕ) (d : ℕ) (s : List ℕ) (i : ℕ) {k : ℕ} (p : k �
     told : b ≡ wait_typed (agreement_of g).parties (tys_of (take (n - 1) v.items)) (tys_of bs) (wait_at (expr d) 0 s i)
     told = rw (parties_is g, ← h, ← o) w
 
-    pub wait_yes : b ≡ true → wait_sight (names_in g 0) (tys_of bs) (wait_at (expr d) 0 s i) ≡ seen_as (Some v)
+    wait_yes : b ≡ true → wait_sight (names_in g 0) (tys_of bs) (wait_at (expr d) 0 s i) ≡ seen_as (Some v)
     unfolding seen_as
     wait_yes q = wait_is ∙ rw (sym told ∙ q)
 
-    pub wait_no : b ≡ false → wait_sight (names_in g 0) (tys_of bs) (wait_at (expr d) 0 s i) ≡ seen_as None
+    wait_no : b ≡ false → wait_sight (names_in g 0) (tys_of bs) (wait_at (expr d) 0 s i) ≡ seen_as None
     unfolding seen_as
     wait_no q = wait_is ∙ rw (sym told ∙ q)
+
+    pub wait_gives : {r : prelude.Option (ArrayVec ℕ)} → r ≡ seen_some b v
+        → wait_sight (names_in g 0) (tys_of bs) (wait_at (expr d) 0 s i) ≡ seen_as r
+    wait_gives h = rw h (go b refl)
+      where
+        go : (x : Bool) → b ≡ x
+            → wait_sight (names_in g 0) (tys_of bs) (wait_at (expr d) 0 s i) ≡ seen_as (seen_some x v)
+        go true q = wait_yes q
+        go false q = wait_no q
 
 -- ---- what is there by a test
 pub not_there : {A : Type 0} {b : Bool} (x : A) → None ≡ cond b (Some x) None → b ≡ false

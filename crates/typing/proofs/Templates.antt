@@ -15,7 +15,7 @@ use Rattle.csl.specs.Decode.{tys_of, templates_place, clause, pieces, records_en
 use Rattle.csl.specs.Decode.{template_head, main_place, main_of, template_pieces, agreement_of}
 use Rattle.csl.specs.Typing.{Names, names_of, is_constant, type_clause, type_template, type_templates, heads_in}
 use Rattle.csl.specs.Typing as typing
-use Rattle.std.specs.Prelude.{Some, None}
+use Rattle.std.specs.Prelude.{Some, None, MatchOption}
 use Rattle.std.specs.Prelude as prelude
 use Rattle.std.specs.List.{list_all, range_with_len}
 use Rattle.records.specs.Index.{Lists, ValueTypes, head_at, piece_at, template_place, template_piece, body_bytes}
@@ -74,11 +74,11 @@ module _ {g : List ℕ} (x : Lists g) (k : ℕ) {d : ℕ} (l : k < byte g 10) (p
       unfolded : holds (template_typed g k) ≡ holds (typed_body g k >>= λ qs. need (constants_in (declared_at g k) qs))
       unfolded = ap holds (template_is g k) ∙ holds_need _ _ ∙ rw (told, e)
 
-      pub template_untyped : None ≡ typed_as (typed_body g k) → false ≡ holds (template_typed g k)
+      template_untyped : None ≡ typed_as (typed_body g k) → false ≡ holds (template_typed g k)
       unfolding holds ◌>>=◌
       template_untyped f = sym (unfolded ∙ rw (from_untyped (typed_body g k) f))
 
-      pub template_within : {m a : ℕ} {r : Bool} → d < 65_536 → Some m ≡ typed_as (typed_body g k) → a ≡ m % 65_536
+      template_within : {m a : ℕ} {r : Bool} → d < 65_536 → Some m ≡ typed_as (typed_body g k) → a ≡ m % 65_536
           → r ≡ eqb (bit_or a d) d → r ≡ holds (template_typed g k)
       unfolding ◌>>=◌
       template_within {r = r} s f v w = from_typed (typed_body g k) f (λ qs y z.
@@ -86,6 +86,13 @@ module _ {g : List ℕ} (x : Lists g) (k : ℕ) {d : ℕ} (l : k < byte g 10) (p
           (body_of (heads_of g) (template_piece g k)) qs y) z v w
           ∙ sym (unfolded ∙ rw y (holds_is (constants_in (declared_at g k) qs))
           ∙ ap (λ (m : ℕ). constants_in m qs) (sym p)))
+
+      -- o is what was found of the body, and r what is asked of it
+      pub template_by : (o : prelude.Option ℕ) {P : ℕ → Type 0} {r : Bool} → d < 65_536 → o ≡ typed_as (typed_body g k)
+          → MatchOption o (r ≡ false) P → ((m : ℕ) → P m → r ≡ eqb (bit_or (m % 65_536) d) d)
+          → r ≡ holds (template_typed g k)
+      template_by None s f p h = p ∙ template_untyped f
+      template_by (Some m) s f p h = template_within s f refl (h m p)
 
 -- ---- the templates from k on
 holds_both : (o p : Option (Unit {0})) → holds (o >>= λ _. p) ≡ (holds o && holds p)

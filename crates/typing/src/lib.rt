@@ -12,39 +12,36 @@ mod operators;
 
 use names::Names;
 use parties::PartySet;
-use records::{Agreement, BODY_DEPTH, MAIN_DEPTH};
+use records::{Agreement, BODY_DEPTH, MAIN_DEPTH, Template};
 
-// The parties of template k's body, where it is typed.
-fn body_parties(agreement: &Agreement<'_>, k: usize) -> Option<PartySet>
-    requires { k < bytes.byte agreement.now 10 }
-    ensures { result ≡ typed_as (typed_body agreement.now k) }
+// The parties of a template's body, where it is typed.
+fn body_parties(template: &Template<'_>) -> Option<PartySet>
+    ensures { result ≡ typed_as (typed_body template.now.agreement.now template.now.number) }
 {
     let names = Names {
-        agreement,
-        params: agreement.param_count(k),
+        agreement: template.agreement,
+        params: template.param_count(),
     };
-    names.clause_parties(agreement.value_types(k), agreement.body(k), BODY_DEPTH)
+    names.clause_parties(template.value_types(), template.body(), BODY_DEPTH)
 }
 
-// Template k declares parties below the count, and its body's constant parties are among them.
-fn template_typed(agreement: &Agreement<'_>, k: usize) -> bool
-    requires { k < bytes.byte agreement.now 10 }
-    ensures { result ≡ holds (template_typed agreement.now k) }
+// The template declares parties below the count, and its body's constant parties are among them.
+fn template_typed(template: &Template<'_>) -> bool
+    ensures { result ≡ holds (template_typed template.now.agreement.now template.now.number) }
 {
-    let declared = PartySet::of_bits(agreement.declared_bits(k));
-    if !declared.below(agreement.parties()) {
-        return false;
-    }
-    let Some(body) = body_parties(agreement, k) else {
-        return false;
-    };
-    body.constants().is_subset(declared)
+    let declared = PartySet::of_bits(template.declared_bits());
+    declared.below(template.agreement.parties())
+        && body_parties(template).is_some_and(|body| body.constants().is_subset(declared))
 }
 
 fn templates_typed(agreement: &Agreement<'_>) -> bool
     ensures { result ≡ holds (templates_typed agreement.now 0) }
 {
-    (0..agreement.template_count()).all(|k| template_typed(agreement, k))
+    (0..agreement.template_count()).all(
+        |number|
+            requires { number < bytes.byte agreement.now 10 }
+        { template_typed(&Template { agreement, number }) },
+    )
 }
 
 // The main clause's parties; refusal 3 where this is untyped.

@@ -1,11 +1,12 @@
 // Types of literals and of what operators make of their operands. An operator is the number of its record's kind: a
-// record's kind is decided by a match on its number.
+// record's kind is decided by a match on its number, a rule of the project.
 ghost use Rattle.std.specs.Prelude.{◌≡◌};
 ghost use Rattle.typing.specs.Types.{literal_type, not_type, operand_type, result_type, operation_type};
 
 use kinds::Type;
 
-// A literal of n bytes, with a type where it is allowed.
+// A literal of n bytes, with a type where it is allowed. (Whether it is allowed is a test and no case: as an Option of
+// the type, each caller would make one for this to take apart.)
 pub(crate) fn literal_type(s: &[u8], n: usize, allowed: bool, t: Type) -> Option<Type>
     ensures { result ≡ literal_type n s.now allowed t }
 {

@@ -20,6 +20,7 @@ use Rattle.std.specs.Prelude.{Option as Maybe, Some, None, Result, Ok, Err, unsi
 use Rattle.std.specs.Bool.{then_some}
 use Rattle.std.specs.Int.{FitsUnsignedBits}
 use Rattle.std.specs.Result.{OkIff, result_ok}
+use Rattle.arith.proofs.Ints.{seen, read! }
 use Rattle.laws.proofs.Bools.{by}
 use Rattle.laws.proofs.Clash.{impossible}
 use Rattle.csl.specs.Values.{as_nat}
@@ -44,19 +45,22 @@ below_not end n z h e = go (ltb n end) refl (rw e at h)
     go true e h = impossible cc
     go false e h = omega (arith, ltb-false n end e)
 
--- what `try_from` says of a cell
-module _ {E : Type 0} (z : ℤ) (t : Result ℕ E) (o : Maybe ℕ) (e : o ≡ result_ok t)
-    (h : OkIff t (FitsUnsignedBits 64 z) (unsigned_abs z))
+-- what `try_from` says of a cell, as the program reads it
+module _ {E : Type 0} (z : ℤ) (fits : mag z < 2 ^ 63) (t : Result ℕ E) {o : Maybe ℕ} (e : o ≡ result_ok t)
+    (h : OkIff t (FitsUnsignedBits 64 (seen z)) (unsigned_abs (seen z)))
   where
-    pub not_natural : mag z < 2 ^ 63 → o ≡ None → (n : ℕ) → z ≡ pos n → ⊥
-    not_natural f g n same = go t (sym e ∙ g) (rw same at h)
+    converts : OkIff t (FitsUnsignedBits 64 z) (unsigned_abs z)
+    converts = rw (read! {z = z} fits) at h
+
+    pub not_natural : o ≡ None → (n : ℕ) → z ≡ pos n → ⊥
+    not_natural g n same = go t (sym e ∙ g) (rw same at converts)
       where
         go : (t : Result ℕ E) → result_ok t ≡ None → OkIff t (n < 2 ^ 64) n → ⊥
         go (Ok x) g h = impossible cc
-        go (Err x) g h = h (let l : mag (pos n) < 2 ^ 63 = rw same at f in omega arith)
+        go (Err x) g h = h (let l : mag (pos n) < 2 ^ 63 = rw same at fits in omega arith)
 
-    pub natural : (n : ℕ) → o ≡ Some n → z ≡ pos n
-    natural n g = go z t (sym e ∙ g) h
+    pub natural : {n : ℕ} → o ≡ Some n → z ≡ pos n
+    natural {n} g = go z t (sym e ∙ g) converts
       where
         go : (z : ℤ) (t : Result ℕ E) → result_ok t ≡ Some n → OkIff t (FitsUnsignedBits 64 z) (unsigned_abs z)
             → z ≡ pos n

@@ -1,3 +1,4 @@
+pub mod Tests
 pub mod Cells
 pub mod Blames
 pub mod Units

@@ -1,6 +1,6 @@
 -- Waiting units: what the code read of their cells, and csl's reader.
 use mathlib.Core.Path.{◌≡◌, refl, sym, ap, ap₂, subst, ◌∙◌}
-use mathlib.Core.Bool.{Bool, true, false, ◌&&◌}
+use mathlib.Core.Bool.{Bool, true, ◌&&◌}
 use mathlib.Core.List.{List, [], ◌∷◌}
 use mathlib.Core.Logic.{inl, inr}
 use mathlib.Core.Option.{Option, none, some}
@@ -21,7 +21,7 @@ use Rattle.csl.specs.Places.{Found, clause_at}
 use Rattle.csl.specs.Values.{as_nat}
 use Rattle.csl.specs.Table.{is_zero, stands_for, stand_for, as_nats}
 use Rattle.laws.proofs.Options.{from_bind, from_need, some_bind, passes, some_inj, some_none}
-use Rattle.laws.proofs.Bools.{T-both, both_true, true_not_false, T→true}
+use Rattle.laws.proofs.Bools.{T-both, both_true, true_not_false, T→true, true→T}
 use Rattle.laws.proofs.Types.{types_length}
 use Rattle.arith.proofs.Lists.{length_part}
 use Rattle.octets.proofs.Bytes.{record_end_within}
@@ -35,11 +35,14 @@ use Rattle.records.specs.TypedValues.{values_ok}
 use Rattle.csl.specs.Check.{mains_of, Accepted}
 use Rattle.places.proofs.Descents.{fairly, found_clause, found_typed}
 use Rattle.std.specs.Prelude.{Option as Maybe, Some, None}
+use Rattle.std.specs.Bool.{then_some}
+use Rattle.cells.specs.declared.Sight.TheVariants.{Waits}
 use Rattle.arrayvec.specs.ArrayVec.{ArrayVec}
 use Rattle.units.specs.declared.Waiting.{Waiting}
 use Rattle.units.specs.Blames.{blames_of, WholeIn, PartiesAre}
 use Rattle.units.specs.Cells.{parties_in, PartiesRead}
 use Rattle.units.specs.Units.{cells_in, CellsShow, CellsRead, FoundThere, LocatedIs, recorded}
+use Rattle.units.proofs.Tests.{by_then}
 use Rattle.units.proofs.Blames.{typed_blames, stands_itself, stands_param, stands_none, whole_room}
 
 -- ---- what the code found in a unit's cells
@@ -48,34 +51,37 @@ module _ (parties n : ℕ) (types : List ℕ) (zs : List ℤ) where
   unfolding CellsRead
   no_parties e params h = some_none e h.are_params
 
-  pub no_zeros : {b : Bool} → b ≡ all is_zero (cells_in zs (2 + n) 7) → b ≡ false
-      → CellsRead parties n (tys_of types) zs None
-  unfolding CellsRead
-  no_zeros {b} e f params h = true_not_false h.no_params (sym e ∙ f)
+  -- the code's tests, one after the other
+  abbrev cells_tests : Bool
+  cells_tests = all is_zero (cells_in zs (2 + n) 7) && values_ok parties (tys_of types) (cells_in zs 7 23)
+      && all is_zero (cells_in zs (7 + length types) 23)
 
-  pub no_values_lem : {b : Bool} → b ≡ values_ok parties (tys_of types) (cells_in zs 7 23) → b ≡ false
-      → CellsRead parties n (tys_of types) zs None
-  unfolding CellsRead
-  no_values_lem {b} e f params h = true_not_false h.are_values (sym e ∙ f)
+  -- the values are as many as the types
+  rest_cells : all is_zero (cells_in zs (7 + length (tys_of types)) 23)
+      ≡ all is_zero (cells_in zs (7 + length types) 23)
+  rest_cells = ap (λ (y : ℕ). all is_zero (cells_in zs (7 + y) 23)) (types_length types)
 
-  pub no_rest : {b : Bool} → b ≡ all is_zero (cells_in zs (7 + length types) 23) → b ≡ false
-      → CellsRead parties n (tys_of types) zs None
+  pub cells_are : {b : Bool} {own : ArrayVec ℕ} {r : Maybe (ArrayVec ℕ)}
+      → parties_in parties (cells_in zs 2 (2 + n)) ≡ some own.items → b ≡ cells_tests → r ≡ then_some b own
+      → CellsRead parties n (tys_of types) zs r
   unfolding CellsRead
-  no_rest {b} e f params h = true_not_false h.no_values
-      (ap (λ (y : ℕ). all is_zero (cells_in zs (7 + y) 23)) (types_length types) ∙ sym e ∙ f)
+  cells_are own e g = by_then (CellsRead parties n (tys_of types) zs) g
+      (λ yes. both_true (blank && held) _ (true→T (sym e ∙ yes)) λ t z. both_true blank _ t λ x y.
+      record {
+        are_params = own;
+        no_params = T→true blank x;
+        are_values = T→true held y;
+        no_values = rest_cells ∙ T→true _ z;
+      })
+      (λ not params h. true_not_false (T→true cells_tests (T-both (blank && held) _
+      (T-both blank _ (true→T h.no_params) (true→T h.are_values)) (true→T (sym rest_cells ∙ h.no_values))))
+      (sym e ∙ not))
+    where
+      blank : Bool
+      blank = all is_zero (cells_in zs (2 + n) 7)
 
-  pub cells_show : {a b c : Bool} {own : ArrayVec ℕ} → parties_in parties (cells_in zs 2 (2 + n)) ≡ some own.items
-      → a ≡ all is_zero (cells_in zs (2 + n) 7) → a ≡ true
-      → b ≡ values_ok parties (tys_of types) (cells_in zs 7 23) → b ≡ true
-      → c ≡ all is_zero (cells_in zs (7 + length types) 23) → c ≡ true
-      → CellsRead parties n (tys_of types) zs (Some own)
-  unfolding CellsRead
-  cells_show {a} {b} {c} e f g h i j k = record {
-    are_params = e;
-    no_params = sym f ∙ g;
-    are_values = sym h ∙ i;
-    no_values = ap (λ (y : ℕ). all is_zero (cells_in zs (7 + y) 23)) (types_length types) ∙ sym j ∙ k;
-  }
+      held : Bool
+      held = values_ok parties (tys_of types) (cells_in zs 7 23)
 
 -- the parties that it read
 pub own_none : (o : Option (List ℕ)) {r : Maybe (ArrayVec ℕ)} → PartiesRead o r → r ≡ None → o ≡ none
@@ -220,20 +226,17 @@ module _ {A : List ℕ} {place n : ℕ} {types : List ℕ} (acc : Accepted A) (t
                 (stand_small acc place t.found t.is own.items
                 (rw p at (parties_nats parties (cells_in zs 2 (2 + n)) own.items cells.are_params).1)))
 
-            pub located_out : b ≡ false → LocatedIs A place n types zs None
+            pub located_is : {w : Waiting} {r : Maybe Waiting} → w.sight ≡ Waits n (length types) → w.parties ≡ bits
+                → r ≡ then_some b w → LocatedIs A place n types zs r
             unfolding LocatedIs
-            located_out f params u =
+            located_is counts same is = by_then (LocatedIs A place n types zs) is
+                (λ yes. record {
+                  params = own.items;
+                  has = record { cells = rw p at cells; among = sym in_mains ∙ yes };
+                  counts = counts;
+                  same = same ∙ bits_are;
+                })
+                (λ not params u.
                 let same : params ≡ own.items = some_inj (sym u.cells.are_params ∙ (rw p at cells.are_params)) in
                 true_not_false u.among (ap (λ (l : List ℕ). subset (stand_for l (recorded A place)) (mains_of A)) same
-                ∙ sym in_mains ∙ f)
-
-            pub located_in : b ≡ true → {w : Waiting} → w.parties ≡ bits → w.params ≡ n
-                → w.count ≡ length types → LocatedIs A place n types zs (Some w)
-            unfolding LocatedIs
-            located_in f i j k = record {
-              params = own.items;
-              has = record { cells = rw p at cells; among = sym in_mains ∙ f };
-              same = i ∙ bits_are;
-              param_count = j;
-              value_count = k;
-            }
+                ∙ sym in_mains ∙ not))

@@ -1,9 +1,9 @@
 -- csl's reader of a waiting unit, and its parties: what they need, and what they give where it is there.
 use mathlib.Core.Path.{◌≡◌, refl, sym, ap, ap₂, subst, ◌∙◌}
-use mathlib.Core.Bool.{true, ◌&&◌, true≢false}
+use mathlib.Core.Bool.{Bool, true, false, ◌&&◌, true≢false}
 use mathlib.Core.List.{List, [], ◌∷◌}
 use mathlib.Core.Option.{Option, none, some}
-use Prim.Native.Nat.{ℕ, zero, suc, ◌+◌, ◌-◌, ◌≤◌, ◌<◌}
+use Prim.Native.Nat.{ℕ, zero, suc, ◌+◌, ◌-◌, ◌≤◌}
 use native.Mathlib.Omega.{arith}
 use lib.Dec.{T, leb, ltb, leb→le, le→leb}
 use lib.IntN.{ℤ, pos, negsuc}
@@ -23,7 +23,7 @@ use Rattle.csl.specs.Outcomes.{Sight, Sort, an_obligation, a_choice, Residue, un
 use Rattle.csl.specs.Places.{Found, clause_at}
 use Rattle.csl.specs.Table.{is_zero, is_sort, as_nats, waiting_unit, stand_for, residue_parties}
 use Rattle.laws.proofs.Options.{from_bind, from_need, some_bind, passes, some_inj, none_some, some_none}
-use Rattle.laws.proofs.Bools.{T-both, both_true, T→true, true→T, and_left, and_right}
+use Rattle.laws.proofs.Bools.{T-both, both_true, T→true, true→T, true_not_false, and_left, and_right}
 use Rattle.laws.proofs.Integers.{pos_inj}
 use Rattle.laws.proofs.Types.{types_length}
 use Rattle.std.specs.Prelude.{Option as Maybe, Some, None}
@@ -36,10 +36,10 @@ use Rattle.records.specs.TypedValues.{value_ok, values_ok}
 use Rattle.places.specs.Locate.{FoundAt, Locates}
 use Rattle.csl.specs.Check.{mains_of, Accepted}
 use Rattle.units.specs.declared.Waiting.{Waiting}
-use Rattle.units.specs.Cells.{number_below}
-use Rattle.units.specs.Units.{cells_in, UnitHas, sight_numbers, UnitShows, recorded, FoundThere, LocatedIs}
+use Rattle.cells.specs.Sights.{sights_in}
+use Rattle.cells.specs.declared.Sight.TheVariants.{Waits}
+use Rattle.units.specs.Units.{cells_in, UnitHas, UnitShows, recorded, FoundThere, LocatedIs}
 use Rattle.units.specs.Units.{WaitingIs}
-use Rattle.units.proofs.Cells.{below_is, below_not}
 use Rattle.units.proofs.Units.{parties_nats, nats_parties, found_few, found_parties, stand_small}
 
 -- ---- a list split
@@ -248,9 +248,9 @@ module _ {A : List ℕ} (acc : Accepted A) (now : ℕ) (s : Sort) (zs : List ℤ
       }
 
   pub unit_shows : (h : UnitFacts A now s zs)
-      → UnitShows A now (waiting_unit Ag s zs) (bits_of (stand_for h.params (recorded A h.place)))
-      h.found.params (length h.found.sight)
-  unfolding waiting_unit residue_parties agreement_of at sight_numbers units
+      → UnitShows A now (waiting_unit Ag s zs) (Waits h.found.params (length h.found.sight))
+      (bits_of (stand_for h.params (recorded A h.place)))
+  unfolding waiting_unit residue_parties agreement_of at sights_in units
   unit_shows h =
       let f = h.found in
       let n = f.params in
@@ -297,7 +297,7 @@ module _ {A : List ℕ} (acc : Accepted A) (now : ℕ) (s : Sort) (zs : List ℤ
           small = λ q m. stand_small acc h.place f h.is_at h.params nats.1 q m;
           same = refl;
         };
-        sights = ap₂ (λ (x y : ℕ). x ∷ y ∷ []) (nats.2 ∙ omega (arith, length_part zs 2 (2 + n) (omega arith)))
+        sights = ap₂ (λ (x y : ℕ). Waits x y ∷ []) (nats.2 ∙ omega (arith, length_part zs 2 (2 + n) (omega arith)))
             v.count;
         one = refl;
       }
@@ -343,16 +343,18 @@ module _ {A : List ℕ} (acc : Accepted A) (now : ℕ) (wait : WaitKind) (zs : L
   pub wait_negative : ((n : ℕ) → get_or zs 0 (pos 0) ≡ pos n → ⊥) → WaitingIs A now (sort_in wait) zs None
   wait_negative f = damaged λ h. f h.place h.is_place
 
-  pub wait_late : None ≡ number_below (now + 1) (get_or zs 1 (pos 0)) → WaitingIs A now (sort_in wait) zs None
-  wait_late e = damaged λ h. omega (arith, below_not (now + 1) h.when (get_or zs 1 (pos 0)) e h.is_when, h.to)
+  pub wait_timeless : ((n : ℕ) → get_or zs 1 (pos 0) ≡ pos n → ⊥) → WaitingIs A now (sort_in wait) zs None
+  wait_timeless f = damaged λ h. f h.when h.is_when
 
-  module _ {when : ℕ} (e : Some when ≡ number_below (now + 1) (get_or zs 1 (pos 0))) where
-    is_when_lem : get_or zs 1 (pos 0) ≡ pos when
-    is_when_lem = (below_is (now + 1) when (get_or zs 1 (pos 0)) e).0
-
-    pub wait_before : {start : ℕ} → start ≡ le32 A 4 → when < start → WaitingIs A now (sort_in wait) zs None
-    wait_before g k = damaged λ h. let same : h.when ≡ when = pos_inj (sym h.is_when ∙ is_when_lem) in
-        omega (arith, h.from)
+  module _ {when : ℕ} (e : get_or zs 1 (pos 0) ≡ pos when) where
+    pub wait_outside : {start : ℕ} {b : Bool} → start ≡ le32 A 4 → b ≡ (leb start when && leb when now) → b ≡ false
+        → WaitingIs A now (sort_in wait) zs None
+    wait_outside {start} a t f = damaged λ h.
+        let same : h.when ≡ when = pos_inj (sym h.is_when ∙ e) in
+        let from : start ≤ when = omega (arith, h.from) in
+        let to : when ≤ now = omega (arith, h.to) in
+        true_not_false (T→true (leb start when && leb when now)
+        (T-both (leb start when) _ (le→leb start when from) (le→leb when now to))) (sym t ∙ f)
 
     module _ {place : ℕ} (b : get_or zs 0 (pos 0) ≡ pos place) where
       same_place : (x : UnitFacts A now (sort_in wait) zs) → x.place ≡ place
@@ -379,32 +381,34 @@ module _ {A : List ℕ} (acc : Accepted A) (now : ℕ) (wait : WaitKind) (zs : L
               there.found.clause there.sorted
               (subst (λ (y : Found). T (is_sort (sort_in wait) y.clause)) (same_found x) x.sorted)))
 
-          module _ {start : ℕ} (a : start ≡ le32 A 4) (v : start ≤ when) (m : f.wait ≡ wait) where
-            pub wait_located : (w : Maybe Waiting) → LocatedIs A place f.params f.sight.items zs w
-                → WaitingIs A now (sort_in wait) zs w
-            unfolding LocatedIs WaitingIs
-            wait_located None y = damaged λ x.
-                let q = same_found x in
-                y x.params (subst (λ (p : ℕ). UnitHas A p f.params (tys_of f.sight.items) zs x.params) (same_place x)
-                (rw (ap (λ (z : Found). z.params) q ∙ there.params, ap (λ (z : Found). z.sight) q ∙ there.sight) at
-                x.has))
-            wait_located (Some w) y =
-                let x : UnitFacts A now (sort_in wait) zs = record {
-                  place = place;
-                  when = when;
-                  found = there.found;
-                  params = y.params;
-                  is_place = b;
-                  is_when = is_when_lem;
-                  is_at = there.is;
-                  sorted = subst (λ (u : WaitKind). T (is_sort (sort_in u) there.found.clause)) m there.sorted;
-                  from = omega arith;
-                  to = omega (arith, (below_is (now + 1) when (get_or zs 1 (pos 0)) e).1);
-                  has = rw (there.params, there.sight) y.has;
-                } in
-                let shows = unit_shows acc now (sort_in wait) zs l x in
-                rw (
-                  y.same,
-                  y.param_count ∙ sym there.params,
-                  y.value_count ∙ sym (ap length there.sight ∙ types_length f.sight.items),
-                ) shows
+          module _ {start : ℕ} {within : Bool} (a : start ≡ le32 A 4)
+              (t : within ≡ (leb start when && leb when now)) (inside : within ≡ true) (m : f.wait ≡ wait)
+            where
+              pub wait_located : (w : Maybe Waiting) → LocatedIs A place f.params f.sight.items zs w
+                  → WaitingIs A now (sort_in wait) zs w
+              unfolding LocatedIs WaitingIs
+              wait_located None y = damaged λ x.
+                  let q = same_found x in
+                  y x.params (subst (λ (p : ℕ). UnitHas A p f.params (tys_of f.sight.items) zs x.params) (same_place x)
+                  (rw (ap (λ (z : Found). z.params) q ∙ there.params, ap (λ (z : Found). z.sight) q ∙ there.sight) at
+                  x.has))
+              wait_located (Some w) y =
+                  let x : UnitFacts A now (sort_in wait) zs = record {
+                    place = place;
+                    when = when;
+                    found = there.found;
+                    params = y.params;
+                    is_place = b;
+                    is_when = e;
+                    is_at = there.is;
+                    sorted = subst (λ (u : WaitKind). T (is_sort (sort_in u) there.found.clause)) m there.sorted;
+                    from = omega (arith, leb→le start when (true→T (and_left _ _ (sym t ∙ inside))));
+                    to = leb→le when now (true→T (and_right (leb start when) _ (sym t ∙ inside)));
+                    has = rw (there.params, there.sight) y.has;
+                  } in
+                  let shows = unit_shows acc now (sort_in wait) zs l x in
+                  rw (
+                    y.same,
+                    y.counts ∙ ap₂ (λ n c. Waits n c) (sym there.params)
+                        (sym (ap length there.sight ∙ types_length f.sight.items)),
+                  ) shows

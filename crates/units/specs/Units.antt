@@ -1,5 +1,5 @@
 -- What a waiting unit's cells show.
-use Rattle.std.specs.Prelude.{◌≡◌, true, List, [], ◌∷◌, ◌++◌, ℕ, ◌+◌, ◌-◌, ◌<◌, ℤ, length, take, drop}
+use Rattle.std.specs.Prelude.{◌≡◌, true, List, [], ◌∷◌, ℕ, ◌+◌, ◌-◌, ◌<◌, ℤ, length, take, drop}
 use Rattle.std.specs.Prelude.{Option as Maybe, Some, None}
 use Rattle.std.proofs.Math.Option.{Option, none, some}
 use Rattle.csl.specs.Lists.{◌>>=◌, all}
@@ -7,7 +7,7 @@ use Rattle.csl.specs.Parties.{member, bits_of, subset}
 use Rattle.csl.specs.Syntax.{Ty}
 use Rattle.csl.specs.Bytes.{byte, part, record_end}
 use Rattle.csl.specs.Decode.{tys_of, heads_of, agreement_of}
-use Rattle.csl.specs.Outcomes.{Sort, Residue, unit, both, units}
+use Rattle.csl.specs.Outcomes.{Sort, Residue, units}
 use Rattle.csl.specs.Places.{Found, clause_at}
 use Rattle.csl.specs.Table.{is_zero, waiting_unit, stand_for, residue_parties}
 use Rattle.records.specs.TypedValues.{values_ok}
@@ -16,6 +16,9 @@ use Rattle.csl.specs.Check.{mains_of}
 use Rattle.units.specs.Blames.{blames_of}
 use Rattle.units.specs.Cells.{parties_in}
 use Rattle.arrayvec.specs.ArrayVec.{ArrayVec}
+use Rattle.cells.specs.Sights.{sights_in}
+use Rattle.cells.specs.declared.Sight.{Sight}
+use Rattle.cells.specs.declared.Sight.TheVariants.{Waits}
 use Rattle.units.specs.declared.Waiting.{Waiting}
 
 -- the cells from a up to e: what `&cells[a..e]` is
@@ -50,22 +53,15 @@ pub record FoundThere (a : List ℕ) (place n : ℕ) (types : List ℕ) : Type 0
   pub params : found.params ≡ n
   pub sight : found.sight ≡ tys_of types
 
-pub record HasBits (a : List ℕ) (place n : ℕ) (types : List ℕ) (zs : List ℤ) (bits m c : ℕ) : Type 0 where
+pub record HasBits (a : List ℕ) (place n : ℕ) (types : List ℕ) (zs : List ℤ) (sight : Sight) (bits : ℕ) : Type 0 where
   pub params : List ℕ
   pub has : UnitHas a place n (tys_of types) zs params
+  pub counts : sight ≡ Waits n (length types)
   pub same : bits ≡ bits_of (stand_for params (recorded a place))
-  pub param_count : m ≡ n
-  pub value_count : c ≡ length types
 
 unfoldable pub LocatedIs : List ℕ → ℕ → ℕ → List ℕ → List ℤ → Maybe Waiting → Type 0
 LocatedIs a place n types zs None = (params : List ℕ) → UnitHas a place n (tys_of types) zs params → ⊥
-LocatedIs a place n types zs (Some w) = HasBits a place n types zs w.parties w.params w.count
-
--- ---- how many party parameters and values each unit has, in the order of the cells; at a join how many units its
--- left side has, and 0
-unfoldable pub sight_numbers : Residue → List ℕ
-sight_numbers (unit s p a e) = length e.params ∷ length e.values ∷ []
-sight_numbers (both j l r) = units l ∷ 0 ∷ (sight_numbers l ++ sight_numbers r)
+LocatedIs a place n types zs (Some w) = HasBits a place n types zs w.sight w.parties
 
 -- a residue's parties, at the last reading time, by bit
 pub record PartiesOf (a : List ℕ) (now : ℕ) (r : Residue) (bits : ℕ) : Type 0 where
@@ -74,15 +70,15 @@ pub record PartiesOf (a : List ℕ) (now : ℕ) (r : Residue) (bits : ℕ) : Typ
   pub small : (q : ℕ) → member q parties ≡ true → q < 16
   pub same : bits ≡ bits_of parties
 
--- o is what was read of a unit: its parties by bit, n party parameters and c values
-pub record UnitShows (a : List ℕ) (now : ℕ) (o : Option Residue) (bits n c : ℕ) : Type 0 where
+-- o is what was read of a unit: what is in sight there, and its parties by bit
+pub record UnitShows (a : List ℕ) (now : ℕ) (o : Option Residue) (sight : Sight) (bits : ℕ) : Type 0 where
   pub residue : Residue
   pub is : o ≡ some residue
-  pub parties : PartiesOf a now residue bits
-  pub sights : sight_numbers residue ≡ n ∷ c ∷ []
   pub one : units residue ≡ 1
+  pub sights : sights_in residue ≡ sight ∷ []
+  pub parties : PartiesOf a now residue bits
 
 unfoldable pub WaitingIs : List ℕ → ℕ → Sort → List ℤ → Maybe Waiting → Type 0
 WaitingIs a now s zs None =
     (waiting_unit (agreement_of a) s zs >>= residue_parties (agreement_of a) (mains_of a) now) ≡ none
-WaitingIs a now s zs (Some w) = UnitShows a now (waiting_unit (agreement_of a) s zs) w.parties w.params w.count
+WaitingIs a now s zs (Some w) = UnitShows a now (waiting_unit (agreement_of a) s zs) w.sight w.parties

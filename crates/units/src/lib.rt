@@ -13,30 +13,31 @@ ghost use Rattle.units.specs.Blames.{WholeIn, PartiesAre};
 ghost use Rattle.units.specs.Units.{CellsRead, FoundThere, LocatedIs, WaitingIs};
 
 use arrayvec::ArrayVec;
+use cells::{FIRST_PARAM, FIRST_VALUE, Sight, UNIT_CELLS};
 use kinds::WaitKind;
 use octets::{byte, kind, record_end};
 use parties::{PARAMS_FROM, PartySet};
 use places::{Accepted, Located, locate};
 use records::values::values_ok;
-use records::{Agreement, first_clause};
+use records::{Agreement, Template, first_clause, sides_at};
 
-// Behind a unit's sort stand its place and its time, then its party parameters, then its values: of these cells the
-// first parameter, the first value, and how many there are.
-const FIRST_PARAM: usize = cells::FIRST_PARAM - 1;
+// Behind a unit's kind stand its place and its time, then its party parameters, then its values: of these cells where
+// the parameters and the values begin, and how many there are. (They are a slice: a reference to an array would need an
+// `unwrap` at each place.)
+const PARAMS_AT: usize = FIRST_PARAM - 1;
 
-const FIRST_VALUE: usize = cells::FIRST_VALUE - 1;
+const VALUES_AT: usize = FIRST_VALUE - 1;
 
-const CELLS: usize = cells::UNIT_CELLS - 1;
+const CELLS: usize = UNIT_CELLS - 1;
 
 // A template has at most so many party parameters.
 const PARAMS: usize = 4;
 
-// What a waiting unit shows: its parties, and how many party parameters and values it has.
+// What a waiting unit shows: how many party parameters and values are in sight there, and its parties.
 #[derive(Clone, Copy, Debug, PartialEq, Eq)]
 pub struct Waiting {
+    pub sight: Sight,
     pub parties: PartySet,
-    pub params: usize,
-    pub count: usize,
 }
 
 // A cell as a number below `end`, where it is one.
@@ -47,8 +48,8 @@ pub fn number_below(z: i64, end: usize) -> Option<usize>
     (n < end).then_some(n)
 }
 
-// Every cell is zero: so is what they have of ones together. (No test in the loop, as `all` has one: many cells are
-// read at once.)
+// Every cell is zero: so is what they have of ones together. (No test in the loop, so that many cells are read at once:
+// with `all`, which stops at a cell, a mark at 127 units takes 8.6 % more instructions.)
 pub fn zeros(cells: &[i64]) -> bool
     ensures { result ≡ all is_zero cells.now }
 {
@@ -71,14 +72,16 @@ fn party_cells(cells: &[i64], parties: usize) -> Option<ArrayVec<usize, PARAMS>>
     Some(own)
 }
 
-// The party that a blame byte stands for: itself, or a parameter's.
+// The party that a blame byte stands for: itself, or a parameter's. (No plainer as one with `activation`'s `blamed`,
+// which is over cells: it would need the byte as either type, and a law for each.)
 fn stands_for(b: usize, params: &[usize]) -> usize
     ensures { result ≡ stands_for params.now b }
 {
     if b < PARAMS_FROM {
-        return b;
+        b
+    } else {
+        params.get(b - PARAMS_FROM).copied().unwrap_or(0)
     }
-    params.get(b - PARAMS_FROM).copied().unwrap_or(0)
 }
 
 // The parties of a run of blame bytes.
@@ -97,13 +100,14 @@ fn instance_parties(agreement: &Agreement<'_>, s: &[u8], params: &[usize]) -> Pa
     requires { WholeIn agreement.now s.now × (kind_number s.now ≡ 22) }
     ensures { PartiesAre agreement.now s.now params.now result }
 {
-    let k = byte(s, 4);
-    let n = s.len() - agreement.param_count(k);
-    let declared = PartySet::of_bits(agreement.declared_bits(k));
+    let number = byte(s, 4);
+    let template = Template { agreement, number };
+    let n = s.len() - template.param_count();
+    let declared = PartySet::of_bits(template.declared_bits());
     declared | blame_bytes(&s[n..], params)
 }
 
-// The parties of a clause.
+// The parties of a clause. (A record's kind is decided by its number: a rule of the project.)
 fn clause_parties(agreement: &Agreement<'_>, s: &[u8], params: &[usize]) -> PartySet
     requires { WholeIn agreement.now s.now }
     ensures { PartiesAre agreement.now s.now params.now result }
@@ -116,8 +120,7 @@ fn clause_parties(agreement: &Agreement<'_>, s: &[u8], params: &[usize]) -> Part
             own | clause_parties(agreement, &s[c..], params)
         }
         18..=21 => {
-            let c = first_clause(s, k);
-            let f = record_end(s, c);
+            let (c, f) = sides_at(s, k);
             let left = clause_parties(agreement, &s[c..f], params);
             left | clause_parties(agreement, &s[f..], params)
         }
@@ -136,17 +139,11 @@ fn unit_cells(
     requires { (length cells.now ≡ 23) × (n ≤ 4) × (length types.now ≤ 16) }
     ensures { CellsRead parties n (tys_of types.now) cells.now result }
 {
-    let own = party_cells(&cells[FIRST_PARAM..FIRST_PARAM + n], parties)?;
-    if !zeros(&cells[FIRST_PARAM + n..FIRST_VALUE]) {
-        return None;
-    }
-    if !values_ok(types, &cells[FIRST_VALUE..CELLS], parties) {
-        return None;
-    }
-    if !zeros(&cells[FIRST_VALUE + types.len()..CELLS]) {
-        return None;
-    }
-    Some(own)
+    let own = party_cells(&cells[PARAMS_AT..PARAMS_AT + n], parties)?;
+    let is_sound = zeros(&cells[PARAMS_AT + n..VALUES_AT])
+        && values_ok(types, &cells[VALUES_AT..CELLS], parties)
+        && zeros(&cells[VALUES_AT + types.len()..CELLS]);
+    is_sound.then_some(own)
 }
 
 // A waiting unit whose clause was found.
@@ -166,14 +163,12 @@ fn located_unit(
     let bytes = agreement.bytes();
     let e = record_end(bytes, place);
     let parties = clause_parties(agreement, &bytes[place..e], &own);
-    if !parties.is_subset(accepted.mains()) {
-        return None;
-    }
-    Some(Waiting {
-        parties,
+    let sight = Sight::Waits {
         params: found.params,
-        count: types.len(),
-    })
+        values: types.len(),
+    };
+    let unit = Waiting { sight, parties };
+    parties.is_subset(accepted.mains()).then_some(unit)
 }
 
 // The cells behind the kind of a waiting unit, at the last reading time.
@@ -183,18 +178,16 @@ pub fn waiting_unit(
     wait: WaitKind,
     cells: &[i64],
 ) -> Option<Waiting>
-    requires { (time < 4_294_967_296) × (length cells.now ≡ 23) }
+    requires { length cells.now ≡ 23 }
     ensures { WaitingIs accepted.now time (sort_in wait) cells.now result }
 {
     let agreement = accepted.agreement();
     let place = usize::try_from(cells[0]).ok()?;
-    let when = number_below(cells[1], time + 1)?;
-    if when < agreement.start() {
-        return None;
-    }
+    let when = usize::try_from(cells[1]).ok()?;
     let found = locate(agreement, place)?;
-    if found.wait != wait {
-        return None;
+    if (agreement.start()..=time).contains(&when) && found.wait == wait {
+        located_unit(accepted, place, &found, cells)
+    } else {
+        None
     }
-    located_unit(accepted, place, &found, cells)
 }

@@ -48,18 +48,16 @@ module _ (vs : List ℤ) (s : List ℕ) (i a d : ℕ) (h : a ≤ farthest) {b c 
   unfolding first_of wait_at
   first_is fr hr p = read! fr ∙ hr ∙ rw (cell_of_lem a h, ec, eb)
 
-  pub window_is : {e : ℕ} → e ≡ record_end s c → {r q : ℤ} → mag r < 2 ^ 63
-      → (r ≡ to_z w64 a +ℤ eval_cells vs (expr d (part s b c))) × Near (nat_abs (to_z w64 a) + 1_000_000_000) r
-      → mag q < 2 ^ 63
+  pub window_is : {e : ℕ} → e ≡ record_end s c → (p : ℕ) → {r q : ℤ} → mag r < 2 ^ 63
+      → r ≡ first_of vs a (wait_at (expr d) p s i) → Near (a + 1_000_000_000) r → mag q < 2 ^ 63
       → (q ≡ seen r +ℤ eval_cells vs (expr d (part s c e))) × Near (nat_abs (seen r) + 1_000_000_000) q
-      → (p : ℕ) → WindowIs vs a (wait_at (expr d) p s i) (record { first = seen r; last = seen q })
+      → WindowIs vs a (wait_at (expr d) p s i) (record { first = seen r; last = seen q })
   unfolding last_of wait_at
-  window_is ee {r} {q} fr hr fq hq p =
-      let er = first_is fr hr.0 p in
+  window_is ee p {r} {q} fr er hr fq hq =
       let eq : seen q ≡ seen r +ℤ eval_cells vs
       (expr d (part s (record_end s (record_end s (i + 1))) (record_end s (record_end s (record_end s (i + 1)))))) =
       read! fq ∙ hq.0 ∙ rw (ee, ec, eb) in
-      record { first = er; last = eq ∙ rw er; near = omega (sizes, time_size a h) }
+      record { first = read! fr ∙ er; last = eq ∙ rw (read! fr ∙ er); near = omega sizes }
 
 -- ---- the window test, as the machine has it
 module _ (w : Window) (t : ℕ) (ht : t ≤ farthest) (fl : mag w.last < 2 ^ 63) where
@@ -198,7 +196,7 @@ module _ (t : ℕ) (h : t ≤ farthest) {last : ℤ} (near : Near (farthest + 2_
 -- ---- the later of a time and a last minute, as the machine has it
 module _ (a : ℕ) (h : a ≤ farthest) {last r : ℤ} (f : SFits w64 last) (g : mag r < 2 ^ 63)
     (e : r ≡ cond (lt_z (seen last) (to_z w64 a)) (to_z w64 a) (seen last)) where
-  pub later_seen : seen r ≡ pos (later_of a last)
+  later_seen : seen r ≡ pos (later_of a last)
   unfolding later_of
   later_seen = read! g ∙ e ∙ rw (cell_of_lem a h, read f) (by_sign last)
     where
@@ -210,12 +208,17 @@ module _ (a : ℕ) (h : a ≤ farthest) {last r : ℤ} (f : SFits w64 last) (g :
       by_sign (pos n) = by_order n (ltb n a) refl
       by_sign (negsuc n) = refl
 
-  module _ (w : Near (a + 2_000_000_000) last) where
-    later_near : later_of a last ≤ a + 2_000_000_000
-    later_near = omega (sizes, later_size a last)
+  pub moved_is : Near (a + 2_000_000_000) last
+      → (seen r ≡ pos (later_of a last)) × (later_of a last ≤ a + 2_000_000_000)
+  moved_is w = (later_seen, omega (sizes, later_size a last))
 
-    pub moved_asked : T (non_neg (seen r)) × Fits w64 (nat_abs (seen r))
-    moved_asked = rw later_seen (tt, record { fits = omega (arith, later_near) })
+-- what is moved so is a natural number
+module _ (a n : ℕ) (h : a ≤ farthest) {r : ℤ} (g : mag r < 2 ^ 63) (e : (r ≡ pos n) × (n ≤ a + 2_000_000_000)) where
+  natural_seen : seen r ≡ pos n
+  natural_seen = read! g ∙ e.0
 
-    pub moved_is : (nat_abs (seen r) ≡ later_of a last) × (nat_abs (seen r) ≤ a + 2_000_000_000)
-    moved_is = rw later_seen (refl, later_near)
+  pub natural_asked : T (non_neg (seen r)) × Fits w64 (nat_abs (seen r))
+  natural_asked = rw natural_seen (tt, record { fits = omega (arith, e.1) })
+
+  pub natural_is : (nat_abs (seen r) ≡ n) × (nat_abs (seen r) ≤ a + 2_000_000_000)
+  natural_is = rw natural_seen (refl, e.1)

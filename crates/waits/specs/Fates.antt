@@ -9,6 +9,7 @@ use Rattle.csl.specs.Rules as rules
 use Rattle.cells.specs.Evaluate.{is_true_cell, eval_cells}
 use Rattle.arith.specs.Near.{Near}
 use Rattle.waits.specs.declared.Event.{Event}
+use Rattle.waits.specs.declared.wait.Wait.{Wait as Here}
 use Rattle.waits.specs.declared.Fate.{Fate}
 use Rattle.waits.specs.declared.Fate.TheVariants.{Waits, Late, Taken}
 use Rattle.waits.specs.declared.Window.{Window}
@@ -30,6 +31,9 @@ abbrev pub mode_at : Event → Mode
 mode_at Activate = activating
 mode_at Forecast = forecasting
 mode_at (Follow r) = mode_of r.now
+
+abbrev pub wait_in : Here → ℕ → Wait
+wait_in w p = wait_at (expr w.depth) p w.bytes.now w.at
 
 unfoldable pub condition_of : List ℕ → ℕ → ℕ → List ℤ → Bool
 condition_of s i d vs = is_true_cell (eval_cells vs (wait_at (expr d) 0 s i).condition)

@@ -8,9 +8,9 @@ use native.Mathlib.Nat.{not-suc-le-zero}
 use native.Mathlib.Omega.{arith}
 use borrow.Author.Tests.{ltb-true, ltb-false, ne_eqb}
 use lib.Dec.{eqb, ltb}
-use lib.IntN.{ℤ}
+use lib.IntN.{ℤ, pos}
 use lib.ListN.{length, get_or, take, drop, length-take, length-drop, length-append}
-use lib.Seq.{drop-drop, get_or-take, get_or-drop, take_at, drop_at}
+use lib.Seq.{drop-drop, get_or-drop, take_at, drop_at}
 use Rattle.csl.specs.Bytes.{byte, part}
 use Rattle.csl.specs.Lists.{at}
 use Rattle.csl.specs.Syntax.{Clause, Head, and, or, fulfilled, bad_clause, instance}
@@ -18,7 +18,7 @@ use Rattle.csl.specs.Decode.{ClauseKind, fulfilled_kind, if_kind, join_kind, ins
 use Rattle.csl.specs.Decode.{arguments, clause, clause_body, expr, instance_of, records_end}
 use Rattle.csl.specs.Outcomes.{Residue, unit, both, units}
 use Rattle.laws.proofs.Bools.{by_test}
-use Rattle.cells.specs.Across.{clause_opens_later, unit_opens_later, some_open_later}
+use Rattle.cells.specs.Across.{nat_of, clause_opens_later, unit_opens_later, some_open_later}
 use Rattle.cells.specs.Sights.{flat}
 use Rattle.cells.specs.declared.Sight.{Sight}
 use Rattle.cells.specs.declared.Sight.TheVariants.{Waits, Joins}
@@ -167,18 +167,17 @@ yields_units s sights cs first size rest = YieldsList-from_zip {others = chunks_
     (record { runs = yields_chunks (length cs / 24) cs (zip_second s) size rest (omega arith) (omega arith) })
 
 -- what is given at a place
-module _ (size n m : ℕ) (sights : List Sight) (cs : List ℤ) (few : n ≤ m)
-    (each : (k : ℕ) → k < n → UnitAt size k sights cs) where
-  pub seen_at : (p : Sight × List ℤ) (k : ℕ) → k < length (zip (take n sights) (chunks m cs))
-      → p ≡ get_or (zip (take n sights) (chunks m cs)) k p → (length p.1 ≡ 24) × Seen size p.0 p.1
+module _ (size m : ℕ) (sights : List Sight) (cs : List ℤ) (few : length sights ≤ m)
+    (each : (k : ℕ) → k < length sights → UnitAt size k sights cs) where
+  pub seen_at : (p : Sight × List ℤ) (k : ℕ) → k < length (zip sights (chunks m cs))
+      → p ≡ get_or (zip sights (chunks m cs)) k p → (length p.1 ≡ 24) × Seen size p.0 p.1
   seen_at p k h e =
-      let both_long = length-zip (take n sights) (chunks m cs) in
-      let below_n : k < n = omega (arith, both_long, length-take n sights) in
+      let both_long = length-zip sights (chunks m cs) in
+      let below_n : k < length sights = omega (arith, both_long) in
       let below_m : k < m = omega arith in
       let u = each k below_n in
-      let at = e ∙ get_or-zip (take n sights) (chunks m cs) k p (omega (arith, both_long))
-      (omega (arith, both_long)) in
-      let sight : p.0 ≡ get_or sights k p.0 = ap (λ q. q.0) at ∙ get_or-take n sights k p.0 below_n in
+      let at = e ∙ get_or-zip sights (chunks m cs) k p below_n (omega (arith, both_long)) in
+      let sight : p.0 ≡ get_or sights k p.0 = ap (λ q. q.0) at in
       let cells : p.1 ≡ take 24 (drop (24 * k) cs) = ap (λ q. q.1) at ∙ chunk_at m k cs p.1 below_m in (
         ap length cells ∙ omega
             (arith, length-take 24 (drop (24 * k) cs), length-drop (24 * k) cs, u.cells),
@@ -200,19 +199,32 @@ module _ (r : Reading) (s : List ℕ) (size : ℕ) where
   abbrev pub opens : Sight × List ℤ → Bool
   opens p = opens_at r s p.0 p.1
 
-  pub some_unit : (n m : ℕ) (sights : List Sight) (cs : List ℤ) → n ≤ m
-      → ((k : ℕ) → k < n → UnitAt size k sights cs)
-      → some_open_later r.time r.tag r.values.items s n (flat sights) cs
-      ≡ list_any opens (zip (take n sights) (chunks m cs))
+  pub some_unit : (m : ℕ) (sights : List Sight) (cs : List ℤ) → length sights ≤ m
+      → ((k : ℕ) → k < length sights → UnitAt size k sights cs)
+      → some_open_later r.time r.tag r.values.items s (length sights) (flat sights) cs
+      ≡ list_any opens (zip sights (chunks m cs))
   unfolding some_open_later flat chunks
-  some_unit zero m sights cs h each = refl
-  some_unit (suc n) zero sights cs h each = absurd (not-suc-le-zero h)
-  some_unit (suc n) (suc m) [] cs h each = absurd (not-suc-le-zero (each 0 (omega arith)).sight)
-  some_unit (suc n) (suc m) (Waits params values ∷ sights) cs h each =
+  some_unit m [] cs h each = refl
+  some_unit zero (x ∷ sights) cs h each = absurd (not-suc-le-zero h)
+  some_unit (suc m) (Waits params values ∷ sights) cs h each =
       let first = (each 0 (omega arith)).is (Waits 0 0) in
       rw (sort_at cs first.sort) (ap (λ b. unit_opens_later r.time r.tag r.values.items s values (take 24 cs) || b)
-      (some_unit n m sights (drop 24 cs) (omega arith) (λ k l. behind (each (suc k) (omega arith)))))
-  some_unit (suc n) (suc m) (Joins join left ∷ sights) cs h each =
+      (some_unit m sights (drop 24 cs) (omega arith) (λ k l. behind (each (suc k) (omega arith)))))
+  some_unit (suc m) (Joins join left ∷ sights) cs h each =
       let first = (each 0 (omega arith)).is (Waits 0 0) in
       rw (sort_at cs first.sort)
-      (some_unit n m sights (drop 24 cs) (omega arith) (λ k l. behind (each (suc k) (omega arith))))
+      (some_unit m sights (drop 24 cs) (omega arith) (λ k l. behind (each (suc k) (omega arith))))
+
+-- what stands behind the units is of no account
+module _ (t k : ℕ) (rs : List ℤ) (s : List ℕ) where
+  pub taken_open : (n : ℕ) (sights : List Sight) (cs : List ℤ)
+      → some_open_later t k rs s n (flat (take n sights)) cs ≡ some_open_later t k rs s n (flat sights) cs
+  unfolding some_open_later flat
+  taken_open zero sights cs = refl
+  taken_open (suc n) [] cs = refl
+  taken_open (suc n) (Waits params values ∷ sights) cs =
+      ap (λ b. cond (ltb (nat_of (get_or cs 0 (pos 0))) 20) (unit_opens_later t k rs s values (take 24 cs)) false || b)
+      (taken_open n sights (drop 24 cs))
+  taken_open (suc n) (Joins join left ∷ sights) cs =
+      ap (λ b. cond (ltb (nat_of (get_or cs 0 (pos 0))) 20) (unit_opens_later t k rs s 0 (take 24 cs)) false || b)
+      (taken_open n sights (drop 24 cs))

@@ -2,12 +2,14 @@
 use mathlib.Core.Path.{◌≡◌, refl, sym, ap, ap₂, subst, ◌∙◌}
 use mathlib.Core.Bool.{Bool}
 use mathlib.Core.List.{List, [], ◌∷◌}
-use Prim.Native.Nat.{ℕ, suc, ◌+◌, ◌-◌, ◌*◌, ◌≤◌, ◌<◌}
+use Prim.Native.Nat.{ℕ, zero, suc, ◌+◌, ◌-◌, ◌*◌, ◌≤◌, ◌<◌}
 use native.Mathlib.Omega.{arith}
 use lib.Dec.{ltb}
 use lib.IntN.{ℤ, pos}
-use lib.ListN.{length, get_or, take, drop, length-drop}
+use lib.ListN.{length, get_or, take, drop, length-drop, length-take}
 use lib.Seq.{drop-drop, get_or-take}
+use native.Mathlib.Nat.{not-suc-le-zero}
+use Rattle.std.proofs.lemmas.List.{drop-take}
 use Rattle.laws.proofs.Clash.{impossible}
 use Rattle.laws.proofs.Residues.{some_units}
 use Rattle.laws.specs.Joins.{join_of}
@@ -91,6 +93,82 @@ module _ (m : Mode) (s : List ℕ) (size : ℕ) where
   unfolding first_of
   tree_is res sights cs t = let none : units res ≡ units res + 0 = omega arith in
       ap (λ n. first_of (across m s n (flat sights) cs)) none ∙ ap first_of (tree_first res 0 sights cs t)
+
+-- ---- what stands behind the units is of no account
+module _ (size : ℕ) where
+  taken_stands : (res : Residue) (n : ℕ) (sights : List Sight) (cs : List ℤ) → units res ≤ n → TreeOf size res sights cs
+      → TreeOf size res (take n sights) cs
+  unfolding TreeOf units
+  taken_stands (unit k p a e) (suc n) (Waits params values ∷ sights) cs h t = t
+  taken_stands (both j l r) (suc n) (Joins join left ∷ sights) cs h t =
+      let at : left + (n - left) ≡ n = omega (arith, t.2) in
+      let behind : drop left (take n sights) ≡ take (n - left) (drop left sights) = ap (λ k. drop left (take k sights))
+      (sym at) ∙ drop-take left (n - left) sights in (
+        t.0,
+        t.1,
+        t.2,
+        taken_stands l n sights (drop 24 cs) (omega arith) t.3,
+        subst (λ x. TreeOf size r x (drop (24 + 24 * left) cs)) (sym behind)
+            (taken_stands r (n - left) (drop left sights) (drop (24 + 24 * left) cs) (omega (arith, t.2)) t.4),
+      )
+  taken_stands (unit k p a e) zero sights cs h t = absurd (not-suc-le-zero h)
+  taken_stands (both j l r) zero sights cs h t = absurd (omega arith)
+  taken_stands (unit k p a e) (suc n) [] cs h t = absurd t
+  taken_stands (unit k p a e) (suc n) (Joins join left ∷ sights) cs h t = absurd t
+  taken_stands (both j l r) (suc n) [] cs h t = absurd t
+  taken_stands (both j l r) (suc n) (Waits params values ∷ sights) cs h t = absurd t
+
+  long_of : (res : Residue) (sights : List Sight) (cs : List ℤ) → TreeOf size res sights cs → units res ≤ length sights
+  unfolding TreeOf units
+  long_of (unit k p a e) (Waits params values ∷ sights) cs t = omega arith
+  long_of (both j l r) (Joins join left ∷ sights) cs t = omega (
+    arith,
+    t.2,
+    some_units r,
+    length-drop left sights,
+    long_of r (drop left sights) (drop (24 + 24 * left) cs) t.4,
+  )
+  long_of (unit k p a e) [] cs t = absurd t
+  long_of (unit k p a e) (Joins join left ∷ sights) cs t = absurd t
+  long_of (both j l r) [] cs t = absurd t
+  long_of (both j l r) (Waits params values ∷ sights) cs t = absurd t
+
+  taken_same : (m : Mode) (s : List ℕ) (res : Residue) (n : ℕ) (sights : List Sight) (cs : List ℤ) → units res ≤ n
+      → TreeOf size res sights cs → reckoned_of m s res (take n sights) cs ≡ reckoned_of m s res sights cs
+  unfolding TreeOf units reckoned_of
+  taken_same m s (unit k p a e) (suc n) (Waits params values ∷ sights) cs h t = refl
+  taken_same m s (both j l r) (suc n) (Joins join left ∷ sights) cs h t =
+      let at : left + (n - left) ≡ n = omega (arith, t.2) in
+      let behind : drop left (take n sights) ≡ take (n - left) (drop left sights) = ap (λ k. drop left (take k sights))
+      (sym at) ∙ drop-take left (n - left) sights in
+      ap₂ (λ x y. reaches (joins (join_in join) x y)) (taken_same m s l n sights (drop 24 cs) (omega arith) t.3)
+      (ap (λ x. reckoned_of m s r x (drop (24 + 24 * left) cs)) behind
+      ∙ taken_same m s r (n - left) (drop left sights) (drop (24 + 24 * left) cs) (omega (arith, t.2)) t.4)
+  taken_same m s (unit k p a e) zero sights cs h t = absurd (not-suc-le-zero h)
+  taken_same m s (both j l r) zero sights cs h t = absurd (omega arith)
+  taken_same m s (unit k p a e) (suc n) [] cs h t = absurd t
+  taken_same m s (unit k p a e) (suc n) (Joins join left ∷ sights) cs h t = absurd t
+  taken_same m s (both j l r) (suc n) [] cs h t = absurd t
+  taken_same m s (both j l r) (suc n) (Waits params values ∷ sights) cs h t = absurd t
+
+module _ {size n : ℕ} {sights : List Sight} {cs : List ℤ} (tree : Tree size sights cs n) where
+  pub tree_long : n ≤ length sights
+  tree_long = omega (arith, tree.count, long_of size tree.residue sights cs tree.stands)
+
+  pub tree_taken : Tree size (take n sights) cs n
+  tree_taken = record {
+    residue = tree.residue;
+    count = tree.count;
+    few = tree.few;
+    stands = taken_stands size tree.residue n sights cs (omega (arith, tree.count)) tree.stands;
+  }
+
+  pub taken_reckoned : (m : Mode) (s : List ℕ) → tree_reckoned m s n (take n sights) cs ≡ tree_reckoned m s n sights cs
+  unfolding tree_taken
+  taken_reckoned m s = ap (λ k. tree_reckoned m s k (take n sights) cs) tree.count
+      ∙ tree_is m s size tree.residue (take n sights) cs tree_taken.stands
+      ∙ taken_same size m s tree.residue n sights cs (omega (arith, tree.count)) tree.stands
+      ∙ sym (ap (λ k. tree_reckoned m s k sights cs) tree.count ∙ tree_is m s size tree.residue sights cs tree.stands)
 
 -- ---- what the code asks for
 -- a first unit is there
@@ -184,6 +262,54 @@ module _ {size n : ℕ} {sights : List Sight} {cs : List ℤ} (tree : Tree size 
     tree_unit m s = ap (λ k. tree_reckoned m s k sights cs) tree.count
         ∙ tree_is m s size tree.residue sights cs tree.stands
         ∙ (waits_of size tree.residue sights cs tree.stands f).1 m s
+
+-- ---- the two sides of as many units as there are sights
+abbrev pub left_of : List Sight → ℕ → List Sight
+left_of sights left = take (1 + left - 1) (drop 1 sights)
+
+abbrev pub right_of : List Sight → ℕ → List Sight
+right_of sights left = take (length sights - (1 + left)) (drop (1 + left) sights)
+
+pub record PartsAt (size : ℕ) (sights : List Sight) (cs : List ℤ) (join : Join) (left : ℕ) : Type 0 where
+  pub fewer : 1 + left < length sights
+  pub few : length sights ≤ 128
+  pub room : 24 + 24 * left ≤ length cs
+  pub long_left : length (left_of sights left) ≡ left
+  pub long_right : length (right_of sights left) ≡ length sights - 1 - left
+  pub of_left : Tree size (left_of sights left) (drop 24 cs) (length (left_of sights left))
+  pub of_right : Tree size (right_of sights left) (drop (24 + 24 * left) cs) (length (right_of sights left))
+  pub make : (m : Mode) (s : List ℕ) → reaches (joins (join_in join)
+      (tree_reckoned m s (length (left_of sights left)) (left_of sights left) (drop 24 cs))
+      (tree_reckoned m s (length (right_of sights left)) (right_of sights left) (drop (24 + 24 * left) cs)))
+      ≡ tree_reckoned m s (length sights) sights cs
+
+pub tree_parts : {size : ℕ} {sights : List Sight} {cs : List ℤ} → Tree size sights cs (length sights)
+    → {join : Join} {left : ℕ} → get_or sights 0 (Waits 0 0) ≡ Joins join left → PartsAt size sights cs join left
+tree_parts {size} {sights} {cs} tree {join} {left} f =
+    let d = tree_sides tree f in
+    let one : 1 + left - 1 ≡ left = omega arith in
+    let rest : length sights - (1 + left) ≡ length sights - 1 - left = omega arith in
+    let l : length (left_of sights left) ≡ left = omega (
+      arith,
+      length-take (1 + left - 1) (drop 1 sights),
+      length-drop 1 sights,
+      d.seen,
+    ) in
+    let r : length (right_of sights left) ≡ length sights - 1 - left = omega (
+      arith,
+      length-take (length sights - (1 + left)) (drop (1 + left) sights),
+      length-drop (1 + left) sights,
+    ) in
+    record {
+      fewer = d.fewer;
+      few = d.few;
+      room = d.room;
+      long_left = l;
+      long_right = r;
+      of_left = rw (l, one) (tree_taken d.of_left);
+      of_right = rw (r, rest) (tree_taken d.of_right);
+      make = λ m s. rw (l, r, one, rest, taken_reckoned d.of_left m s, taken_reckoned d.of_right m s) (d.make m s);
+    }
 
 -- the one outcome of all the units
 pub tree_only : {xs : List cells.Reckoned} {x : cells.Reckoned} → xs ≡ x ∷ [] → first_of xs ≡ x

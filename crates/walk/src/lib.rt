@@ -12,10 +12,10 @@ ghost use Rattle.waits.specs.Fates.{mode_at};
 ghost use Rattle.cells.specs.Across.{unit_reckoned};
 ghost use Rattle.walk.specs.Tree.{Waiting, Tree, tree_reckoned};
 
-use activation::{Clause, Placed, Site, activate};
-use cells::{FIRST_PARAM, FIRST_VALUE, Sight, UNIT_CELLS};
+use activation::{Placed, activate};
+use cells::{FIRST_PARAM, FIRST_VALUE, Sight, UNIT_CELLS, Values};
 use octets::record_end;
-use records::{Agreement, MAIN_DEPTH};
+use records::Agreement;
 use residues::tallies::join_tallies;
 use residues::{Reckoned, join, room_left};
 pub use tree::Units;
@@ -32,34 +32,28 @@ fn clause_at(agreement: &[u8], place: usize) -> &[u8]
     &agreement[place..end]
 }
 
-// What a waiting unit becomes, with so many party parameters and values in sight.
-fn waiting_unit(
-    agreement: &Agreement<'_>,
+// What a waiting unit becomes, with so many party parameters and values in sight. (A unit's 24 cells are a slice: as an
+// array, a part of the table would need an `unwrap`. How long the agreement is, is asked by itself: an `Agreement` is
+// of any length.)
+fn waiting_unit<'a>(
+    agreement: &'a Agreement<'a>,
     event: Event<'_>,
     params: usize,
     values: usize,
-    unit: &[i64],
+    unit: &'a [i64],
     out: &mut [i64],
 ) -> Reckoned
-    requires room { (length out.old ≤ 3072) × (length agreement.now ≤ farthest) }
+    requires near { length agreement.now ≤ farthest }
     requires waits { (length unit.now ≡ 24) × Waiting (length agreement.now) params values unit.now }
     ensures { Reckons (unit_reckoned (mode_at event.entry) agreement.now params values unit.now) result out.new }
 {
     let place = natural(unit, 1);
-    let site = Site {
-        below: agreement.template_count(),
-        place,
-        a: natural(unit, 2),
-        depth: MAIN_DEPTH,
+    let bytes = clause_at(agreement.bytes(), place);
+    let params = &unit[FIRST_PARAM..FIRST_PARAM + params];
+    let values = Values {
+        cells: &unit[FIRST_VALUE..FIRST_VALUE + values],
     };
-    let clause = Clause {
-        agreement,
-        site,
-        bytes: clause_at(agreement.bytes(), place),
-        params: &unit[FIRST_PARAM..FIRST_PARAM + params],
-        values: &unit[FIRST_VALUE..FIRST_VALUE + values],
-    };
-    let placed = Placed { clause };
+    let placed = Placed::new(agreement, place, natural(unit, 2), bytes, params, values);
     activate(event, &placed, out)
 }
 
@@ -71,22 +65,23 @@ pub fn across(
     units: Units<'_>,
     out: &mut [i64],
 ) -> Reckoned
-    requires room { (length out.old ≤ 3072) × (length agreement.now ≤ farthest) }
-    requires tree { Tree (length agreement.now) units.sights.now units.cells.now units.count }
-    ensures { Reckons (tree_reckoned (mode_at event.entry) agreement.now units.entry.count units.entry.sights.now
-        units.entry.cells.now) result out.new }
+    requires near { length agreement.now ≤ farthest }
+    requires tree { Tree (length agreement.now) units.sights.now units.cells.now (length units.sights.now) }
+    ensures { Reckons (tree_reckoned (mode_at event.entry) agreement.now (length units.entry.sights.now)
+        units.entry.sights.now units.entry.cells.now) result out.new }
 {
     let sight = units.sights[0];
     match sight {
         Sight::Waits { params, values } => {
             let unit = &units.cells[..UNIT_CELLS];
-            waiting_unit(agreement, event, params, values, unit, out)
+            // lent again: the proof's reading of borrows covers no reference that is passed on for a shorter time
+            waiting_unit(&*agreement, event, params, values, unit, out)
         }
         Sight::Joins { join: kind, left } => {
-            let right = units.part(1 + left, units.count - 1 - left);
+            let right = units.part(1 + left, units.sights.len());
             let r = across(agreement, event, right, out);
             let room = room_left(r.outcome, out.len());
-            let l = across(agreement, event, units.part(1, left), &mut out[..room]);
+            let l = across(agreement, event, units.part(1, 1 + left), &mut out[..room]);
             Reckoned {
                 outcome: join(kind, l.outcome, r.outcome, out),
                 tally: join_tallies(kind, l.tally, r.tally),

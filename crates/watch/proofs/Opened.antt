@@ -1,16 +1,20 @@
 -- The first record of the input, found among the bytes at hand, and what is written for the whole input then.
-use Rattle.std.proofs.Common.{◌≡◌, refl, sym, ap, ap₂, ◌∙◌, Bool, true, false, cond, Option, arith}
+use Rattle.std.proofs.Common.{◌≡◌, refl, sym, ap, ap₂, ◌∙◌, Bool, true, false, cond, arith}
+use Rattle.std.proofs.Common.{Option, Some, None, Result, Ok, Err, OnOk, IfSome, ℤ, take, drop}
+use Rattle.std.specs.Io.KnownBytes.{Appends}
 use Rattle.std.proofs.Common.{List, [], ◌++◌, length, ℕ, ◌-◌, ◌≤◌, ◌<◌}
 use Rattle.std.proofs.lemmas.List.{length-append}
 use Rattle.stream.specs.Records.{records_of}
 use Rattle.stream.specs.Next.{next_of}
-use Rattle.stream.specs.Hands.{AtHand, Comes as ComesTo}
+use Rattle.stream.specs.Hands.{AtHand, Brings}
 use Rattle.stream.specs.declared.Next.{Next}
 use Rattle.stream.specs.declared.Next.TheVariants.{Record, Wait, End}
 use Rattle.stream.proofs.Cuts.{known, no_records}
 use Rattle.lines.specs.Lines.{lines_of}
 use Rattle.watch.specs.Watched.{watched, watched_records, zeros}
-use Rattle.watch.specs.Runs.{Carries, Opens}
+use Rattle.watch.specs.Runs.{Carries, Opens, Writes}
+use Rattle.watch.specs.declared.Failure.{Failure}
+use Rattle.watch.proofs.Serving.{same_appends}
 
 module _ (hand : AtHand) {r : Next} (found : r ≡ next_of hand.bytes hand.ended) where
   -- a record that was found lies within the bytes at hand
@@ -49,7 +53,7 @@ module _ (hand : AtHand) {r : Next} (found : r ≡ next_of hand.bytes hand.ended
 
 -- each turn brings a byte or the end
 pub fewer : (hand hand₂ : AtHand) {coming left : Option (List ℕ)} → hand.ended ≡ false → length hand.bytes < 65_535
-    → ComesTo hand.bytes hand₂ coming left
+    → Brings hand.bytes hand₂ coming left
     → cond hand₂.ended 0 (65_537 - length hand₂.bytes) < cond hand.ended 0 (65_537 - length hand.bytes)
 fewer hand hand₂ going h c = rw going (go hand₂.ended refl)
   where
@@ -57,3 +61,19 @@ fewer hand hand₂ going h c = rw going (go hand₂.ended refl)
     go true e = omega arith
     go false e = let came = c.some e in
         omega (arith, ap length c.behind, length-append hand.bytes c.came)
+
+-- what is written for the first record and the rest is what is written for the whole input
+pub opened_writes : {coming coming₂ : Option (List ℕ)} (written written₂ : Option (List ℕ)) {hand : AtHand} {takes : ℕ}
+    → Opens coming coming₂ hand takes → {s : List ℕ} {cells : List ℤ} (left : AtHand)
+    → s ≡ take takes hand.bytes → cells ≡ zeros → left.bytes ≡ drop takes hand.bytes → left.ended ≡ hand.ended
+    → (result : Result (Unit {0}) Failure) → OnOk result (Writes coming₂ left.ended written written₂
+    (λ bytes. lines_of s cells (records_of (left.bytes ++ bytes))))
+    → OnOk result (IfSome coming (λ bytes. Appends written written₂ (watched bytes)))
+opened_writes written written₂ o left e z rest ended (Err why) p = tt
+opened_writes {coming = None} written written₂ o left e z rest ended (Ok done) p = tt
+opened_writes {coming = Some bytes} written written₂ {hand = hand} {takes = takes} o left e z rest ended (Ok done) p =
+    let w = o.opens bytes refl in
+    same_appends written written₂
+    (ap₂ (λ x y. lines_of x y (records_of (left.bytes ++ w.0))) e z
+    ∙ ap (λ l. lines_of (take takes hand.bytes) zeros (records_of (l ++ w.0))) rest ∙ sym w.3)
+    (p.writes w.0 w.1 (λ is. w.2 (sym ended ∙ is)))

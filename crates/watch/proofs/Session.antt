@@ -15,99 +15,106 @@ use Rattle.laws.proofs.Clash.{impossible}
 use Rattle.stream.specs.Records.{records_of}
 use Rattle.lines.specs.Lines.{start_line, reading_lines, lines_of}
 use Rattle.watch.specs.declared.Stage.TheVariants.{Ready, Waiting, Over}
-use Rattle.watch.specs.declared.Turn.{Turn}
+use Rattle.watch.specs.declared.Stage.{Stage}
 use Rattle.watch.specs.Steps.{left, Comes}
 use Rattle.watch.specs.Watched.{zeros, watched_records, watched}
-use Rattle.watch.proofs.start.Kinds as start-kinds
-use Rattle.watch.proofs.start.Reads as start
-use Rattle.watch.proofs.drain.Kinds as drain-kinds
-use Rattle.watch.proofs.drain.Reads as drain
+use Rattle.watch.proofs.Run.start.Kinds as start-kinds
+use Rattle.watch.proofs.Run.start.Reads as start
+use Rattle.watch.proofs.Run.drain.Kinds as drain-kinds
+use Rattle.watch.proofs.Run.drain.Reads as drain
 
 -- ---- a call that meets its contract: of what it was given, what it answered and what it left
 pub record BeginCall (s : List ℕ) (cells cells₂ : List ℤ) (page : List ℕ) (go : Bool) : Type 0 where
-  pub lifetimes : Lfts 3
-  pub given : Dens {n = 3} lifetimes start-kinds.ps
-  pub left : AtExit (ended_of 3 start-kinds.ps start-kinds.r) lifetimes
+  pub lifetimes : Lfts 2
+  pub given : Dens {n = 2} lifetimes start-kinds.ps
+  pub left : AtExit (ended_of 2 start-kinds.ps start-kinds.r) lifetimes
   pub meets : start.Post lifetimes given go left
-  pub agreement : given.0.now ≡ s
-  pub table : given.1.0.now ≡ cells
-  pub empty : given.1.1.0.now ≡ []
-  pub leaves : left.1.0.now ≡ cells₂
-  pub puts : left.1.1.0.now ≡ page
+  pub agreement : given.0.now.agreement.now ≡ s
+  pub table : given.0.now.table ≡ cells
+  pub empty : given.0.now.page.text ≡ []
+  pub leaves : left.0.now.table ≡ cells₂
+  pub puts : left.0.now.page.text ≡ page
 
-pub record DrainCall (s : List ℕ) (cells cells₂ : List ℤ) (n : ℕ) (input : List ℕ) (ended : Bool)
-    (rest page : List ℕ) (t : Turn) : Type 0 where
-  pub lifetimes : Lfts 4
-  pub given : Dens {n = 4} lifetimes drain-kinds.ps
-  pub left : AtExit (ended_of 4 drain-kinds.ps drain-kinds.r) lifetimes
-  pub meets : drain.Post lifetimes given t left
-  pub agreement : given.0.now ≡ s
-  pub table : given.1.0.now ≡ cells
-  pub bytes : given.1.1.0.now.bytes ≡ input
-  pub over : given.1.1.0.now.ended ≡ ended
-  pub empty : given.1.1.1.0.now ≡ []
-  pub line : given.1.1.1.1.0 ≡ n
-  pub leaves : left.1.0.now ≡ cells₂
-  pub keeps : left.1.1.0.now.bytes ≡ rest
-  pub puts : left.1.1.1.0.now ≡ page
+pub record DrainCall (s : List ℕ) (cells cells₂ : List ℤ) (n n₂ : ℕ) (input : List ℕ) (ended : Bool)
+    (rest page : List ℕ) (stage : Stage) : Type 0 where
+  pub lifetimes : Lfts 2
+  pub given : Dens {n = 2} lifetimes drain-kinds.ps
+  pub left : AtExit (ended_of 2 drain-kinds.ps drain-kinds.r) lifetimes
+  pub meets : drain.Post lifetimes given stage left
+  pub agreement : given.0.now.agreement.now ≡ s
+  pub table : given.0.now.table ≡ cells
+  pub bytes : given.0.now.hand.bytes ≡ input
+  pub over : given.0.now.hand.ended ≡ ended
+  pub empty : given.0.now.page.text ≡ []
+  pub line : given.0.now.line ≡ n
+  pub leaves : left.0.now.table ≡ cells₂
+  pub keeps : left.0.now.hand.bytes ≡ rest
+  pub puts : left.0.now.page.text ≡ page
+  pub next : left.0.now.line ≡ n₂
 
 -- ---- calls of `drain`: each is given what the one before left and what a read then brought; `more` is all that is
 -- still to come
 pub data Session (s : List ℕ) : List ℤ → ℕ → List ℕ → Bool → List ℕ → List ℕ → Type 0 where
   -- the run ends
-  ends : {cells cells₂ : List ℤ} {n : ℕ} {input : List ℕ} {ended : Bool} {more written rest page : List ℕ} {t : Turn}
-      → DrainCall s cells cells₂ n input ended rest page t → t.stage ≡ Over → written ≡ page
+  ends : {cells cells₂ : List ℤ} {n n₂ : ℕ} {input : List ℕ} {ended : Bool} {more written rest page : List ℕ}
+      {t : Stage}
+      → DrainCall s cells cells₂ n n₂ input ended rest page t → t ≡ Over → written ≡ page
       → Session s cells n input ended more written
   -- the page is full: it is written, and the next call is made
-  full : {cells cells₂ : List ℤ} {n : ℕ} {input : List ℕ} {ended : Bool} {more written w rest page : List ℕ} {t : Turn}
-      → DrainCall s cells cells₂ n input ended rest page t → t.stage ≡ Ready
-      → Session s cells₂ t.line rest ended more w → written ≡ page ++ w
+  full : {cells cells₂ : List ℤ} {n n₂ : ℕ} {input : List ℕ} {ended : Bool} {more written w rest page : List ℕ}
+      {t : Stage}
+      → DrainCall s cells cells₂ n n₂ input ended rest page t → t ≡ Ready
+      → Session s cells₂ n₂ rest ended more w → written ≡ page ++ w
       → Session s cells n input ended more written
   -- the page is written, and then a read brings some of what is to come
-  reads : {cells cells₂ : List ℤ} {n : ℕ} {input : List ℕ} {ended : Bool} {more written w rest page : List ℕ}
-      {t : Turn} (bytes later : List ℕ) → DrainCall s cells cells₂ n input ended rest page t → t.stage ≡ Waiting
-      → more ≡ bytes ++ later → Session s cells₂ t.line (rest ++ bytes) false later w
+  reads : {cells cells₂ : List ℤ} {n n₂ : ℕ} {input : List ℕ} {ended : Bool} {more written w rest page : List ℕ}
+      {t : Stage} (bytes later : List ℕ) → DrainCall s cells cells₂ n n₂ input ended rest page t → t ≡ Waiting
+      → more ≡ bytes ++ later → Session s cells₂ n₂ (rest ++ bytes) false later w
       → written ≡ page ++ w → Session s cells n input ended more written
   -- or it finds the end of the input
-  over : {cells cells₂ : List ℤ} {n : ℕ} {input : List ℕ} {ended : Bool} {more written w rest page : List ℕ} {t : Turn}
-      → DrainCall s cells cells₂ n input ended rest page t → t.stage ≡ Waiting → more ≡ []
-      → Session s cells₂ t.line rest true more w → written ≡ page ++ w
+  over : {cells cells₂ : List ℤ} {n n₂ : ℕ} {input : List ℕ} {ended : Bool} {more written w rest page : List ℕ}
+      {t : Stage}
+      → DrainCall s cells cells₂ n n₂ input ended rest page t → t ≡ Waiting → more ≡ []
+      → Session s cells₂ n₂ rest true more w → written ≡ page ++ w
       → Session s cells n input ended more written
 
 -- what a call says of all that is left to write
-drained : {s : List ℕ} {cells cells₂ : List ℤ} {n : ℕ} {input : List ℕ} {ended : Bool} {rest page : List ℕ} {t : Turn}
-    → DrainCall s cells cells₂ n input ended rest page t → (more : List ℕ) → Comes ended more
-    → reading_lines s cells n (records_of (input ++ more)) ≡ page ++ left t.stage s cells₂ t.line (rest ++ more)
+drained : {s : List ℕ} {cells cells₂ : List ℤ} {n n₂ : ℕ} {input : List ℕ} {ended : Bool} {rest page : List ℕ}
+    {t : Stage}
+    → DrainCall s cells cells₂ n n₂ input ended rest page t → (more : List ℕ) → Comes ended more
+    → reading_lines s cells n (records_of (input ++ more)) ≡ page ++ left t s cells₂ n₂ (rest ++ more)
 drained {t = t} c more h =
     let all = λ (l : List ℕ). l
-    ++ left Ready c.given.0.now c.given.1.0.now c.given.1.1.1.1.0 (c.given.1.1.0.now.bytes ++ more) in
+    ++ left Ready c.given.0.now.agreement.now c.given.0.now.table c.given.0.now.line
+    (c.given.0.now.hand.bytes ++ more) in
     let same = ap all (sym c.empty) ∙ c.meets.same more (subst (λ b. Comes b more) (sym c.over) h) in
-    rw (sym c.agreement, sym c.table, sym c.bytes, sym c.line, sym c.leaves, sym c.keeps, sym c.puts) same
+    rw (sym c.agreement, sym c.table, sym c.bytes, sym c.line, sym c.leaves, sym c.keeps, sym c.next, sym c.puts) same
 
 pub session_is : (s : List ℕ) {cells : List ℤ} {n : ℕ} {input : List ℕ} {ended : Bool} {more written : List ℕ}
     → Session s cells n input ended more written → Comes ended more
     → written ≡ reading_lines s cells n (records_of (input ++ more))
-session_is s {more = more} (ends {cells₂ = vs} {rest = rest} {page} {t} c e w) h = w
+session_is s {more = more} (ends {cells₂ = vs} {n₂ = n₂} {rest = rest} {page} {t} c e w) h = w
     ∙ sym (append-nil page) ∙ sym
-    (drained c more h ∙ ap (λ g. page ++ left g s vs t.line (rest ++ more)) e)
-session_is s {more = more} (full {cells₂ = vs} {rest = rest} {page} {t} c e later w) h = w
+    (drained c more h ∙ ap (λ g. page ++ left g s vs n₂ (rest ++ more)) e)
+session_is s {more = more} (full {cells₂ = vs} {n₂ = n₂} {rest = rest} {page} {t} c e later w) h = w
     ∙ ap (λ l. page ++ l) (session_is s later h)
-    ∙ sym (drained c more h ∙ ap (λ g. page ++ left g s vs t.line (rest ++ more)) e)
-session_is s {more = more} (reads {cells₂ = vs} {rest = rest} {page} {t} bytes later c e m session w) h =
+    ∙ sym (drained c more h ∙ ap (λ g. page ++ left g s vs n₂ (rest ++ more)) e)
+session_is s {more = more} (reads {cells₂ = vs} {n₂ = n₂} {rest = rest} {page} {t} bytes later c e m session w) h =
     w
     ∙ ap (λ l. page ++ l) (session_is s session (λ q. impossible cc)
-    ∙ ap (λ l. reading_lines s vs t.line (records_of l))
+    ∙ ap (λ l. reading_lines s vs n₂ (records_of l))
     (append_assoc rest bytes later ∙ ap (λ l. rest ++ l) (sym m)))
-    ∙ sym (drained c more h ∙ ap (λ g. page ++ left g s vs t.line (rest ++ more)) e)
-session_is s {more = more} (over {cells₂ = vs} {rest = rest} {page} {t} c e m session w) h =
+    ∙ sym (drained c more h ∙ ap (λ g. page ++ left g s vs n₂ (rest ++ more)) e)
+session_is s {more = more} (over {cells₂ = vs} {n₂ = n₂} {rest = rest} {page} {t} c e m session w) h =
     w ∙ ap (λ l. page ++ l) (session_is s session (λ _. m))
-    ∙ sym (drained c more h ∙ ap (λ g. page ++ left g s vs t.line (rest ++ more)) e)
+    ∙ sym (drained c more h ∙ ap (λ g. page ++ left g s vs n₂ (rest ++ more)) e)
 
 -- ---- the start's line, and then the calls of `drain` if the start was accepted
 module _ {s : List ℕ} {cells cells₂ : List ℤ} {page : List ℕ} {go : Bool} (c : BeginCall s cells cells₂ page go) where
   first_line : page ≡ start_line s (start_of s cells)
   first_line = rw (sym c.agreement, sym c.table, sym c.puts) (c.meets.line
-      ∙ ap (λ l. l ++ start_line c.given.0.now (start_of c.given.0.now c.given.1.0.now)) c.empty)
+      ∙ ap (λ l. l ++ start_line c.given.0.now.agreement.now
+      (start_of c.given.0.now.agreement.now c.given.0.now.table)) c.empty)
 
   goes_on : go ≡ eqb (start_of s cells).number 0
   goes_on = rw (sym c.agreement, sym c.table) c.meets.goes

@@ -6,7 +6,6 @@ use Prim.Native.Nat.{ℕ, ◌+◌, ◌≤◌, ◌<◌}
 use Rattle.std.proofs.Common.{is_some}
 use native.Mathlib.Omega.{arith}
 use lib.Dec.{eqb}
-use lib.IntN.{ℤ}
 use lib.ListN.{length, take, drop, length-drop}
 use Rattle.csl.specs.Entries.{ReadingAnswer, reading_of}
 use Rattle.laws.proofs.Clash.{impossible}
@@ -17,7 +16,7 @@ use Rattle.stream.specs.declared.Next.{Next}
 use Rattle.stream.specs.declared.Next.TheVariants.{Record, Wait, End}
 use Rattle.stream.proofs.Cuts.{Cut, Known, known, no_records}
 use Rattle.lines.specs.Lines.{reading_line, reading_lines}
-use Rattle.lines.specs.Put.{page_room, put}
+use Rattle.lines.specs.Put.{put}
 use Rattle.lines.specs.declared.Line.{Line}
 use Rattle.lines.proofs.Puts.{put_all}
 use Rattle.telling.specs.declared.Verdict.{Verdict}
@@ -25,7 +24,8 @@ use Rattle.telling.specs.Verdicts.{text_of}
 use Rattle.telling.specs.Told.{line_room, Follows}
 use Rattle.watch.specs.declared.Stage.{Stage}
 use Rattle.watch.specs.declared.Stage.TheVariants.{Ready, Waiting, Over}
-use Rattle.watch.specs.Steps.{left, Comes, stage_after, Turns}
+use Rattle.watch.specs.declared.Run.{Run}
+use Rattle.watch.specs.Steps.{left, Comes, stage_after, Kept, Turns}
 
 -- what is left after a reading is what its number says
 left_after : (s : List ℕ) (n : ℕ) (a : ReadingAnswer) (rest : List ℕ)
@@ -45,74 +45,90 @@ never_waits false q = impossible cc
 
 -- ---- what was found next
 module _ (hand : AtHand) {r : Next} (found : r ≡ next_of hand.bytes hand.ended) where
-  told : Known hand.bytes hand.ended r
+  pub told : Known hand.bytes hand.ended r
   told = subst (Known hand.bytes hand.ended) (sym found) (known hand.bytes hand.ended)
 
-  module _ {k : ℕ} (is : r ≡ Record k) where
-    pub cut : Cut hand.bytes hand.ended k
-    cut = told.cut k is
+  pub cut : {k : ℕ} → r ≡ Record k → Cut hand.bytes hand.ended k
+  cut {k} is = told.cut k is
 
+module _ (run : Run) {r : Next} (found : r ≡ next_of run.hand.bytes run.hand.ended) where
+  module _ (run₂ : Run) {k : ℕ} (is : r ≡ Record k) where
     -- the record's line is put, and the rest is left
-    module _ (s : List ℕ) (cells cells₂ : List ℤ) (n : ℕ) (b page page₂ : List ℕ) (hand₂ : AtHand)
-        (l : Line Verdict) (record_is : b ≡ take k hand.bytes) (f : Follows s cells cells₂ n b l)
-        (rest : hand₂.bytes ≡ drop k hand.bytes) (ended : hand₂.ended ≡ hand.ended) where
+    module _ (b : List ℕ) (l : Line Verdict) (record_is : b ≡ take k run.hand.bytes)
+        (f : Follows run.agreement.now run.table run₂.table run.line b l)
+        (rest : run₂.hand.bytes ≡ drop k run.hand.bytes) (next : run₂.line ≡ run.line + 1) where
       abbrev a : ReadingAnswer
-      a = reading_of s cells b
+      a = reading_of run.agreement.now run.table b
 
-      record_same : page₂ ≡ page ++ reading_line s n b a → (more : List ℕ) → Comes hand.ended more
-          → page ++ left Ready s cells n (hand.bytes ++ more)
-          ≡ page₂ ++ left (stage_after (is_some l.time)) s cells₂ (n + 1) (hand₂.bytes ++ more)
+      abbrev put_line : List ℕ
+      put_line = reading_line run.agreement.now run.line b a
+
+      record_same : run₂.page.text ≡ run.page.text ++ put_line → (more : List ℕ) → Comes run.hand.ended more
+          → run.page.text ++ left Ready run.agreement.now run.table run.line (run.hand.bytes ++ more)
+          ≡ run₂.page.text
+          ++ left (stage_after (is_some l.time)) run.agreement.now run₂.table run₂.line (run₂.hand.bytes ++ more)
       unfolding reading_lines
       record_same puts more c =
-          let later = hand₂.bytes ++ more in
+          let s = run.agreement.now in
+          let later = run₂.hand.bytes ++ more in
           let tail : List ℕ = elim (eqb a.number 8)
-          [ true ↦ [] | false ↦ reading_lines s a.table (n + 1) (records_of later) ] in
-          let next : records_of (hand.bytes ++ more) ≡ b ∷ records_of later =
-          cut.is more c ∙ rw (record_is, rest) refl in
-          ap (λ rs. page ++ reading_lines s cells n rs) next
-          ∙ sym (append_assoc page (reading_line s n b a) tail)
+          [ true ↦ [] | false ↦ reading_lines s a.table (run.line + 1) (records_of later) ] in
+          let following : records_of (run.hand.bytes ++ more) ≡ b ∷ records_of later =
+          (cut run.hand found is).is more c ∙ rw (record_is, rest) refl in
+          ap (λ rs. run.page.text ++ reading_lines s run.table run.line rs) following
+          ∙ sym (append_assoc run.page.text put_line tail)
           ∙ ap (λ l. l ++ tail) (sym puts)
-          ∙ ap (λ l. page₂ ++ l) (left_after s n a later
-          ∙ ap₂ (λ g vs. left (stage_after g) s vs (n + 1) later) (sym f.goes) (sym f.table))
+          ∙ ap (λ l. run₂.page.text ++ l) (left_after s run.line a later
+          ∙ ap₂ (λ g vs. left (stage_after g) s vs (run.line + 1) later) (sym f.goes) (sym f.table)
+          ∙ ap (λ n. left (stage_after (is_some l.time)) s run₂.table n later) (sym next))
 
-      pub record_turns : length page + line_room ≤ page_room → page₂ ≡ put page (text_of l) → {g : Stage}
-          → g ≡ stage_after (is_some l.time)
-          → Turns s cells cells₂ n hand hand₂ page page₂ (record { stage = g; line = n + 1 })
-      record_turns room puts {g} e =
-          let all : put page (text_of l) ≡ page ++ text_of l = put_all page (text_of l) (omega (arith, room, f.room)) in
-          let put_is : page₂ ≡ page ++ reading_line s n b a = puts ∙ all ∙ ap (λ x. page ++ x) f.line in
-          let shorter = length-drop k hand.bytes in
+      pub record_turns : length run.page.text + line_room ≤ run.page.capacity → run₂.page ≡ put run.page (text_of l)
+          → run₂.hand.ended ≡ run.hand.ended → run₂.hand.capacity ≡ run.hand.capacity
+          → run₂.agreement.now ≡ run.agreement.now → {g : Stage} → g ≡ stage_after (is_some l.time)
+          → Turns run run₂ g
+      record_turns room puts ended capacity agreement {g} e =
+          let all = puts ∙ put_all run.page (text_of l) (omega (arith, room, f.room)) in
+          let put_is : run₂.page.text ≡ run.page.text ++ put_line =
+          ap (λ p. p.text) all ∙ ap (λ x. run.page.text ++ x) f.line in
+          let found_cut = cut run.hand found is in
+          let shorter = length-drop k run.hand.bytes in
           record {
-            same = λ more c. record_same put_is more c ∙ ap
-                (λ x. page₂ ++ left x s cells₂ (n + 1) (hand₂.bytes ++ more)) (sym e);
+            same = λ more c. record_same put_is more c ∙ ap (λ x. run₂.page.text
+                ++ left x run.agreement.now run₂.table run₂.line (run₂.hand.bytes ++ more)) (sym e);
             waits = λ w. absurd (never_waits (is_some l.time) (sym e ∙ w));
             ended = ended;
-            bounded = omega (arith, ap length rest, cut.bounded);
-            numbered = omega (arith, ap length rest, cut.bounded, cut.some);
+            bounded = omega (arith, ap length rest, found_cut.bounded);
+            numbered = omega (arith, ap length rest, next, found_cut.bounded, found_cut.some);
+            kept = record { agreement = agreement; hand = capacity; page = ap (λ p. p.capacity) all };
           }
 
-  module _ (s : List ℕ) (cells : List ℤ) (n : ℕ) (page : List ℕ) where
-    -- more input is needed
-    pub wait_turns : r ≡ Wait → length hand.bytes < 65_535
-        → Turns s cells cells n hand hand page page (record { stage = Waiting; line = n })
-    wait_turns e short = record {
-      same = λ more c. refl;
-      waits = λ _. ((told.wait e).0, (told.wait e).1, short);
-      ended = refl;
-      bounded = omega arith;
-      numbered = omega arith;
-    }
+  same_kept : Kept run run
+  same_kept = record { agreement = refl; hand = refl; page = refl }
 
-    -- the input has ended after a whole record
-    pub end_turns : r ≡ End → Turns s cells cells n hand hand page page (record { stage = Over; line = n })
-    unfolding reading_lines
-    end_turns e =
-        let w = told.end e in
-        record {
-          same = λ more c. ap (λ rs. page ++ reading_lines s cells n rs)
-              (ap₂ (λ l m. records_of (l ++ m)) w.0 (c w.1) ∙ no_records);
-          waits = λ q. impossible cc;
-          ended = refl;
-          bounded = omega arith;
-          numbered = omega arith;
-        }
+  -- more input is needed
+  pub wait_turns : r ≡ Wait → length run.hand.bytes < 65_535 → Turns run run Waiting
+  wait_turns e short =
+      let waits = (told run.hand found).wait e in
+      record {
+        same = λ more c. refl;
+        waits = λ _. (waits.0, waits.1, short);
+        ended = refl;
+        bounded = omega arith;
+        numbered = omega arith;
+        kept = same_kept;
+      }
+
+  -- the input has ended after a whole record
+  pub end_turns : r ≡ End → Turns run run Over
+  unfolding reading_lines
+  end_turns e =
+      let w = (told run.hand found).end e in
+      record {
+        same = λ more c. ap (λ rs. run.page.text ++ reading_lines run.agreement.now run.table run.line rs)
+            (ap₂ (λ l m. records_of (l ++ m)) w.0 (c w.1) ∙ no_records);
+        waits = λ q. impossible cc;
+        ended = refl;
+        bounded = omega arith;
+        numbered = omega arith;
+        kept = same_kept;
+      }

@@ -1,12 +1,11 @@
 -- What the steps of the program promise.
 use Rattle.std.specs.Prelude.{◌≡◌, Bool, true, false, List, [], ◌++◌, ℕ, ◌+◌, ◌≤◌, ◌<◌, eqb, ℤ, length}
 use Rattle.stream.specs.Records.{is_whole, records_of}
-use Rattle.stream.specs.Hands.{AtHand}
 use Rattle.csl.specs.Entries.{start_of}
 use Rattle.lines.specs.Lines.{start_line, reading_lines}
 use Rattle.watch.specs.declared.Stage.{Stage}
 use Rattle.watch.specs.declared.Stage.TheVariants.{Ready, Waiting, Over}
-use Rattle.watch.specs.declared.Turn.{Turn}
+use Rattle.watch.specs.declared.Run.{Run}
 
 abbrev pub stage_after : Bool → Stage
 stage_after true = Ready
@@ -22,24 +21,34 @@ left Over s cells n rest = []
 abbrev pub Comes : Bool → List ℕ → Type 0
 Comes ended more = ended ≡ true → more ≡ []
 
--- ---- a start: its line is put, the table is the answer's, and only an accepted one goes on
-pub record Starts (s : List ℕ) (cells cells₂ : List ℤ) (page page₂ : List ℕ) (go : Bool) : Type 0 where
-  pub line : page₂ ≡ page ++ start_line s (start_of s cells)
-  pub table : cells₂ ≡ (start_of s cells).table
-  pub goes : go ≡ eqb (start_of s cells).number 0
+-- the agreement and the buffers stay
+pub record Kept (run run₂ : Run) : Type 0 where
+  pub agreement : run₂.agreement.now ≡ run.agreement.now
+  pub hand : run₂.hand.capacity ≡ run.hand.capacity
+  pub page : run₂.page.capacity ≡ run.page.capacity
 
--- ---- readings taken from the bytes at hand, from line n on: whatever comes after them, what is put and what is left
--- to write, together, stay the same; and where more input is waited for, no whole record is left
-pub record Turns (s : List ℕ) (cells cells₂ : List ℤ) (n : ℕ) (hand hand₂ : AtHand) (page page₂ : List ℕ) (t : Turn)
-    : Type 0 where
-  pub same : (more : List ℕ) → Comes hand.ended more → page ++ left Ready s cells n (hand.bytes ++ more) ≡ page₂
-      ++ left t.stage s cells₂ t.line (hand₂.bytes ++ more)
-  pub waits : t.stage ≡ Waiting → (is_whole hand₂.bytes ≡ false) × (hand₂.ended ≡ false)
-      × (length hand₂.bytes < 65_535)
-  pub ended : hand₂.ended ≡ hand.ended
-  pub bounded : length hand₂.bytes ≤ length hand.bytes
-  pub numbered : t.line + length hand₂.bytes ≤ n + length hand.bytes
+-- ---- a start: its line is put, the table is the answer's, and only an accepted one goes on
+pub record Starts (run run₂ : Run) (go : Bool) : Type 0 where
+  pub line : run₂.page.text ≡ run.page.text ++ start_line run.agreement.now (start_of run.agreement.now run.table)
+  pub table : run₂.table ≡ (start_of run.agreement.now run.table).table
+  pub goes : go ≡ eqb (start_of run.agreement.now run.table).number 0
+  pub kept : Kept run run₂
+  pub hand : run₂.hand ≡ run.hand
+  pub next : run₂.line ≡ run.line
+
+-- ---- readings taken from the bytes at hand: whatever comes after them, what is put and what is left to write,
+-- together, stay the same; and where more input is waited for, no whole record is left
+pub record Turns (run run₂ : Run) (stage : Stage) : Type 0 where
+  pub same : (more : List ℕ) → Comes run.hand.ended more
+      → run.page.text ++ left Ready run.agreement.now run.table run.line (run.hand.bytes ++ more)
+      ≡ run₂.page.text ++ left stage run.agreement.now run₂.table run₂.line (run₂.hand.bytes ++ more)
+  pub waits : stage ≡ Waiting → (is_whole run₂.hand.bytes ≡ false) × (run₂.hand.ended ≡ false)
+      × (length run₂.hand.bytes < 65_535)
+  pub ended : run₂.hand.ended ≡ run.hand.ended
+  pub bounded : length run₂.hand.bytes ≤ length run.hand.bytes
+  pub numbered : run₂.line + length run₂.hand.bytes ≤ run.line + length run.hand.bytes
+  pub kept : Kept run run₂
 
 -- a turn that goes on has taken a byte at least
-abbrev pub Takes : AtHand → AtHand → Turn → Type 0
-Takes hand hand₂ t = t.stage ≡ Ready → length hand₂.bytes < length hand.bytes
+abbrev pub Takes : Run → Run → Stage → Type 0
+Takes run run₂ stage = stage ≡ Ready → length run₂.hand.bytes < length run.hand.bytes

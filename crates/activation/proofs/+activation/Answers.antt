@@ -10,7 +10,7 @@ use mathlib.Core.Path.{◌≡◌, ap, ◌∙◌}
 use mathlib.Core.List.{List}
 use lib.IntN.{ℤ, pos, ◌-ℤ◌}
 use lib.ListN.{length, length-take}
-use Prim.Native.Nat.{ℕ, ◌≤◌, ◌+◌, ◌-◌}
+use Prim.Native.Nat.{ℕ, ◌+◌, ◌-◌}
 use borrow.Author.Rules.{rules}
 use Rattle.csl.specs.Bytes.{part}
 use Rattle.csl.specs.Syntax as syntax
@@ -38,7 +38,6 @@ act-put_unit-unit-requires t c =
       omega (arith, c.args.placed.now.inside),
       omega (arith, h.soon),
       omega (arith, h.params_fit),
-      h.values_fit,
     )
 
 -- a side that is picked
@@ -52,14 +51,12 @@ act-activate-requires t c =
     let h = c.args.placed.now.clause in
     let g = c.in-Picks.ensures in
     let e = c.part-side.ensures in
-    let n = length_part h.bytes.now c.in-Picks.from c.in-Picks.to g.inside in (
-      omega (
-        arith,
-        c.decreases,
-        lighter_within c.args.event h.site c.in-Picks.from h.site.a e.site (length c.part-side.result.clause.bytes.now)
-            (length h.bytes.now) (omega (arith, ap length e.bytes, n, g.past, g.order, g.inside)),
-      ),
-      c.requires.0,
+    let n = length_part h.bytes.now c.in-Picks.from c.in-Picks.to g.inside in
+    omega (
+      arith,
+      c.decreases,
+      lighter_within c.args.event h.site c.in-Picks.from h.site.a e.site (length c.part-side.result.clause.bytes.now)
+          (length h.bytes.now) (omega (arith, ap length e.bytes, n, g.past, g.order, g.inside)),
     )
 
 -- an else
@@ -73,15 +70,13 @@ act-activate-requires-in-Lapses t c =
     let h = c.args.placed.now.clause in
     let g = c.in-Lapses.ensures in
     let e = c.part-otherwise.ensures in
-    let n = length_part h.bytes.now c.in-Lapses.from c.in-Lapses.to g.inside in (
-      omega (
-        arith,
-        c.decreases,
-        lighter_within c.args.event h.site c.in-Lapses.from c.in-Lapses.at e.site
-            (length c.part-otherwise.result.clause.bytes.now) (length h.bytes.now)
-            (omega (arith, ap length e.bytes, n, g.past, g.order, g.inside)),
-      ),
-      c.requires.0,
+    let n = length_part h.bytes.now c.in-Lapses.from c.in-Lapses.to g.inside in
+    omega (
+      arith,
+      c.decreases,
+      lighter_within c.args.event h.site c.in-Lapses.from c.in-Lapses.at e.site
+          (length c.part-otherwise.result.clause.bytes.now) (length h.bytes.now)
+          (omega (arith, ap length e.bytes, n, g.past, g.order, g.inside)),
     )
 
 -- a `then`
@@ -92,7 +87,7 @@ act-taken-requires t c =
     let g = c.in-Takes.ensures in
     let m = read! {z = c.in-Takes.last} (search rules) in (
       omega (arith, c.decreases, heavy c.args.event g.follows h.site (length h.bytes.now)),
-      (c.requires.0, g.deep, g.order, g.inside, rw m g.near),
+      (g.deep, g.order, g.inside, rw m g.near),
     )
 
 -- a template
@@ -101,7 +96,7 @@ unfolding Leads
 act-unfold-requires t c =
     let g = c.in-Unfolds.ensures in (
       omega (arith, c.decreases),
-      (c.requires.0, record { less = g.less; deep = c.requires.1.deep; inside = g.inside; few = g.few }),
+      record { less = g.less; deep = c.requires.deep; inside = g.inside; few = g.few },
     )
 
 pub act-returns-in-Ends : goal.act-returns-in-Ends
@@ -117,7 +112,7 @@ unfolding Leads
 act-returns-in-Waits t c =
     let h = c.args.placed.now.clause in
     reckons_waiting c.alone-in-Waits.ensures c.put_unit-unit.new.out
-    (unit_of (wait_number c.in-Waits.sort) h.site.place h.site.a h.params.now h.values.now) c.in-Waits.ensures
+    (unit_of (wait_number c.in-Waits.sort) h.site.place h.site.a h.params.now h.values.cells.now) c.in-Waits.ensures
     (rw c.from-sort.ensures at c.put_unit-unit.ensures)
 
 pub act-returns-in-Picks : goal.act-returns-in-Picks
@@ -132,7 +127,7 @@ act-returns-in-Takes t c =
     let h = c.args.placed.now.clause in
     let r = c.in-Takes.reading.now in
     let m = read! {z = c.in-Takes.last} (search rules) in
-    let us = then_values h.values.now r.values.items (c.in-Takes.last -ℤ pos r.time) in
+    let us = then_values h.values.cells.now r.values.items (c.in-Takes.last -ℤ pos r.time) in
     let activated = then_is h.agreement.now (clause (heads_of h.agreement.now) (h.site.depth - 1)
     (h.site.place + c.in-Takes.from) (part h.bytes.now c.in-Takes.from c.in-Takes.to)) h.params.now us r.time in
     reckons_by later (c.in-Takes.ensures.is ∙ ap later activated) (rw m at c.taken.ensures) c.ended_wait.ensures
@@ -153,7 +148,7 @@ pub activate-ended-requires : goal.activate-ended-requires
 unfolding Shaped
 activate-ended-requires t c =
     let h = c.args.placed.now.clause in
-    let g = c.in-Ends.ensures c.args.event h.agreement.now h.site.below h.site.place h.params.now h.values.now
+    let g = c.in-Ends.ensures c.args.event h.agreement.now h.site.below h.site.place h.params.now h.values.cells.now
     h.site.a in
     omega (arith, g.1)
 
@@ -161,7 +156,7 @@ pub activate-part-side-requires : goal.activate-part-side-requires
 unfolding Shaped
 activate-part-side-requires t c =
     let h = c.args.placed.now.clause in
-    let g = c.in-Goes.ensures c.args.event h.agreement.now h.site.below h.site.place h.params.now h.values.now
+    let g = c.in-Goes.ensures c.args.event h.agreement.now h.site.below h.site.place h.params.now h.values.cells.now
     h.site.a in
     (g.deep, g.order, g.inside, g.soon)
 
@@ -169,40 +164,38 @@ pub activate-activate-requires : goal.activate-activate-requires
 unfolding Shaped
 activate-activate-requires t c =
     let h = c.args.placed.now.clause in
-    let g = c.in-Goes.ensures c.args.event h.agreement.now h.site.below h.site.place h.params.now h.values.now
+    let g = c.in-Goes.ensures c.args.event h.agreement.now h.site.below h.site.place h.params.now h.values.cells.now
     h.site.a in
     let e = c.part-side.ensures in
-    let n = length_part h.bytes.now c.in-Goes.from c.in-Goes.to g.inside in (
-      omega (
-        arith,
-        c.decreases,
-        lighter_within c.args.event h.site c.in-Goes.from h.site.a e.site (length c.part-side.result.clause.bytes.now)
-            (length h.bytes.now) (omega (arith, ap length e.bytes, n, g.past, g.order, g.inside)),
-      ),
-      c.requires,
+    let n = length_part h.bytes.now c.in-Goes.from c.in-Goes.to g.inside in
+    omega (
+      arith,
+      c.decreases,
+      lighter_within c.args.event h.site c.in-Goes.from h.site.a e.site (length c.part-side.result.clause.bytes.now)
+          (length h.bytes.now) (omega (arith, ap length e.bytes, n, g.past, g.order, g.inside)),
     )
 
 pub activate-both-requires : goal.activate-both-requires
 unfolding Shaped
 activate-both-requires t c =
     let h = c.args.placed.now.clause in
-    let g = c.in-Joins.ensures c.args.event h.agreement.now h.site.below h.site.place h.params.now h.values.now
+    let g = c.in-Joins.ensures c.args.event h.agreement.now h.site.below h.site.place h.params.now h.values.cells.now
     h.site.a in
-    (omega (arith, c.decreases), (c.requires, record { deep = g.deep; order = g.order; inside = g.inside }))
+    (omega (arith, c.decreases), record { deep = g.deep; order = g.order; inside = g.inside })
 
 pub activate-act-requires : goal.activate-act-requires
 unfolding Shaped
 activate-act-requires t c =
     let h = c.args.placed.now.clause in
-    let g = c.in-Acts.ensures c.args.event h.agreement.now h.site.below h.site.place h.params.now h.values.now
+    let g = c.in-Acts.ensures c.args.event h.agreement.now h.site.below h.site.place h.params.now h.values.cells.now
     h.site.a in
-    (omega (arith, c.decreases), (c.requires, g))
+    (omega (arith, c.decreases), g)
 
 pub activate-returns-in-Ends : goal.activate-returns-in-Ends
 unfolding Shaped
 activate-returns-in-Ends t c =
     let h = c.args.placed.now.clause in
-    let g = c.in-Ends.ensures c.args.event h.agreement.now h.site.below h.site.place h.params.now h.values.now
+    let g = c.in-Ends.ensures c.args.event h.agreement.now h.site.below h.site.place h.params.now h.values.cells.now
     h.site.a in
     reckons_as g.0 (c.ended.ensures c.args.out.now)
 
@@ -210,7 +203,7 @@ pub activate-returns-in-Goes : goal.activate-returns-in-Goes
 unfolding Shaped
 activate-returns-in-Goes t c =
     let h = c.args.placed.now.clause in
-    let g = c.in-Goes.ensures c.args.event h.agreement.now h.site.below h.site.place h.params.now h.values.now
+    let g = c.in-Goes.ensures c.args.event h.agreement.now h.site.below h.site.place h.params.now h.values.cells.now
     h.site.a in
     reckons_by (λ x. cells.reaches (cells.joins syntax.and (ended_by 1) x)) g.is
     (rw (stood c.args.event c.part-side.ensures) at c.activate.ensures) (search rules)
@@ -219,7 +212,7 @@ pub activate-returns-in-Joins : goal.activate-returns-in-Joins
 unfolding Shaped
 activate-returns-in-Joins t c =
     let h = c.args.placed.now.clause in
-    let g = c.in-Joins.ensures c.args.event h.agreement.now h.site.below h.site.place h.params.now h.values.now
+    let g = c.in-Joins.ensures c.args.event h.agreement.now h.site.below h.site.place h.params.now h.values.cells.now
     h.site.a in
     reckons_as g.is c.both.ensures
 
@@ -231,9 +224,6 @@ module _ (t : ℕ) where
 
   abbrev left_out : both-After-activate-l t → List ℤ
   left_out c = c.activate-l.new.out
-
-  right_room : (c : both-After-activate-l t) → length (right_out c) ≤ 3072
-  right_room c = omega (arith, c.requires.0, c.activate-r.auto.out)
 
   left_room : (c : both-After-activate-l t) → length (left_out c) ≡ c.room_left-room.result
   left_room c = omega (
@@ -252,15 +242,15 @@ module _ (t : ℕ) where
   left_answer c = rw (stood c.args.event c.part-left.ensures) at c.activate-l.ensures
 
 pub both-part-right-requires : goal.both-part-right-requires
-both-part-right-requires t c = let d = c.requires.1 in (d.deep, d.inside, omega arith, omega arith)
+both-part-right-requires t c = let d = c.requires in (d.deep, d.inside, omega arith, omega arith)
 
 pub both-part-left-requires : goal.both-part-left-requires
-both-part-left-requires t c = let d = c.requires.1 in (d.deep, d.order, d.inside, omega arith)
+both-part-left-requires t c = let d = c.requires in (d.deep, d.order, d.inside, omega arith)
 
 pub both-returns : goal.both-returns
 both-returns t c =
     let left = (goal.at.both-returns t c).After-activate-l in
     let room = c.room_left-room in
     reckons_laid (right_out t left) (left_out t left) room.result room.ensures.0 room.ensures.1
-    (left_room t left) (right_room t left) c.join.ensures c.join_tallies-tally.ensures
+    (left_room t left) c.join.ensures c.join_tallies-tally.ensures
     (left_answer t left) (right_answer t left)

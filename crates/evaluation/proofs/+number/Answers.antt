@@ -36,7 +36,7 @@ slice_bounds-number-start-in-37-to-43 t c =
 pub returns-in-36 : goal.returns-in-36
 returns-in-36 t c =
     number_not c.args.values.now c.args.depth c.args.s.now c.if-depth-eq0.false c.is_record.ensures
-    c.if-not-is_record.false c.kind-k.ensures c.in-36.is c.number-x.ensures c.holds.ensures c.truth.ensures
+    c.if-not-is_record.false c.kind-k.ensures c.in-36.is c.number-x.ensures c.holds.ensures c.from.ensures
 
 pub returns-in-32-to-35 : goal.returns-in-32-to-35
 returns-in-32-to-35 t c =

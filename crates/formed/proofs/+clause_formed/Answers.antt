@@ -11,8 +11,8 @@ returns-then-depth-eq0 t c = search clauses
 pub first_clause-c-requires : goal.first_clause-c-requires
 first_clause-c-requires t c = search clauses
 
-pub first_clause-c-requires-in-18-to-21 : goal.first_clause-c-requires-in-18-to-21
-first_clause-c-requires-in-18-to-21 t c = search clauses
+pub sides_at-c-requires : goal.sides_at-c-requires
+sides_at-c-requires t c = search clauses
 
 pub returns-in-16 : goal.returns-in-16
 returns-in-16 t c = search clauses
@@ -33,7 +33,10 @@ returns-then-clause_formed t c = elim c.if-tests_formed-2.branch [
 ]
 
 pub returns-else-clause_formed : goal.returns-else-clause_formed
-returns-else-clause_formed t c = search (sides_formed, true_first, false_first, rules)
+returns-else-clause_formed t c = elim c.if-tests_formed-2.branch [
+  | then-tests_formed-2 w ↦ search (sides_formed, true_first, false_first, rules)
+  | else-tests_formed-2 w ↦ search (sides_formed, true_first, false_first, rules)
+]
 
 pub returns-in_default : goal.returns-in_default
 returns-in_default t c = search clauses

@@ -7,8 +7,8 @@ use Rattle.guards.proofs.+width.Goals.{in-18, in-22, in-19-to-21, in_default, in
 
 ruleset laws = (counts, formed, parts, rules)
 
-pub first_clause-c-requires : goal.first_clause-c-requires
-first_clause-c-requires t c = search laws
+pub sides_at-f-requires : goal.sides_at-f-requires
+sides_at-f-requires t c = search laws
 
 pub overflow_sub-depth : goal.overflow_sub-depth
 overflow_sub-depth t c = search laws
@@ -16,8 +16,8 @@ overflow_sub-depth t c = search laws
 pub width-requires : goal.width-requires
 width-requires t c = search laws
 
-pub first_clause-c-requires-in-19-to-21 : goal.first_clause-c-requires-in-19-to-21
-first_clause-c-requires-in-19-to-21 t c = search laws
+pub sides_at-c-requires : goal.sides_at-c-requires
+sides_at-c-requires t c = search laws
 
 pub overflow_sub-depth-in-19-to-21 : goal.overflow_sub-depth-in-19-to-21
 overflow_sub-depth-in-19-to-21 t c = search laws

@@ -8,5 +8,5 @@ guarded_in-requires c = body_formed c.args.agreement.now c.requires.formed c.req
 
 pub returns : goal.returns
 returns c =
-    body_answers c.args.agreement.now c.requires.formed c.requires.there c.body.ensures (guarded_in c.args.k)
+    body_answers c.args.agreement.now c.requires.formed c.requires.there c.body.ensures (guarded_in c.args.number)
     c.guarded_in.ensures

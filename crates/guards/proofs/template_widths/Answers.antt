@@ -8,23 +8,23 @@ use Rattle.guards.proofs.Bodies.{body_formed, body_answers}
 use Rattle.guards.proofs.Filling.{none_filled, more_filled, all_filled}
 use Rattle.guards.proofs.template_widths.Goals as goal
 
-pub loop-k-init : goal.loop-k-init
-loop-k-init c = (omega arith, none_filled c.args.agreement.now _ c.new-widths.ensures)
+pub loop-number-init : goal.loop-number-init
+loop-number-init c = (omega arith, none_filled c.args.agreement.now _ c.new-widths.ensures)
 
 pub width-w-requires : goal.width-w-requires
 width-w-requires c = body_formed c.args.agreement.now c.requires (omega arith) c.body.ensures
 
-pub loop-k-preserved : goal.loop-k-preserved
-loop-k-preserved c =
+pub loop-number-preserved : goal.loop-number-preserved
+loop-number-preserved c =
     let s = c.args.agreement.now in
-    let k = c.loop-k.k in
+    let k = c.loop-number.number in
     let l : k < byte s 10 = omega arith in
     let r = body_answers s c.requires l c.body.ensures (counted c.deref.result.now) c.width-w.ensures.0
     ∙ ap (λ ys. counted ys (body_at s k)) c.deref.ensures.0 in
-    (omega arith, rw c.push.ensures.items (more_filled s _ l c.loop-k.invariant.1 r))
+    (omega arith, rw c.push.ensures.items (more_filled s _ l c.loop-number.invariant.1 r))
 
 pub push-requires : goal.push-requires
-push-requires c = omega (arith, c.body.ensures.1.few_templates, c.loop-k.invariant.1.room)
+push-requires c = omega (arith, c.body.ensures.1.few_templates, c.loop-number.invariant.1.room)
 
 pub returns : goal.returns
-returns c = all_filled c.args.agreement.now _ (omega arith) c.loop-k.invariant.1
+returns c = all_filled c.args.agreement.now _ (omega arith) c.loop-number.invariant.1

@@ -5,30 +5,30 @@ use Rattle.csl.specs.Decode.{tys_of}
 use Rattle.records.specs.Index.{head_at}
 use Rattle.places.proofs.Descents.{made, body_stands, body_found, finds_none, finds_some}
 use Rattle.places.proofs.in_template.Goals as goal
-use Rattle.places.proofs.in_template.Goals.{After-sight-1}
+use Rattle.places.proofs.in_template.Goals.{After-body_span-base}
 
 -- the sight at the template's body has its values
-sight_is : (c : After-sight-1) → tys_of c.unwrap-sight.result.items ≡ (head_at c.args.agreement.now c.args.k).values
-sight_is c =
-    ap tys_of (rw c.unwrap-sight.ensures at c.try_from.ensures).0 ∙ c.value_types-types.ensures.0.typed
+sight_is : (c : After-body_span-base) → tys_of c.unwrap-sight.result.items
+    ≡ (head_at c.args.template.now.agreement.now c.args.template.now.number).values
+sight_is c = ap tys_of (rw c.unwrap-sight.ensures at c.try_from.ensures).0 ∙ c.value_types.ensures.0.typed
 
 pub unwrap-sight-requires : goal.unwrap-sight-requires
-unwrap-sight-requires c = made _ _ c.try_from.ensures (omega (arith, c.value_types-types.ensures.0.few))
+unwrap-sight-requires c = made _ _ c.try_from.ensures (omega (arith, c.value_types.ensures.0.few))
 
 pub descend-requires : goal.descend-requires
 descend-requires c =
-    body_stands c.requires.1 c.requires.0 c.body_span-body.ensures.0 c.body-s.ensures.0
-    (sight_is (goal.at.descend-requires c).After-sight-1)
+    body_stands c.requires c.args.template.now.there c.body_span-base.ensures.0 c.body.ensures.0
+    (sight_is (goal.at.descend-requires c).After-body_span-base)
 
 pub returns-in_err-wait : goal.returns-in_err-wait
 returns-in_err-wait c =
     rw c.from_residual.ensures (finds_none _ _ _
-    (body_found c.requires.1 c.requires.0 c.body_span-body.ensures.0 c.body-s.ensures.0
-    (sight_is (goal.at.returns-in_err-wait c).After-sight-1) c.descend.ensures) c.in_err-wait.was)
+    (body_found c.requires c.args.template.now.there c.body_span-base.ensures.0 c.body.ensures.0
+    (sight_is (goal.at.returns-in_err-wait c).After-body_span-base) c.descend.ensures) c.in_err-wait.was)
 
 pub returns : goal.returns
 returns c =
     let n = c.param_count.result in
     finds_some _ (record { wait = c.in_ok-wait.wait; params = n; sight = c.descend.new.sight })
-    (body_found c.requires.1 c.requires.0 c.body_span-body.ensures.0 c.body-s.ensures.0
-    (sight_is (goal.at.returns c).After-sight-1) c.descend.ensures) c.param_count.ensures.0 c.in_ok-wait.was
+    (body_found c.requires c.args.template.now.there c.body_span-base.ensures.0 c.body.ensures.0
+    (sight_is (goal.at.returns c).After-body_span-base) c.descend.ensures) c.param_count.ensures.0 c.in_ok-wait.was

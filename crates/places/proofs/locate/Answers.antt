@@ -37,20 +37,23 @@ first_is c =
     (λ k. record_end c.bytes-bytes.result.now (template_place A k) ≤ c.args.place) c.find.ensures.ran
     (YieldsList-from_range 0 n n refl (omega arith)) (λ x q k. search (rules, tests)) (λ x q k. search (rules, tests)))
 
-pub returns-in_err-k : goal.returns-in_err-k
-returns-in_err-k c =
-    rw c.from_residual-in_err-k.ensures (none_behind c.template_count-n.ensures.2 c.args.place
+pub returns-in_err-number : goal.returns-in_err-number
+returns-in_err-number c =
+    rw c.from_residual-in_err-number.ensures (none_behind c.template_count-n.ensures.2 c.args.place
     c.main_place-m.ensures.0 c.if-m-place.false c.template_count-n.ensures.0 _
-    (first_is (goal.at.returns-in_err-k c).After-find) c.in_err-k.was)
+    (first_is (goal.at.returns-in_err-number c).After-find) c.in_err-number.was)
 
-pub in_template-requires : goal.in_template-requires
-in_template-requires c = (
-  (one_behind c.template_count-n.ensures.2 c.args.place c.main_place-m.ensures.0 c.if-m-place.false
-      c.template_count-n.ensures.0 _ (first_is (goal.at.in_template-requires c).After-find) c.in_ok-k.was).0,
-  c.requires,
-)
+-- that there is one says its number
+pub invariant_of-in_template : goal.invariant_of-in_template
+invariant_of-in_template c =
+    record {
+      there = (one_behind c.template_count-n.ensures.2 c.args.place c.main_place-m.ensures.0 c.if-m-place.false
+          c.template_count-n.ensures.0 _ (first_is (goal.at.invariant_of-in_template c).After-find)
+          c.in_ok-number.was).0;
+    }
 
 pub returns : goal.returns
 returns c =
     (one_behind c.template_count-n.ensures.2 c.args.place c.main_place-m.ensures.0 c.if-m-place.false
-    c.template_count-n.ensures.0 _ (first_is (goal.at.returns c).After-find) c.in_ok-k.was).1 _ c.in_template.ensures
+    c.template_count-n.ensures.0 _ (first_is (goal.at.returns c).After-find) c.in_ok-number.was).1 _
+    c.in_template.ensures

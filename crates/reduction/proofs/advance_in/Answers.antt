@@ -1,7 +1,7 @@
 -- What the step comes to is settled where its units have room, and else nothing is written; what it costs is all that
 -- it counted.
 use native.Mathlib.Omega.{arith}
-use Rattle.reduction.proofs.Advances.{time_cell, units_counted, tried_none, tried_room}
+use Rattle.reduction.proofs.Advances.{time_cell, units_counted, reduced_few, tried_none, tried_room}
 use Rattle.reduction.proofs.advance_in.Goals as goal
 
 pub overflow_mul-units : goal.overflow_mul-units
@@ -23,6 +23,7 @@ settle-altered-requires g c =
         room = omega (arith, c.units_of-units.ensures, c.if-units.false);
       },
       (time_cell due.soon).0,
+      reduced_few due _ _ c.reduce-x.ensures.outcome,
     )
 
 pub returns : goal.returns

@@ -1,6 +1,6 @@
 -- The pairs of outcomes, one by one: fulfilled vanishes, a breach decides, two residues are joined.
 use Rattle.residues.proofs.Reduces.{both_done, both_beside_done, both_breaches, both_breach_running}
-use Rattle.residues.proofs.Reduces.{both_running_breach, both_running}
+use Rattle.residues.proofs.Reduces.{both_running_breach}
 use Rattle.residues.proofs.join_both.Goals as goal
 
 pub returns-in-Done-default : goal.returns-in-Done-default
@@ -24,8 +24,3 @@ returns-in-Breach-Running c =
 pub returns-in-Running-Breach : goal.returns-in-Running-Breach
 returns-in-Running-Breach c =
     both_running_breach c.args.out.now c.in-Running-Breach.is-0 c.in-Running-Breach.is-1
-
-pub returns-in-Running-Running : goal.returns-in-Running-Running
-returns-in-Running-Running c =
-    both_running c.args.out.now c.in-Running-Running.is-0 c.in-Running-Running.is-1
-    c.put_join.ensures

@@ -1,6 +1,6 @@
 -- The pairs of outcomes, one by one: fulfilled decides, a breach leaves the other side, two residues are joined.
 use Rattle.residues.proofs.Reduces.{either_done, either_beside_done, either_breaches, either_breach_running}
-use Rattle.residues.proofs.Reduces.{either_running_breach, both_running}
+use Rattle.residues.proofs.Reduces.{either_running_breach}
 use Rattle.residues.proofs.join_either.Goals as goal
 use Rattle.residues.proofs.join_either.Goals.{in_default-Done-via-in-Breach+in-Done}
 use Rattle.residues.proofs.join_either.Goals.{in_default-Done-via-in-Running+in-Done}
@@ -26,8 +26,3 @@ returns-in-Breach-Running c =
 pub returns-in-Running-Breach : goal.returns-in-Running-Breach
 returns-in-Running-Breach c =
     either_running_breach c.args.out.now c.in-Running-Breach.is-0 c.in-Running-Breach.is-1
-
-pub returns-in-Running-Running : goal.returns-in-Running-Running
-returns-in-Running-Running c =
-    both_running c.args.out.now c.in-Running-Running.is-0 c.in-Running-Running.is-1
-    c.put_join.ensures

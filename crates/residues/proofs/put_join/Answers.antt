@@ -1,16 +1,17 @@
 -- The two residues stand one below the other at the end, so the join's unit below them makes one residue in prefix
--- order; without room only the count is kept.
+-- order; without room, in a table or at the end, only the count is kept.
 use native.Mathlib.Omega.{arith}
 use Rattle.residues.proofs.Reduces.{join_full, join_put}
 use Rattle.residues.proofs.put_join.Goals as goal
 
-pub returns-then-cells-out : goal.returns-then-cells-out
-returns-then-cells-out c =
+pub returns-then-cells-room : goal.returns-then-cells-room
+returns-then-cells-room c =
     let sum = c.saturating_add.ensures in
     let units = c.saturating_add-units.ensures in
-    join_full c.args.kind c.args.n c.args.m c.args.out.now c.requires
+    let cells = c.saturating_mul-cells.ensures in
+    join_full c.args.join c.args.n c.args.m c.args.out.now
     (λ hn hm. (
-      omega (arith, hn, hm, sum, units, c.saturating_mul-cells.ensures, c.if-cells-out.true),
+      λ few. omega (arith, hn, hm, few, sum, units, cells, c.min-room.ensures, c.if-cells-room.true),
       omega (arith, hn, hm, sum, units, c.min.ensures),
     ))
 
@@ -19,9 +20,9 @@ returns c =
     let sum = c.saturating_add.ensures in
     let units = c.saturating_add-units.ensures in
     let cells = c.saturating_mul-cells.ensures in
-    let room = c.if-cells-out.false in
-    let few = c.requires in
-    join_put c.args.kind c.args.n c.args.m c.args.out.now few
-    (omega (arith, sum, units, cells, room, few)) (omega (arith, cells, room, few))
-    (omega (arith, cells, room, few)) (omega arith)
+    let least = c.min-room.ensures in
+    let room = c.if-cells-room.false in
+    join_put c.args.join c.args.n c.args.m c.args.out.now
+    (omega (arith, sum, units, cells, least, room)) (omega (arith, cells, least, room))
+    (omega (arith, cells, least, room)) (omega (arith, cells, least, room)) (omega arith)
     (rw c.from.ensures at c.fill.ensures)

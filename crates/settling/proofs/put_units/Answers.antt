@@ -1,6 +1,5 @@
 -- After k units the front has the residue's first k units, behind them nothing has changed, and something has altered
 -- if it was known or one of the k is another.
-use borrow.Author.Rules.{rules}
 use mathlib.Core.Path.{◌≡◌, ap, refl, ◌∙◌}
 use mathlib.Core.List.{◌++◌}
 use Prim.Native.Nat.{◌+◌, ◌*◌}
@@ -13,9 +12,6 @@ use Rattle.settling.proofs.put_units.Goals as goal
 
 pub loop-k-init : goal.loop-k-init
 loop-k-init c = (refl, refl, altered_none c.args.known)
-
-pub put_unit-altered-requires : goal.put_unit-altered-requires
-put_unit-altered-requires c = (search (length-take, length-drop, rules), search (length-take, length-drop, rules))
 
 pub loop-k-preserved : goal.loop-k-preserved
 loop-k-preserved c =
@@ -36,7 +32,7 @@ pub returns : goal.returns
 returns c =
     let loop = c.loop-k in
     let r = c.args.residue.now in
-    let all : loop.k ≡ c.args.n = omega arith in (
-      loop.invariant.1 ∙ copied_all r c.args.units.now {i = 24 * loop.k} (omega arith),
-      rw (all, take_all (24 * c.args.n) r (omega arith)) at loop.invariant.2,
+    let all : 24 * loop.k ≡ length r = omega arith in (
+      loop.invariant.1 ∙ copied_all r c.args.units.now {i = 24 * loop.k} all,
+      rw (all, take_all (length r) r (omega arith)) at loop.invariant.2,
     )

@@ -3,7 +3,6 @@ use mathlib.Core.Path.{◌≡◌, ap, ◌∙◌}
 use borrow.Author.Rules.{rules}
 use lib.IntN.{pos}
 use lib.ListN.{get_or}
-use Rattle.arith.proofs.Ints.{read! }
 use Rattle.units.proofs.Cells.{not_natural, natural}
 use Rattle.state.proofs.Trees.{no_kind, no_cell, no_sort, waits_first, joins_first}
 use Rattle.state.proofs.Trees.{wait_named, wait_unnamed, join_named, join_unnamed}
@@ -12,14 +11,12 @@ use Rattle.state.proofs.first_unit.Goals as goal
 use Rattle.state.proofs.first_unit.Goals.{In_ok-kind}
 
 kind_is : (c : In_ok-kind) → get_or c.args.cells.now 0 (pos 0) ≡ pos c.in_ok-kind.kind
-kind_is c = natural (get_or c.args.cells.now 0 (pos 0)) c.try_from.result c.ok.result c.ok.ensures.value
-    (rw (read! {z = get_or c.args.cells.now 0 (pos 0)} (search rules)) at c.try_from.ensures)
-    c.in_ok-kind.kind c.in_ok-kind.was
+kind_is c = natural (get_or c.args.cells.now 0 (pos 0)) (search rules) _ c.ok.ensures.value c.try_from.ensures
+    c.in_ok-kind.was
 
 pub returns-in_err-kind : goal.returns-in_err-kind
 returns-in_err-kind c = rw c.from_residual.ensures (no_kind c.args.cells.now (no_cell _
-    (not_natural (get_or c.args.cells.now 0 (pos 0)) c.try_from.result c.ok.result c.ok.ensures.value
-    (rw (read! {z = get_or c.args.cells.now 0 (pos 0)} (search rules)) at c.try_from.ensures) (search rules)
+    (not_natural (get_or c.args.cells.now 0 (pos 0)) (search rules) _ c.ok.ensures.value c.try_from.ensures
     c.in_err-kind.was)))
 
 pub returns-in-Ok : goal.returns-in-Ok

@@ -1,7 +1,7 @@
 -- A fulfilled table shows a run exactly where all of its other cells are zero.
 use borrow.Author.Rules.{rules}
 use borrow.Author.Tests.{tests}
-use Rattle.state.proofs.Shows.{fulfilled_is}
+use Rattle.state.proofs.FulfilledTables.{fulfilled_is}
 use Rattle.state.proofs.fulfilled.Goals as goal
 
 pub returns : goal.returns

@@ -6,7 +6,7 @@ use lib.IntN.{pos}
 use lib.ListN.{get_or}
 use Rattle.std.proofs.Common.{Some}
 use Rattle.units.specs.Cells.{number_below}
-use Rattle.state.proofs.Tests.{cell_below}
+use Rattle.units.proofs.Tests.{cell_below}
 use Rattle.state.proofs.Times.{timeless, unmoved, times_are}
 use Rattle.state.proofs.last_time.Goals as goal
 use Rattle.state.proofs.last_time.Goals.{In_ok-moved}

@@ -1,51 +1,40 @@
--- The head decides: its times, and a state of 1 to 3, each read by a function of its own.
+-- The head decides: its times, and its state, which tells the function that reads the rest.
 use borrow.Author.Rules.{rules}
-use mathlib.Core.Path.{◌≡◌, sym, ◌∙◌}
-use native.Mathlib.Omega.{arith}
-use lib.IntN.{pos}
-use lib.ListN.{get_or}
+use mathlib.Core.Path.{refl, ap, ◌∙◌}
 use Rattle.std.proofs.Common.{Some}
-use Rattle.units.specs.Cells.{number_below}
-use Rattle.state.proofs.Tests.{cell_below}
-use Rattle.state.specs.Shown.{HeadAt}
-use Rattle.state.proofs.Shows.{head_timeless, head_none, head_other, head_at}
+use Rattle.state.proofs.Shows.{head_timeless, head_stateless, head_at}
+use Rattle.state.specs.Shown.{TimeIs}
 use Rattle.state.proofs.state_of.Goals as goal
-use Rattle.state.proofs.state_of.Goals.{In_ok-number_below}
+use Rattle.state.proofs.state_of.Goals.{After-last_time}
 
--- the state, as the program reads it, and the head with it
-read_state : (c : In_ok-number_below)
-    → Some c.in_ok-number_below.field-0 ≡ number_below 4 (get_or c.args.table.now 0 (pos 0))
-read_state c = sym c.in_ok-number_below.was ∙ cell_below 4 _ (search rules) c.number_below.ensures
-
-head : (c : In_ok-number_below)
-    → HeadAt c.args.accepted.now c.args.table.now c.in_ok-number_below.field-0 c.in_ok-time.time
-head c = head_at c.args.table.now c.told-table c.args.accepted.now c.args.sights.now _
-    (rw c.agreement.ensures.0 at c.last_time.ensures) c.in_ok-time.was (read_state c)
+times : (c : After-last_time) → TimeIs c.args.accepted.now c.args.table.now c.last_time.result
+times c = rw c.agreement.ensures.0 at c.last_time.ensures
 
 pub returns-in_err-time : goal.returns-in_err-time
 returns-in_err-time c = rw c.from_residual.ensures
     (head_timeless c.args.table.now c.told-table c.args.accepted.now c.args.sights.now _
-    (rw c.agreement.ensures.0 at c.last_time.ensures) c.in_err-time.was)
+    (times (goal.at.returns-in_err-time c).After-last_time) c.in_err-time.was)
 
-pub returns-in_err-number_below : goal.returns-in_err-number_below
-returns-in_err-number_below c = rw c.from_residual-in_err-number_below.ensures
-    (head_none c.args.table.now c.told-table c.args.accepted.now c.args.sights.now
-    (sym c.in_err-number_below.was ∙ cell_below 4 _ (search rules) c.number_below.ensures))
+pub returns-in_err-ok : goal.returns-in_err-ok
+returns-in_err-ok c = rw c.from_residual-in_err-ok.ensures
+    (head_stateless c.args.table.now c.told-table c.args.accepted.now (search rules) _ c.ok.ensures.value
+    c.try_from.ensures c.args.sights.now c.in_err-ok.was)
 
 pub running-requires-clause-head_at : goal.running-requires-clause-head_at
 running-requires-clause-head_at c =
-    rw c.in-1.is at (head (goal.at.running-requires-clause-head_at c).In_ok-number_below)
+    head_at c.args.table.now c.told-table c.args.accepted.now (search rules) _ c.ok.ensures.value c.try_from.ensures
+    _ (times (goal.at.running-requires-clause-head_at c).After-last_time) c.in_ok-time.was
+    (c.in_ok-ok.was ∙ ap Some c.in-Running.is) refl
 
 pub breached-requires : goal.breached-requires
-breached-requires c = rw c.in-3.is at (head (goal.at.breached-requires c).In_ok-number_below)
+breached-requires c =
+    head_at c.args.table.now c.told-table c.args.accepted.now (search rules) _ c.ok.ensures.value c.try_from.ensures
+    _ (times (goal.at.breached-requires c).After-last_time) c.in_ok-time.was
+    (c.in_ok-ok.was ∙ ap Some c.in-Breached.is) refl
 
-pub returns-in-2 : goal.returns-in-2
-returns-in-2 c =
+pub returns-in-Fulfilled : goal.returns-in-Fulfilled
+returns-in-Fulfilled c =
     c.fulfilled.ensures c.args.accepted.now c.in_ok-time.time c.args.sights.now
-    (rw c.in-2.is at (head (goal.at.returns-in-2 c).In_ok-number_below))
-
-pub returns-in_default : goal.returns-in_default
-returns-in_default c =
-    head_other c.args.table.now c.told-table c.args.accepted.now c.args.sights.now
-    (read_state (goal.at.returns-in_default c).In_ok-number_below)
-    (λ e. omega arith) (λ e. omega arith) (λ e. omega arith)
+    (head_at c.args.table.now c.told-table c.args.accepted.now (search rules) _ c.ok.ensures.value c.try_from.ensures
+    _ (times (goal.at.returns-in-Fulfilled c).After-last_time) c.in_ok-time.was
+    (c.in_ok-ok.was ∙ ap Some c.in-Fulfilled.is) refl)

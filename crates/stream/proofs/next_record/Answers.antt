@@ -1,4 +1,5 @@
 -- `next_record` is right: its tests are those of `next_of`.
+use Rattle.std.proofs.Common.{rules, ◌≡◌, length}
 use Rattle.stream.proofs.Cuts.{next_whole, next_wait, next_end, next_cut}
 use Rattle.stream.proofs.next_record.Goals as goal
 
@@ -11,12 +12,12 @@ returns-then-not-ended-clause-next c =
     next_wait c.args.s.now c.args.ended c.record_size-size.ensures.size c.if-size-s.false
     c.if-not-ended.true
 
-pub returns-then-s-eq0-clause-next : goal.returns-then-s-eq0-clause-next
-returns-then-s-eq0-clause-next c =
-    next_end c.args.s.now c.args.ended c.record_size-size.ensures.size c.if-size-s.false
-    c.if-not-ended.false c.if-s-eq0.true
+pub returns-then-is_empty-clause-next : goal.returns-then-is_empty-clause-next
+returns-then-is_empty-clause-next c =
+    let none : length c.args.s.now ≡ 0 = search rules in
+    next_end c.args.s.now c.args.ended c.record_size-size.ensures.size c.if-size-s.false c.if-not-ended.false none
 
-pub returns-clause-next : goal.returns-clause-next
-returns-clause-next c =
-    next_cut c.args.s.now c.args.ended c.record_size-size.ensures.size c.if-size-s.false
-    c.if-not-ended.false c.if-s-eq0.false
+pub returns-else-is_empty-clause-next : goal.returns-else-is_empty-clause-next
+returns-else-is_empty-clause-next c =
+    let some : length c.args.s.now ≡ 0 → ⊥ = search rules in
+    next_cut c.args.s.now c.args.ended c.record_size-size.ensures.size c.if-size-s.false c.if-not-ended.false some

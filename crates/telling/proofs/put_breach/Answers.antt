@@ -7,5 +7,5 @@ use Rattle.telling.proofs.put_breach.Goals as goal
 pub returns : goal.returns
 returns c =
     let breach = c.args.breach in
-    then c.args.page.now (space ∷ decimal breach.time) (space ∷ decimal breach.parties) c.put_next.ensures
-    c.put_next-2.ensures
+    then c.args.page.now (space ∷ decimal breach.time) (space ∷ decimal breach.parties) c.put_next.ensures.puts
+    c.put_next-2.ensures.puts

@@ -4,5 +4,5 @@ use Rattle.typing.proofs.body_parties.Goals as goal
 
 pub returns : goal.returns
 returns c =
-    body_typed c.body.ensures.1 c.requires c.body.ensures.0 c.value_types.ensures.0 c.param_count.ensures.0
-    c.clause_parties.ensures
+    body_typed c.body.ensures.1 c.args.template.now.there c.body.ensures.0 c.value_types.ensures.0
+    c.param_count.ensures.0 c.clause_parties.ensures

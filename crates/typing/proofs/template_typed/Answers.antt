@@ -1,22 +1,18 @@
 -- The declared parties are below the count, the body is typed, and its constant parties are among the declared.
 use mathlib.Core.Path.{◌∙◌}
 use native.Mathlib.Omega.{arith}
-use Rattle.typing.proofs.Templates.{template_beyond, template_untyped, template_within}
+use Rattle.std.proofs.Common.{rules}
+use Rattle.typing.proofs.Templates.{template_beyond, template_by}
 use Rattle.typing.proofs.template_typed.Goals as goal
 
-pub returns-then-not-below : goal.returns-then-not-below
-returns-then-not-below c =
-    template_beyond c.parties.ensures.2 c.args.k c.requires (c.of_bits-declared.ensures ∙ c.declared_bits.ensures.0)
-    c.parties.ensures.0 c.below.ensures.1 c.if-not-below.true
+pub returns-then-below : goal.returns-then-below
+returns-then-below c =
+    template_by c.parties.ensures.2 c.args.template.now.number c.args.template.now.there
+    (c.of_bits-declared.ensures ∙ c.declared_bits.ensures.0) c.parties.ensures.0 c.below.ensures.1 c.if-below.true
+    c.body_parties.result (omega (arith, c.of_bits-declared.ensures, c.declared_bits.ensures.1)) c.body_parties.ensures
+    c.is_some_and.ensures (λ m p. search rules)
 
-pub returns-in_default : goal.returns-in_default
-returns-in_default c =
-    template_untyped c.parties.ensures.2 c.args.k c.requires (c.of_bits-declared.ensures ∙ c.declared_bits.ensures.0)
-    c.parties.ensures.0 c.below.ensures.1 c.if-not-below.false c.in_default.ensures
-
-pub returns : goal.returns
-returns c =
-    template_within c.parties.ensures.2 c.args.k c.requires (c.of_bits-declared.ensures ∙ c.declared_bits.ensures.0)
-    c.parties.ensures.0 c.below.ensures.1 c.if-not-below.false
-    (omega (arith, c.of_bits-declared.ensures, c.declared_bits.ensures.1)) c.in-Some.ensures c.constants.ensures.0
-    c.is_subset.ensures
+pub returns-else-below : goal.returns-else-below
+returns-else-below c =
+    c.if-below.false ∙ template_beyond c.parties.ensures.2 c.args.template.now.number c.args.template.now.there
+    (c.of_bits-declared.ensures ∙ c.declared_bits.ensures.0) c.parties.ensures.0 c.below.ensures.1 c.if-below.false

@@ -1,5 +1,4 @@
 -- Each arm gives the parties that the rule of its kind gives, parameters replaced; a part is shorter than its clause.
-use mathlib.Core.Path.{sym, ◌∙◌}
 use Rattle.units.proofs.Blames.{whole_room, then_in_lem, then_parties, sides_in, sides_parties, low_parties}
 use Rattle.units.proofs.Blames.{high_parties}
 use Rattle.arith.proofs.Lists.{length_part}
@@ -23,41 +22,37 @@ clause_parties-requires t c = (
   then_in_lem c.requires c.kind-k.ensures c.in-17.is c.first_clause-c.ensures.0,
 )
 
-pub instance_parties-requires : goal.instance_parties-requires
-instance_parties-requires t c = (c.requires, sym c.kind-k.ensures ∙ c.in-22.is)
-
-pub first_clause-c-requires-in-18-to-21 : goal.first_clause-c-requires-in-18-to-21
-first_clause-c-requires-in-18-to-21 t c = whole_room c.requires
+pub sides_at-c-requires : goal.sides_at-c-requires
+sides_at-c-requires t c = whole_room c.requires
 
 pub clause_parties-left-requires : goal.clause_parties-left-requires
 clause_parties-left-requires t c =
-    let x = c.first_clause-c-in-18-to-21.result in
-    let f = c.record_end-f in
-    let z = f.result in (
+    let x = c.sides_at-c.result.0 in
+    let z = c.sides_at-c.result.1 in
+    let second = c.sides_at-c.ensures.second in (
       omega (
         arith,
         whole_room c.requires,
-        c.first_clause-c-in-18-to-21.ensures,
-        f.ensures,
-        length_part c.args.s.now x z f.ensures.1,
+        c.sides_at-c.ensures.first,
+        second,
+        length_part c.args.s.now x z second.1,
       ),
-      (sides_in c.requires c.kind-k.ensures (omega arith) (omega arith)
-          c.first_clause-c-in-18-to-21.ensures.0 f.ensures.0).0,
+      (sides_in c.requires c.kind-k.ensures (omega arith) (omega arith) c.sides_at-c.ensures.first.0 second.0).0,
     )
 
 pub clause_parties-requires-in-18-to-21 : goal.clause_parties-requires-in-18-to-21
 clause_parties-requires-in-18-to-21 t c =
-    let z = c.record_end-f.result in
-    let n = length c.args.s.now in (
+    let z = c.sides_at-c.result.1 in
+    let n = length c.args.s.now in
+    let second = c.sides_at-c.ensures.second in (
       omega (
         arith,
         whole_room c.requires,
-        c.first_clause-c-in-18-to-21.ensures,
-        c.record_end-f.ensures,
+        c.sides_at-c.ensures.first,
+        second,
         length_part c.args.s.now z n (omega arith),
       ),
-      (sides_in c.requires c.kind-k.ensures (omega arith) (omega arith)
-          c.first_clause-c-in-18-to-21.ensures.0 c.record_end-f.ensures.0).1,
+      (sides_in c.requires c.kind-k.ensures (omega arith) (omega arith) c.sides_at-c.ensures.first.0 second.0).1,
     )
 
 pub returns-in-17 : goal.returns-in-17
@@ -67,8 +62,8 @@ returns-in-17 t c =
 
 pub returns-in-18-to-21 : goal.returns-in-18-to-21
 returns-in-18-to-21 t c =
-    sides_parties c.requires c.kind-k.ensures (omega arith) (omega arith) c.first_clause-c-in-18-to-21.ensures.0
-    c.record_end-f.ensures.0 c.clause_parties-left.ensures
+    sides_parties c.requires c.kind-k.ensures (omega arith) (omega arith) c.sides_at-c.ensures.first.0
+    c.sides_at-c.ensures.second.0 c.clause_parties-left.ensures
     c.clause_parties-in-18-to-21.ensures c.bitor-in-18-to-21.ensures.0
 
 pub returns-in_default : goal.returns-in_default

@@ -7,7 +7,7 @@ use Rattle.units.proofs.stands_for.Goals as goal
 pub returns-then-b-lt-PARAMS_FROM : goal.returns-then-b-lt-PARAMS_FROM
 returns-then-b-lt-PARAMS_FROM c = stands_itself c.args.params.now c.args.b c.if-b-lt-PARAMS_FROM.true
 
-pub returns : goal.returns
-returns c = c.unwrap_or.ensures ∙ ap (λ o. unwrap_or o 0) c.copied.ensures
+pub returns-else-b-lt-PARAMS_FROM : goal.returns-else-b-lt-PARAMS_FROM
+returns-else-b-lt-PARAMS_FROM c = c.unwrap_or.ensures ∙ ap (λ o. unwrap_or o 0) c.copied.ensures
     ∙ stands_got c.args.params.now c.args.b c.if-b-lt-PARAMS_FROM.false c.get.result c.get.ensures.lookup.0
     c.get.ensures.lookup.1

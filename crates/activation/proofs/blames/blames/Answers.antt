@@ -1,27 +1,26 @@
--- After i bytes the cells are the parties that they stand for.
-use Rattle.activation.proofs.Arguments.{blames_more, blames_all}
+-- After i bytes the first i cells are the parties that they stand for.
+use Rattle.activation.proofs.Arguments.{blames_set, blames_all}
 use native.Mathlib.Omega.{arith}
-use mathlib.Core.Path.{◌∙◌, sym, ap}
-use Prim.Native.Nat.{◌+◌}
-use lib.ListN.{length}
+use mathlib.Core.Path.{◌≡◌, ◌∙◌, refl, ap}
+use lib.ListN.{length, take}
 use Rattle.arith.proofs.Ints.{read! }
-use Rattle.cells.specs.Reduce.{blamed_cells}
+use Rattle.cells.specs.Reduce.{blamed_cell, blamed_cells}
 use Rattle.activation.proofs.blames.blames.Goals as goal
 
-pub loop-b-init : goal.loop-b-init
+pub loop-i-init : goal.loop-i-init
 unfolding blamed_cells
-loop-b-init g c = (c.new-cells.ensures, ap length c.new-cells.ensures)
+loop-i-init c = refl
 
-pub push-requires : goal.push-requires
-push-requires g c = (omega arith, omega arith)
-
-pub loop-b-preserved : goal.loop-b-preserved
-loop-b-preserved g c =
-    let loop = c.loop-b in (
-      rw (c.push.ensures.items, read! c.blamed.type_inv, loop.invariant.0, c.blamed.ensures, c.from.ensures)
-          (sym (blames_more c.args.params.now c.args.bytes.now loop.b-index c.loop-b-test.true)),
-      c.push.ensures.len ∙ ap (λ k. k + 1) loop.invariant.1,
-    )
+pub loop-i-preserved : goal.loop-i-preserved
+loop-i-preserved c =
+    let loop = c.loop-i in
+    rw (read! c.blamed.type_inv)
+    (blames_set c.args.params.now c.args.bytes.now loop.cells loop.i c.loop-i-test.true
+    (omega (arith, loop.auto.cells, c.requires, c.loop-i-test.true)) loop.invariant
+    (c.blamed.ensures ∙ ap (blamed_cell c.args.params.now) c.from.ensures))
 
 pub returns : goal.returns
-returns g c = c.loop-b.invariant.0 ∙ blames_all c.args.params.now c.args.bytes.now c.loop-b.b-index (omega arith)
+returns c =
+    let loop = c.loop-i in
+    let e : length c.args.bytes.now ≡ loop.i = omega arith in
+    ap (λ k. take k loop.cells) e ∙ loop.invariant ∙ blames_all c.args.params.now c.args.bytes.now loop.i (omega arith)

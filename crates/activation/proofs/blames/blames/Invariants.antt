@@ -1,8 +1,7 @@
 use mathlib.Core.Path.{◌≡◌}
-use lib.ListN.{length, take}
+use lib.ListN.{take}
 use Rattle.cells.specs.Reduce.{blamed_cells}
 use Rattle.activation.proofs.blames.blames.Given as goal
 
-abbrev pub invariant-loop-b : goal.invariant-loop-b
-invariant-loop-b g l = (l.cells.items ≡ blamed_cells l.params (take l.b-index l.bytes))
-    × (length l.cells.items ≡ l.b-index)
+abbrev pub invariant-loop-i : goal.invariant-loop-i
+invariant-loop-i l = take l.i l.cells ≡ blamed_cells l.params (take l.i l.bytes)

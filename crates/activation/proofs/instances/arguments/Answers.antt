@@ -13,18 +13,18 @@ use Rattle.activation.proofs.instances.arguments.Goals as goal
 pub loop-init : goal.loop-init
 loop-init c = (
   ap length c.new-values.ensures,
-  argued_none c.args.clause.now.values.now (c.args.clause.now.site.depth - 1) c.args.clause.now.bytes.now
+  argued_none c.args.clause.now.values.cells.now (c.args.clause.now.site.depth - 1) c.args.clause.now.bytes.now
       c.value_count-end.result c.new-values.ensures,
 )
 
 pub push-requires : goal.push-requires
-push-requires c = (omega arith, omega (arith, c.value_count-end.ensures.2))
+push-requires c = (omega arith, omega (arith, c.value_count-end.ensures.few.0))
 
 pub loop-preserved : goal.loop-preserved
 loop-preserved c =
     let loop = c.loop in
     let inv = loop.invariant in
-    let v = c.args.clause.now.values.now in
+    let v = c.args.clause.now.values.cells.now in
     let d = c.args.clause.now.site.depth - 1 in
     let bs = c.args.clause.now.bytes.now in (
       c.push.ensures.len ∙ ap (λ k. k + 1) inv.0,
@@ -38,5 +38,5 @@ pub returns : goal.returns
 returns c =
     let loop = c.loop in
     let h = c.args.clause.now in
-    rw (← c.value_count-end.ensures.1) (argued_all h.values.now (h.site.depth - 1) h.bytes.now c.value_count-end.result
-    loop.values.items {i = loop.counter} (omega arith) loop.invariant.1)
+    rw (← c.value_count-end.ensures.many) (argued_all h.values.cells.now (h.site.depth - 1) h.bytes.now
+    c.value_count-end.result loop.values.items {i = loop.counter} (omega arith) loop.invariant.1)

@@ -5,4 +5,4 @@ use Rattle.activation.proofs.instances.arguments.Given as goal
 
 abbrev pub invariant-loop : goal.invariant-loop
 invariant-loop l = (length l.values.items ≡ l.counter)
-    × Argued l.clause.values.now l.depth l.s l.end l.values.items l.counter l.at
+    × Argued l.clause.values.cells.now l.depth l.s l.end l.values.items l.counter l.at

@@ -1,17 +1,19 @@
--- After i expressions the next one begins where the last ended.
-use Rattle.activation.proofs.Arguments.{ends_none, ends_more, ends_all}
+-- Each expression begins where the one before ends.
+use Rattle.activation.proofs.Arguments.{ends_all, ends_within}
+use Rattle.std.proofs.lemmas.Iterator.{YieldsList-from_range}
+use Rattle.std.proofs.lemmas.Iterator.Consumers.{fold_from_yields_List}
+use mathlib.Core.Path.{◌≡◌, refl, ◌∙◌}
 use native.Mathlib.Omega.{arith}
+use borrow.Author.Rules.{rules}
+use Rattle.csl.specs.Bytes.{record_end}
+use Rattle.csl.specs.Decode.{records_end}
 use Rattle.activation.proofs.instances.arguments_end.Goals as goal
 
-pub loop-init : goal.loop-init
-loop-init c = (omega arith, ends_none c.args.s.now c.args.n)
-
-pub loop-preserved : goal.loop-preserved
-loop-preserved c = (
-  omega arith,
-  ends_more c.args.s.now c.args.n c.loop.counter c.loop.at c.loop.invariant.1 c.loop-test.true
-      c.record_end-at.ensures.0,
-)
-
 pub returns : goal.returns
-returns c = (ends_all c.args.s.now c.args.n (omega arith) c.loop.invariant.1, c.loop.invariant.0)
+returns c =
+    let s = c.args.s.now in
+    let each = YieldsList-from_range 0 c.args.n c.args.n refl (omega arith) in
+    let is : c.fold.result ≡ records_end c.args.n s 5 =
+    fold_from_yields_List _ (λ a k. record_end s a) 5 c.fold.result c.fold.ensures.ran each (λ a x b q k. search rules)
+    ∙ ends_all s c.args.n 0 5 in
+    (is, rw is (ends_within s c.args.n 5))

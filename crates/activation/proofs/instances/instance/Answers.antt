@@ -3,19 +3,19 @@
 use Rattle.activation.proofs.Walks.{instance_past, instance_bad, instance_is}
 use Rattle.activation.proofs.instances.instance.Goals as goal
 
-pub returns-then-template-below : goal.returns-then-template-below
-returns-then-template-below c = λ e place ps vs a d.
-    instance_past e c.args.agreement.now c.args.below c.args.s.now place ps vs a d c.byte-template.ensures.0
-    c.if-template-below.true
+pub returns-then-number-below : goal.returns-then-number-below
+returns-then-number-below c = λ e place ps vs a d.
+    instance_past e c.args.agreement.now c.args.below c.args.s.now place ps vs a d c.byte-number.ensures.0
+    c.if-number-below.true
 
 pub returns-then-parties-param_count : goal.returns-then-parties-param_count
 returns-then-parties-param_count c = λ e place ps vs a d.
-    instance_bad e c.args.agreement.now c.args.below c.args.s.now place ps vs a d c.value_count.ensures.3 c.requires
-    c.byte-template.ensures.0 c.if-template-below.false c.value_count.ensures.1 c.arguments_end-parties.ensures.0
+    instance_bad e c.args.agreement.now c.args.below c.args.s.now place ps vs a d c.value_count.ensures.few.1 c.requires
+    c.byte-number.ensures.0 c.if-number-below.false c.value_count.ensures.many c.arguments_end-parties.ensures.0
     c.param_count.ensures.0 c.if-parties-param_count.true
 
 pub returns : goal.returns
 returns c = λ e place ps vs a d.
-    instance_is e c.args.agreement.now c.args.below c.args.s.now place ps vs a d c.value_count.ensures.3 c.requires
-    c.byte-template.ensures.0 c.if-template-below.false c.value_count.ensures.1 c.arguments_end-parties.ensures.0
+    instance_is e c.args.agreement.now c.args.below c.args.s.now place ps vs a d c.value_count.ensures.few.1 c.requires
+    c.byte-number.ensures.0 c.if-number-below.false c.value_count.ensures.many c.arguments_end-parties.ensures.0
     c.param_count.ensures.0 c.param_count.ensures.1 c.if-parties-param_count.false

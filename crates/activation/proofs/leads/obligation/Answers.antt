@@ -13,22 +13,19 @@ use Rattle.cells.specs.Reduce.{blame_bits}
 use Rattle.waits.specs.Fates.{mode_at}
 use Rattle.activation.proofs.leads.obligation.Goals as goal
 
-pub becomes-requires : goal.becomes-requires
-becomes-requires c = let h = c.args.clause.now in (omega arith, omega (arith, h.soon), h.values_fit)
-
 pub returns-in-Waits : goal.returns-in-Waits
 returns-in-Waits c =
     let h = c.args.clause.now in
-    let f = is_waits (mode_at c.args.event) h.values.now h.site.a
+    let f = is_waits (mode_at c.args.event) h.values.cells.now h.site.a
     (wait_at (expr (h.site.depth - 1)) h.site.place h.bytes.now 5) (c.becomes.ensures h.site.place)
     c.in-Waits.is in
     obligation_waits c.args.event h.agreement.now h.site.below h.bytes.now h.site.place h.params.now
-    h.values.now h.site.a h.site.depth c.requires.1 f
+    h.values.cells.now h.site.a h.site.depth c.requires.1 f
 
 pub moved-requires : goal.moved-requires
 moved-requires c =
     let h = c.args.clause.now in
-    let f = is_late (mode_at c.args.event) h.values.now h.site.a
+    let f = is_late (mode_at c.args.event) h.values.cells.now h.site.a
     (wait_at (expr (h.site.depth - 1)) h.site.place h.bytes.now 5) (c.becomes.ensures h.site.place)
     c.in-Late.is in
     let w = f.2 in
@@ -37,21 +34,22 @@ moved-requires c =
 pub returns-in-Late : goal.returns-in-Late
 returns-in-Late c =
     let h = c.args.clause.now in
-    let f = is_late (mode_at c.args.event) h.values.now h.site.a
+    let f = is_late (mode_at c.args.event) h.values.cells.now h.site.a
     (wait_at (expr (h.site.depth - 1)) h.site.place h.bytes.now 5) (c.becomes.ensures h.site.place)
     c.in-Late.is in
     let m = read! {z = c.in-Late.last} (search rules) in
     obligation_late c.args.event h.agreement.now h.site.below h.bytes.now h.site.place h.params.now
-    h.values.now h.site.a h.site.depth c.requires.1 f.0 f.1 _ (rw m at c.moved.ensures.0)
+    h.values.cells.now h.site.a h.site.depth c.requires.1 f.0 f.1 _
+    (read! c.moved.type_inv ∙ (rw m at c.moved.ensures.0))
     (c.blame_bits.ensures ∙ ap (blame_bits h.params.now) c.byte.ensures.0)
 
 pub returns-in-Taken : goal.returns-in-Taken
 returns-in-Taken c =
     let h = c.args.clause.now in
-    let f = is_taken (mode_at c.args.event) h.values.now h.site.a
+    let f = is_taken (mode_at c.args.event) h.values.cells.now h.site.a
     (wait_at (expr (h.site.depth - 1)) h.site.place h.bytes.now 5) (c.becomes.ensures h.site.place)
     c.in-Taken.is in
     let m = read! {z = c.in-Taken.last} (search rules) in
     let we = c.wait_end.ensures in
     obligation_taken c.args.event h.agreement.now h.site.below h.bytes.now h.site.place h.params.now
-    h.values.now h.site.a h.site.depth c.requires.1 (we.1, omega arith) (rw m f.2) _ f.3 we.0 refl f.0 (m ∙ f.1)
+    h.values.cells.now h.site.a h.site.depth c.requires.1 (we.1, omega arith) (rw m f.2) _ f.3 we.0 refl f.0 (m ∙ f.1)

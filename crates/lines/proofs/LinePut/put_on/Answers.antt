@@ -12,7 +12,8 @@ returns g c =
     let end : List ℕ = newline ∷ [] in
     let gap : List ℕ = space ∷ [] in
     let said : List ℕ = shown_says g.V.Put.text l.says in
-    then c.args.page.now (decimal l.number) (gap ++ (shown_time l.time ++ (gap ++ (said ++ end)))) c.put_decimal.ensures
+    then c.args.page.now (decimal l.number) (gap ++ (shown_time l.time ++ (gap ++ (said ++ end))))
+    c.put_decimal.ensures.puts
     (then c.put_decimal.new.self gap (shown_time l.time ++ (gap ++ (said ++ end))) c.put_bytes.ensures
     (then c.put_bytes.new.self (shown_time l.time) (gap ++ (said ++ end)) c.put_time.ensures
     (then c.put_time.new.page gap (said ++ end) c.put_bytes-2.ensures

@@ -4,7 +4,7 @@ use borrow.Author.Tests.{tests}
 use mathlib.Core.Path.{sym, ap, ◌∙◌}
 use Prim.Native.Nat.{ℕ, ◌-◌, ◌/◌, ◌≤◌, ◌<◌}
 use native.Mathlib.Omega.{arith}
-use lib.ListN.{length, take, length-take}
+use lib.ListN.{length}
 use Rattle.laws.proofs.Residues.{some_units}
 use Rattle.std.proofs.iter.Yields.{fronts}
 use Rattle.std.specs.List.{zip}
@@ -16,43 +16,36 @@ use Rattle.walk.proofs.Opening.{UnitAt, each_unit, chunks, yields_units, seen_at
 use Rattle.walk.proofs.later.some_open_later.Goals as goal
 use Rattle.walk.proofs.later.some_open_later.Goals.{Start, After-zip}
 
-each : (c : Start) → let u = c.args.units in (k : ℕ) → k < u.count
+each : (c : Start) → let u = c.args.units in (k : ℕ) → k < length u.sights.now
     → UnitAt (length c.args.agreement.now) k u.sights.now u.cells.now
 each c k h = let t = c.requires.tree in each_unit _ t.residue _ _ t.stands k (omega (arith, t.count))
 
--- the last of them
-last : (c : Start) → let u = c.args.units in
-    UnitAt (length c.args.agreement.now) (u.count - 1) u.sights.now u.cells.now
-last c = let t = c.requires.tree in each c (c.args.units.count - 1) (omega (arith, t.count, some_units t.residue))
-
 -- there are as many chunks
-enough : (c : Start) → c.args.units.count ≤ length c.args.units.cells.now / 24
-enough c = omega (arith, (last c).cells)
+enough : (c : Start) → let u = c.args.units in length u.sights.now ≤ length u.cells.now / 24
+enough c =
+    let t = c.requires.tree in
+    let last = each c (length c.args.units.sights.now - 1) (omega (arith, t.count, some_units t.residue)) in
+    omega (arith, last.cells)
 
 -- what `zip` goes through
 abbrev items : After-zip → Type 0
 items c = let u = c.args.units in
     YieldsList (zips fronts chunks_exact_steps) (λ p. (p.0.now, p.1.now)) c.zip.result
-    (zip (take u.count u.sights.now) (chunks (length u.cells.now / 24) u.cells.now))
+    (zip u.sights.now (chunks (length u.cells.now / 24) u.cells.now))
 
 yielded : (c : After-zip) → items c
 yielded c =
     let z = c.zip.ensures in
-    yields_units c.zip.result _ _ (ap iter_rest z.first ∙ c.iter-sights.ensures.rest)
+    yields_units c.zip.result _ _ (ap iter_rest z.first ∙ c.iter.ensures.rest)
     (ap chunks_exact_size z.second ∙ c.chunks_exact-cells.ensures.size)
     (ap chunks_exact_rest z.second ∙ c.chunks_exact-cells.ensures.rest)
-
-pub slice_bounds-iter-end : goal.slice_bounds-iter-end
-slice_bounds-iter-end c =
-    let u = c.args.units in
-    omega (arith, length-take u.count u.sights.now, (last (goal.at.slice_bounds-iter-end c).Start).sight)
 
 pub any-requires-clause-callable : goal.any-requires-clause-callable
 any-requires-clause-callable c =
     let u = c.args.units in
     let at = goal.at.any-requires-clause-callable c in
     serves_from_places (yielded at.After-zip) (λ x q r. search rules) (λ x k h e.
-    let seen = seen_at (length c.args.agreement.now) u.count (length u.cells.now / 24) u.sights.now u.cells.now
+    let seen = seen_at (length c.args.agreement.now) (length u.cells.now / 24) u.sights.now u.cells.now
     (enough at.Start) (each at.Start) (x.0.now, x.1.now) k h e in
     search (rules, seen))
 
@@ -63,5 +56,5 @@ returns c =
     let size = length c.args.agreement.now in
     any_from_yields_List (opens c.args.reading.now c.args.agreement.now size) c.any.new.self _ c.any.result
     c.any.ensures.ran (yielded at.After-zip) (λ x b q k. search (rules, tests))
-    ∙ sym (some_unit c.args.reading.now c.args.agreement.now size u.count (length u.cells.now / 24) u.sights.now
-    u.cells.now (enough at.Start) (each at.Start))
+    ∙ sym (some_unit c.args.reading.now c.args.agreement.now size (length u.cells.now / 24) u.sights.now u.cells.now
+    (enough at.Start) (each at.Start))

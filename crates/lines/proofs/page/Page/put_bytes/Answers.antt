@@ -1,11 +1,10 @@
--- `put_bytes` is right: what has room is appended.
-use Rattle.std.proofs.Common.{rules, ◌≡◌, ◌∙◌, ◌++◌, take}
-use Rattle.lines.proofs.Puts.{front_put}
+-- `put_bytes` is right: what has room is written behind what is there.
+use Rattle.lines.proofs.Puts.{written}
 use Rattle.lines.proofs.page.Page.put_bytes.Goals as goal
 
 pub returns : goal.returns
 returns c =
-    let page = c.args.self.now in
-    let text = c.args.text.now in
-    let appended : c.try_extend_from_slice-fits.new.self.items ≡ page ++ take c.min-n.result text = search rules in
-    rw c.min-n.ensures at appended ∙ front_put page text c.room.result c.room.ensures
+    let page = c.self.inside in
+    let copied = c.copy_from_slice in
+    written c.args.self.now page.used c.min-n.result c.room.result page.buffer.now c.args.text.now copied.new.self
+    c.self.view_is c.self.invariant c.room.ensures c.min-n.ensures copied.ensures.after copied.ensures.len

@@ -1,14 +1,6 @@
 -- A party's bit stands at its number and a parameter's 16 places above its own, and no other byte has one.
-use native.Mathlib.Omega.{arith}
-use lib.Pow.{pow-lt}
-use Rattle.parties.proofs.Masks.{allowed_party, allowed_param, below_132}
+use Rattle.parties.proofs.Masks.{allowed_party, allowed_param}
 use Rattle.parties.proofs.set.PartySet.of_blame.Goals as goal
-
-pub invariant_of-result-then-contains : goal.invariant_of-result-then-contains
-invariant_of-result-then-contains c = let a = c.args in
-    let h = below_132 a.parties a.params a.b c.if-b-parties.false c.contains.ensures.value c.requires.1
-    c.if-contains.true in
-    rw c.bit-then-contains.ensures (pow-lt {j = 20} (omega arith))
 
 pub returns-then-b-parties : goal.returns-then-b-parties
 returns-then-b-parties c = let a = c.args in

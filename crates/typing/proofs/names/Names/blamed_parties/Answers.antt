@@ -18,7 +18,7 @@ returns-in_err-blamed c =
 pub loop-blame-preserved : goal.loop-blame-preserved
 loop-blame-preserved c =
     blamed_more (byte c.args.self.now.agreement.now 8) c.args.self.now.params c.args.blames.now
-    c.loop-blame-test.true c.from.ensures c.in_ok-blamed.ensures c.loop-blame.invariant c.bitor_assign.ensures.after.1
+    c.loop-blame-test.true c.from.ensures c.in_ok-blamed.ensures c.loop-blame.invariant c.bitor_assign.ensures.after.2
 
 pub returns : goal.returns
 returns c =

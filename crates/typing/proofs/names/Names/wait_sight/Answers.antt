@@ -1,7 +1,7 @@
 -- `where` is typed under what `then` sees without its last value, the remaining time.
 use mathlib.Core.Path.{refl}
 use Rattle.typing.specs.Clauses.{seen_as}
-use Rattle.typing.proofs.Sights.{wait_over, wait_yes, wait_no}
+use Rattle.typing.proofs.Sights.{named, wait_over, wait_gives}
 use Rattle.typing.proofs.names.Names.wait_sight.Goals as goal
 
 pub returns-in_err-seen : goal.returns-in_err-seen
@@ -11,16 +11,12 @@ returns-in_err-seen c =
     c.args.s.now c.args.i
     c.byte.ensures.0 c.in_err-seen.ensures.seen)
 
-pub returns-then-not-wait_typed : goal.returns-then-not-wait_typed
-returns-then-not-wait_typed c =
-    wait_no c.args.self.now.agreement.now c.args.types.now c.args.depth c.args.s.now c.args.i c.byte.ensures.0
-    c.in_ok-seen.seen
-    c.in_ok-seen.ensures.seen c.deref.ensures.0 c.len.ensures.value refl c.wait_typed.ensures
-    c.if-not-wait_typed.true
+pub wait_typed-requires : goal.wait_typed-requires
+wait_typed-requires c = (c.requires, named c.args.s.now c.args.i c.byte.ensures.0 c.in_ok-seen.ensures.some.1)
 
 pub returns : goal.returns
 returns c =
-    wait_yes c.args.self.now.agreement.now c.args.types.now c.args.depth c.args.s.now c.args.i c.byte.ensures.0
+    wait_gives c.args.self.now.agreement.now c.args.types.now c.args.depth c.args.s.now c.args.i c.byte.ensures.0
     c.in_ok-seen.seen
     c.in_ok-seen.ensures.seen c.deref.ensures.0 c.len.ensures.value refl c.wait_typed.ensures
-    c.if-not-wait_typed.false
+    c.then_some.ensures

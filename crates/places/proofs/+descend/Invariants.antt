@@ -1,5 +1,0 @@
-use lib.ListN.{length}
-use Rattle.places.proofs.+descend.Given as goal
-
-abbrev pub decreases-descend : goal.decreases-descend
-decreases-descend l = length l.s.now
