@@ -28,7 +28,7 @@ fn arguments_end(s: &[u8], n: usize) -> usize
 }
 
 // The values that the clause gives, an instance of the template. (They go one after another, each beginning where the
-// one before ends: an iterator of records would be a type with laws of its own, for two loops of a few lines.)
+// one before ends: an iterator of records would be a type with laws of its own, for loops of a few lines.)
 pub fn arguments(clause: &Clause<'_>, template: &Template<'_>) -> ArrayVec<i64, MOST_ARGUMENTS>
     requires { 1 ≤ clause.now.site.depth }
     ensures { result.items ≡ evals_cells clause.now.values.cells.now (decode.arguments (expr (clause.now.site.depth - 1))
