@@ -1,6 +1,6 @@
 #!/usr/bin/env python3
-"""Counts the instructions that brinewatch takes for a reading: the entry `reading`, the entry `forecast` and the line;
-and the reads and writes of 10,000 readings. Needs the program (cd crates/brinewatch && rt run <stdin), valgrind and
+"""Counts the instructions that brinewatch takes for a reading: the entry `reading`, its forecast too, and the line; and
+the reads and writes of 10,000 readings. Needs the program (cd crates/brinewatch && rt run <stdin), valgrind and
 strace."""
 import os
 import re

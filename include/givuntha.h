@@ -1,9 +1,10 @@
 /*
  * Givuntha: a monitor of timed agreements between parties. C99, and C++ by the guards below.
  *
- * An agreement is bytes; so is a reading. The state of a run is a table of 64-bit cells that the caller lends. Four
- * functions: check an agreement, start it, take a reading, forecast. Times are in minutes. A set of parties is a
- * number in which bit n stands for party n; parties count from 0 and there are at most 16.
+ * An agreement is bytes; so is a reading. The state of a run is a table of 64-bit cells that the caller lends. Three
+ * functions: check an agreement, start it, take a reading. The last two tell the forecast too, of the table that they
+ * leave. Times are in minutes. A set of parties is a number in which bit n stands for party n; parties count from 0 and
+ * there are at most 16.
  *
  * Answers. Every function answers GIVUNTHA_ACCEPTED (0) or the number of a refusal, the lowest that applies. A
  * refusal leaves the table as it was and sets the other results to 0, all but one: the cost of a reading that is
@@ -19,8 +20,8 @@
  * - The thread has GIVUNTHA_STACK_BYTES of stack left. Less is enough for most agreements; an overflow meets the
  *   guard page, since each page of stack is touched as it is taken.
  *
- * There is no global state and nothing is allocated or kept: calls on different tables may run in parallel threads,
- * and so may forecasts of one table that nobody writes.
+ * There is no global state and nothing is allocated or kept: calls on different tables may run in parallel threads, and
+ * may share an agreement. Every call that is lent a table may write it, so two on one table come one after the other.
  */
 #ifndef GIVUNTHA_H
 #define GIVUNTHA_H
@@ -39,7 +40,7 @@ extern "C" {
 #define GIVUNTHA_VERSION (GIVUNTHA_VERSION_MAJOR * 10000 + GIVUNTHA_VERSION_MINOR * 100 + GIVUNTHA_VERSION_PATCH)
 uint32_t givuntha_version(void);
 
-/* The answers. check gives 0 to 5; start 0 to 6 and 11; forecast 0 to 7; reading all. */
+/* The answers. check gives 0 to 5; start 0 to 6 and 11; reading all. */
 enum givuntha_answer {
     GIVUNTHA_ACCEPTED = 0,
     /* agreement under 4 or over 16,384 bytes, or not as long as its length says */
@@ -151,12 +152,24 @@ enum givuntha_unit {
 /* Checks an agreement. *parties becomes the parties that it can blame. */
 uint32_t givuntha_check(const uint8_t *agreement, size_t agreement_bytes, uint64_t *parties);
 
-/* Starts a run: the table becomes that of the agreement at its start time, whatever it held before. */
-uint32_t givuntha_start(const uint8_t *agreement, size_t agreement_bytes, int64_t *table, size_t table_cells);
+/*
+ * The forecast of a table is what its run comes to without further readings. With a breach ahead *time becomes the
+ * breach's time, which may exceed 32 bits, and *parties who will be to blame, at least one party. With none ahead both
+ * become 0: *parties 0 tells it. Of a breached table the forecast is the verdict, of a fulfilled one none. On every
+ * refusal both become 0.
+ */
+
+/*
+ * Starts a run: the table becomes that of the agreement at its start time, whatever it held before. *time and *parties
+ * become the forecast of that table.
+ */
+uint32_t givuntha_start(const uint8_t *agreement, size_t agreement_bytes, int64_t *table, size_t table_cells,
+                        uint64_t *time, uint64_t *parties);
 
 /*
  * Gives a run a reading: the table becomes that of the run after it. Once breached, an accepted reading alters no
- * cell; a fulfilled run only takes on its time as that of the last reading.
+ * cell; a fulfilled run only takes on its time as that of the last reading. *time and *parties become the forecast of
+ * the table afterwards.
  *
  * *early becomes 1 where the reading came too early, otherwise 0: it is 1 if and only if the reading is accepted, the
  * table was running, no unit or state altered (as at GIVUNTHA_HEAD_LAST_MOVED), and at least one waiting unit wants
@@ -167,17 +180,11 @@ uint32_t givuntha_start(const uint8_t *agreement, size_t agreement_bytes, int64_
  * clause activated. An else that follows the same reading is not counted again for that; sides that are later dropped
  * count. It is 0 on a fulfilled or breached table, and on a refusal other than GIVUNTHA_UNITS. On GIVUNTHA_UNITS it is
  * the refused reading's, and not zero, the one result that is not zero on a refusal. It is at most 65,792 for each unit
- * in use, so at most GIVUNTHA_MOST_COST.
+ * in use, so at most GIVUNTHA_MOST_COST. The forecast does not count.
  */
 uint32_t givuntha_reading(const uint8_t *agreement, size_t agreement_bytes, int64_t *table, size_t table_cells,
-                          const uint8_t *reading, size_t reading_bytes, uint64_t *early, uint64_t *cost);
-
-/*
- * Tells what a run comes to without further readings: *time becomes the breach's time, which may exceed 32 bits, and
- * *parties who will be to blame. No breach ahead is *parties 0 (and *time 0). Of a breached run it is the verdict.
- */
-uint32_t givuntha_forecast(const uint8_t *agreement, size_t agreement_bytes, const int64_t *table, size_t table_cells,
-                           uint64_t *time, uint64_t *parties);
+                          const uint8_t *reading, size_t reading_bytes, uint64_t *time, uint64_t *parties,
+                          uint64_t *early, uint64_t *cost);
 
 #ifdef __cplusplus
 }

@@ -19,7 +19,7 @@ impl Case {
     /// The run after some readings, each of which must be taken.
     fn after(name: &str, agreement: Vec<u8>, before: &[Vec<u8>], reading: Vec<u8>) -> Case {
         let mut table = vec![0; CELLS];
-        assert_eq!(entries::start(&agreement, &mut table), 0, "{name}: start");
+        assert_eq!(entries::start(&agreement, &mut table).number, 0, "{name}: start");
         for earlier in before {
             let taken = entries::reading(&agreement, &mut table, earlier);
             assert_eq!(taken.number, 0, "{name}: an earlier reading");

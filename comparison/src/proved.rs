@@ -1,11 +1,18 @@
 //! The proved library's entries, as include/givuntha.h declares them, given a call of the reference's generators.
 
 use reference::generate::{Answer, Call, Entry};
-use reference::{Checked, Forecast};
+use reference::{Checked, Forecast, Started, Taken};
 
 extern "C" {
     fn givuntha_check(agreement: *const u8, bytes: usize, parties: *mut u64) -> u32;
-    fn givuntha_start(agreement: *const u8, bytes: usize, table: *mut i64, cells: usize) -> u32;
+    fn givuntha_start(
+        agreement: *const u8,
+        bytes: usize,
+        table: *mut i64,
+        cells: usize,
+        time: *mut u64,
+        parties: *mut u64,
+    ) -> u32;
     fn givuntha_reading(
         agreement: *const u8,
         bytes: usize,
@@ -13,54 +20,61 @@ extern "C" {
         cells: usize,
         reading: *const u8,
         reading_bytes: usize,
-        early: *mut u64,
-        cost: *mut u64,
-    ) -> u32;
-    fn givuntha_forecast(
-        agreement: *const u8,
-        bytes: usize,
-        table: *const i64,
-        cells: usize,
         time: *mut u64,
         parties: *mut u64,
+        early: *mut u64,
+        cost: *mut u64,
     ) -> u32;
 }
 
 /// What a result holds before a call that must write it.
 const UNWRITTEN: u64 = 0x5555_5555_5555_5555;
 
-/// The number and the parties.
-pub fn check(agreement: &[u8]) -> (u32, u64) {
+pub fn check(agreement: &[u8]) -> Checked {
     let mut parties = UNWRITTEN;
     // SAFETY: the pointers come from references, valid for the lengths beside them and apart from each other.
     let number = unsafe { givuntha_check(agreement.as_ptr(), agreement.len(), &mut parties) };
-    (number, parties)
+    Checked { number, parties: small(parties) }
 }
 
-pub fn start(agreement: &[u8], table: &mut [i64]) -> u32 {
-    // SAFETY: as in `check`.
-    unsafe { givuntha_start(agreement.as_ptr(), agreement.len(), table.as_mut_ptr(), table.len()) }
-}
-
-/// The number, the mark and the cost.
-pub fn reading(agreement: &[u8], table: &mut [i64], reading: &[u8]) -> (u32, u64, u64) {
-    let (mut early, mut cost) = (UNWRITTEN, UNWRITTEN);
-    let (bytes, cells, reading_bytes) = (agreement.len(), table.len(), reading.len());
-    let (agreement, table, reading) = (agreement.as_ptr(), table.as_mut_ptr(), reading.as_ptr());
-    // SAFETY: as in `check`.
-    let number =
-        unsafe { givuntha_reading(agreement, bytes, table, cells, reading, reading_bytes, &mut early, &mut cost) };
-    (number, early, cost)
-}
-
-/// The number, the time and the parties.
-pub fn forecast(agreement: &[u8], table: &[i64]) -> (u32, u64, u64) {
+pub fn start(agreement: &[u8], table: &mut [i64]) -> Started {
     let (mut time, mut parties) = (UNWRITTEN, UNWRITTEN);
     let (bytes, cells) = (agreement.len(), table.len());
+    let (agreement, table) = (agreement.as_ptr(), table.as_mut_ptr());
     // SAFETY: as in `check`.
-    let number =
-        unsafe { givuntha_forecast(agreement.as_ptr(), bytes, table.as_ptr(), cells, &mut time, &mut parties) };
-    (number, time, parties)
+    let number = unsafe { givuntha_start(agreement, bytes, table, cells, &mut time, &mut parties) };
+    Started { number, forecast: told(time, parties) }
+}
+
+pub fn reading(agreement: &[u8], table: &mut [i64], reading: &[u8]) -> Taken {
+    let [mut time, mut parties, mut early, mut cost] = [UNWRITTEN; 4];
+    // SAFETY: as in `check`.
+    let number = unsafe {
+        givuntha_reading(
+            agreement.as_ptr(),
+            agreement.len(),
+            table.as_mut_ptr(),
+            table.len(),
+            reading.as_ptr(),
+            reading.len(),
+            &mut time,
+            &mut parties,
+            &mut early,
+            &mut cost,
+        )
+    };
+    Taken { number, early: small(early), cost, forecast: told(time, parties) }
+}
+
+/// What the reference never gives, where the result is too large.
+fn small(result: u64) -> u32 {
+    u32::try_from(result).unwrap_or(u32::MAX)
+}
+
+/// None only where both are 0, so that one without the other, and any on a refusal, is what the reference never gives.
+fn told(time: u64, parties: u64) -> Forecast {
+    let breach = (i64::try_from(time).unwrap_or(i64::MAX), small(parties));
+    (breach != (0, 0)).then_some(breach)
 }
 
 /// What the proved library answers to a call. A result that is not zero where it should be, or that no
@@ -68,22 +82,15 @@ pub fn forecast(agreement: &[u8], table: &[i64]) -> (u32, u64, u64) {
 pub fn answer(call: &Call) -> Answer {
     let agreement = &call.agreement;
     match &call.entry {
-        Entry::Check => {
-            let (number, parties) = check(agreement);
-            Answer::Check(Checked { number, parties: u32::try_from(parties).unwrap_or(u32::MAX) })
-        }
+        Entry::Check => Answer::Check(check(agreement)),
         Entry::Start { table } => {
-            let (number, table) = lend(table, |cells| start(agreement, cells));
-            Answer::Start { number, table }
+            let (Started { number, forecast }, table) = lend(table, |cells| start(agreement, cells));
+            Answer::Start { number, forecast, table }
         }
         Entry::Reading { table, reading: bytes } => {
-            let ((number, early, cost), table) = lend(table, |cells| reading(agreement, cells, bytes));
-            Answer::Reading { number, early: u32::try_from(early).unwrap_or(u32::MAX), cost, table }
-        }
-        Entry::Forecast { table } => {
-            let (number, time, parties) = forecast(agreement, table);
-            let held = (i64::try_from(time).unwrap_or(i64::MAX), u32::try_from(parties).unwrap_or(u32::MAX));
-            Answer::Forecast(Forecast { number, breach: (held != (0, 0)).then_some(held) })
+            let (taken, table) = lend(table, |cells| reading(agreement, cells, bytes));
+            let Taken { number, early, cost, forecast } = taken;
+            Answer::Reading { number, early, cost, forecast, table }
         }
     }
 }

@@ -2,7 +2,7 @@
 from records import *
 
 # a cause, or (entry, agreement, table, reading, number, parties or table after); behind it a reading's mark, if not 0,
-# and from No. 9 on its cost: cost.py says it of the others
+# from No. 9 on its cost, which cost.py says of the others, and of No. 2 the forecast, which ahead.py says of the others
 CALLS = []
 
 
@@ -17,7 +17,6 @@ def refuses(number, data):
     call("check", data, [], b"", number, 0)
     call("start", data, table, b"", number, table)
     call("reading", data, table, b"", number, table)
-    call("forecast", data, table, b"", number, None)
 
 
 def accepts(parties, data): call("check", data, [], b"", 0, parties)
@@ -25,11 +24,7 @@ def stays(number, data, table): call("start", data, table, b"", number, table)
 def begins(data, table, after): call("start", data, table, b"", 0, after)
 
 
-def rejects(number, data, table):
-    call("reading", data, table, event(200), number, table)
-    call("forecast", data, table, b"", number, None)
-
-
+def rejects(number, data, table): call("reading", data, table, event(200), number, table)
 def declines(number, data, table, r): call("reading", data, table, r, number, table)
 def leads(data, table, r, after): call("reading", data, table, r, 0, after)
 
@@ -654,7 +649,7 @@ refuses(5, calling(template(otherwise(nothings(128)))))
 refuses(5, agreement(then_is(inst(0)), [template(otherwise(nothings(128)))]))
 
 # 6
-cause("6: the table's example, for start, and for reading and forecast")
+cause("6: the table's example, for start and for reading")
 stays(6, MIXED, BEGUN[:3079])
 rejects(6, MIXED, GOOD[:3079])
 cause("6: a cell too many, no cell")
@@ -1719,3 +1714,73 @@ FULL_WAITS = running(100, wide(64, unit(ALL_FULL, FULL, sees=(0, 60))))
 begins(ALL_FULL, ZEROS, FULL_BEGUN)
 costs(127 + 64, ALL_FULL, FULL_BEGUN, level(100), FULL_WAITS)
 costs(127 + 64 * ((128 + 127) + 128 * (1 + 128 + 127)), ALL_FULL, FULL_WAITS, LEVEL, fulfilled(106, 106))
+
+# paper 02, No. 2. Each forecast is written out: the breach's time and its parties by bit, or none
+NOTHING = 0, 0
+
+
+def opens(ahead, data, left): call("start", data, ZEROS, b"", 0, left, ahead)
+def tells(ahead, cost, data, table, r, left): call("reading", data, table, r, 0, left, 0, cost, ahead)
+def tells_nothing(number, cost, data, table, r): call("reading", data, table, r, number, table, 0, cost, NOTHING)
+
+
+def opens_joined(ahead, join, *clauses):
+    data = pond(join(*clauses))
+    opens(ahead, data, running(100, units(data, dict(JOINS)[join], *clauses)))
+
+
+OWES, MAY = owes(), may()
+cause("ahead: of a start: none of what is fulfilled, nor of a choice; an obligation's last minute")
+opens(NOTHING, agreement(NIL), fulfilled(100))
+opens(NOTHING, *alone(MAY))
+opens((160, 1), *alone(OWES))
+cause("ahead: of an `and` the earlier breach, of both in one minute all their parties")
+opens_joined((160, 1), both, OWES, MAY)
+opens_joined((150, 2), both, simply(0, 60), simply(1, 50))
+opens_joined((150, 1), both, simply(0, 50), simply(1, 60))
+opens_joined((150, 3), both, simply(0, 50), simply(1, 50))
+cause("ahead: of an `or` the later breach, and none where a side has none")
+opens_joined(NOTHING, either, OWES, MAY)
+opens_joined(NOTHING, either, MAY, OWES)
+opens_joined((160, 2), either, simply(1, 60), simply(1, 50))
+opens_joined((160, 2), either, simply(1, 50), simply(1, 60))
+cause("ahead: of a mark: the same before the breach's minute and in it; then the breach itself, which stays")
+BOTH_WAIT = of_pair(20, 100, 100, 21, 52)
+for time in (100, 149, 150):
+    tells((150, 2), 3, PAIR, BOTH_WAIT, event(time), altered(1, time, BOTH_WAIT))
+tells((150, 2), 3, PAIR, BOTH_WAIT, event(151), shown(151, 150, 2))
+for r in (event(151), event(400), event(400, 1, [1])):
+    tells((150, 2), 0, PAIR, shown(151, 150, 2), r, shown(151, 150, 2))
+cause("ahead: two breaches in the very minute of the start; the mark of that minute shows the one that is late")
+LATE = simply(0, -5), simply(1, 0)
+data = pond(both(*LATE))
+opens((100, 3), data, running(100, units(data, 20, *LATE)))
+tells((100, 1), 3, data, running(100, units(data, 20, *LATE)), event(100), shown(100, 100, 1))
+cause("ahead: a reading moves it: by a `then`, by a unit that is fulfilled; with the last unit it is gone")
+data, table = alone(then_is(OWES))
+opens((160, 1), data, table)
+tells((170, 1), 2, data, table, level(110, 7), running(110, [unit(data, OWES, 110, sees=[7, 50])], 110))
+HASTY = owes(1, 2, within=lit(20))
+data = pond(both(HASTY, OPENING))
+both_wait, one_waits = running(100, units(data, 20, HASTY, OPENING)), running(110, [unit(data, OPENING)], 110)
+opens((120, 2), data, both_wait)
+tells((160, 1), 3 + 1, data, both_wait, bell(110), one_waits)
+tells(NOTHING, 1 + 1, data, one_waits, level(120), fulfilled(120, 120))
+cause("ahead: a choice that is late brings its else's, which was ahead before")
+opens((405, 1), *alone(lapsing(BELL)))
+tells((405, 1), 2, *alone(lapsing(BELL)), MARK, comes_to(alone(lapsing(BELL))[0], 106, 105, [BELL]))
+cause("ahead: a unit of a table made by hand that is late at its last reading")
+data, _ = alone(OWES)
+tells((160, 1), 1, data, running(170, [unit(data, OWES)]), event(170), shown(170, 160, 1))
+cause("ahead: a refusal gives zeros for it, whatever was ahead: 6 to 11, of a reading and of a start")
+GROWING = owing(then_is(many(65)))
+tells((160, 1), 1, GROWING, AWAITING, event(100), AWAITING)
+tells_nothing(6, 0, GROWING, AWAITING[:3079], event(100))
+tells_nothing(7, 0, GROWING, altered(3, 1, AWAITING), event(100))
+tells_nothing(7, 0, GROWING, altered(3079, 1, shown(110, 105, 1)), event(110))
+tells_nothing(8, 0, GROWING, AWAITING, [])
+tells_nothing(9, 0, GROWING, AWAITING, event(110, 2))
+tells_nothing(10, 0, GROWING, AWAITING, event(99))
+tells_nothing(11, 1 + (64 + 65 * 2), GROWING, AWAITING, event(110, 1, [0]))
+call("start", GROWING, AWAITING[:3079], b"", 6, AWAITING[:3079], NOTHING)
+call("start", owing(many(65)), AWAITING, b"", 11, AWAITING, NOTHING)

@@ -1,10 +1,10 @@
 #!/usr/bin/env python3
-"""Writes stdin and stdout of the program `trials`: calls of the four entries, and what must come back.
+"""Writes stdin and stdout of the program `trials`: calls of the three entries, and what must come back.
 
 make.py [CALLS]: the cases of cases.py, and behind them the calls of a file with one JSON object to a line: entry,
 agreement and reading in hexadecimal, the table's cells that are not zero, and what came back from a monitor that was
-written from paper 01 alone, but for what rounded.py, moved.py, early.py and cost.py say. src/main.rt says how stdin is
-laid out. `reference/tests/trials.rs` gives the same calls to the separately written monitor.
+written from paper 01 alone, but for what rounded.py, moved.py, early.py, cost.py and ahead.py say. src/main.rt says how
+stdin is laid out. `reference/tests/trials.rs` gives the same calls to the separately written monitor.
 """
 import json
 import os
@@ -13,41 +13,40 @@ import sys
 
 HERE = os.path.dirname(os.path.abspath(__file__))
 sys.path.insert(0, HERE)
+from ahead import NONE, ahead_at, foretold, last_reading, marked  # noqa: E402
 from cases import CALLS  # noqa: E402
 from cost import cost_at, costed  # noqa: E402
 from early import mark  # noqa: E402
 from moved import left_moved, lent_moved, moved, start_of  # noqa: E402
-from records import u2  # noqa: E402
+from records import event, u2  # noqa: E402
 from rounded import rounded  # noqa: E402
 
-ENTRIES = {"check": 5, "start": 6, "reading": 7, "forecast": 8}
+AGREEMENT, READING, TABLE, CELL, NAME = 1, 2, 3, 4, 8
+ENTRIES = {"check": 5, "start": 6, "reading": 7}
 
 
 def told(z): return f"~{-1 - z}" if z < 0 else str(z)
 def cells(table): return "".join(f" {i}={told(z)}" for i, z in enumerate(table) if z)
 
 
-def line(entry, number, answer, early=0, cost=0):
+def line(entry, number, answer, *more):
     if entry == "check":
         return f"check {number} {answer}"
-    if entry == "forecast":
-        return f"forecast {number} " + ("none" if answer is None else f"{answer[0]} {answer[1]}")
-    if entry == "reading":
-        return f"reading {number} {early} {cost}{cells(answer)}"
-    return f"start {number}{cells(answer)}"
+    *said, (time, parties) = more
+    return " ".join(map(str, (entry, number, time, parties, *said))) + cells(answer)
 
 
 def named(step, data): return bytes([step]) + u2(len(data)) + data
 
 
-def steps(entry, data, table, event, given):
+def steps(entry, data, table, reading, given):
     """The steps of a call: an agreement that was given last is not given again."""
-    out = b"" if given == data else named(1, data)
+    out = b"" if given == data else named(AGREEMENT, data)
     if entry == "reading":
-        out += named(2, event)
+        out += named(READING, reading)
     if entry != "check":
-        out += bytes([3]) + u2(len(table))
-        out += b"".join(bytes([4]) + u2(i) + struct.pack("<q", z) for i, z in enumerate(table) if z)
+        out += bytes([TABLE]) + u2(len(table))
+        out += b"".join(bytes([CELL]) + u2(i) + struct.pack("<q", z) for i, z in enumerate(table) if z)
     return out + bytes([ENTRIES[entry]])
 
 
@@ -68,16 +67,20 @@ def vectors(path):
             continue
         if entry == "start":
             lent = laid(d["cells"], {})
-            yield entry, data, lent, b"", number, lent if number else begun(place, d, data)
+            left = lent if number else begun(place, d, data)
+            yield entry, data, lent, b"", number, left, ahead_at(place, number, left)
             continue
         lent = lent_moved(place, data, laid(d["cells"], d["table"]), number)
         if entry == "forecast":
-            ahead = None if d.get("time") is None else (d["time"], d["parties"])
-            yield entry, data, lent, b"", number, rounded(place, ahead)
+            given = event(last_reading(lent))
+            left = lent if number else left_moved(lent, marked(place, lent), given)
+            ahead = NONE if d.get("time") is None else (d["time"], d["parties"])
+            yield "reading", data, lent, given, number, left, 0, cost_at(place, number, lent), rounded(place, ahead)
             continue
-        event = bytes.fromhex(d["reading"])
-        after = lent if number else left_moved(lent, rounded(place, laid(d["cells"], d["after"])), event)
-        yield entry, data, lent, event, number, after, mark(place), cost_at(place, number, lent)
+        given = bytes.fromhex(d["reading"])
+        left = lent if number else left_moved(lent, rounded(place, laid(d["cells"], d["after"])), given)
+        told = mark(place), cost_at(place, number, lent), ahead_at(place, number, left)
+        yield entry, data, lent, given, number, left, *told
 
 
 def begun(place, d, data):
@@ -86,17 +89,17 @@ def begun(place, d, data):
 
 
 def main():
-    listed = list(costed(CALLS))
+    listed = list(foretold(costed(CALLS)))
     if len(sys.argv) > 1:
         listed += ["calls of a monitor written apart", *vectors(sys.argv[1])]
     given, stdin, stdout = None, [], []
     for c in listed:
         if isinstance(c, str):
-            stdin.append(named(9, c.encode()))
+            stdin.append(named(NAME, c.encode()))
             stdout.append("# " + c)
             continue
-        entry, data, table, event, *answer = c
-        stdin.append(steps(entry, data, table, event, given))
+        entry, data, table, reading, *answer = c
+        stdin.append(steps(entry, data, table, reading, given))
         stdout.append(line(entry, *answer))
         given = data
     with open(os.path.join(HERE, "stdin"), "wb") as f:

@@ -13,7 +13,7 @@ def moved(time, table): return table[:MOVED] + [time] + table[MOVED + 1:]
 
 
 def lent_moved(place, agreement, table, number):
-    """The table lent to a reading or a forecast. What was damaged by something in this cell still is."""
+    """The table lent to a reading. What was damaged by something in this cell still is."""
     if 1 <= number <= 6:
         return table
     if table[MOVED]:

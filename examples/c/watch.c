@@ -44,40 +44,40 @@ struct run {
     int64_t table[GIVUNTHA_TABLE_CELLS];
 };
 
-/* The word for the run's state, and the breach that came or is ahead. */
-static void print_state(const struct run *run)
-{
+/* The forecast of the table that a call leaves: a breach that is ahead or has come; none where parties is 0. */
+struct forecast {
     uint64_t time, parties;
-    uint32_t answer;
+};
 
+/* The word for the run's state, and the breach that came or is ahead. */
+static void print_state(const struct run *run, const struct forecast *ahead)
+{
     if (run->table[GIVUNTHA_HEAD_STATE] == GIVUNTHA_FULFILLED) {
         puts("DONE");
         return;
     }
     fputs(run->table[GIVUNTHA_HEAD_STATE] == GIVUNTHA_BREACHED ? "BREACH" : "LIVE", stdout);
-    answer = givuntha_forecast(run->agreement, run->bytes, run->table, GIVUNTHA_TABLE_CELLS, &time, &parties);
-    if (answer != GIVUNTHA_ACCEPTED)
-        printf(" REFUSED %" PRIu32 "\n", answer); /* not of a table that the library made */
-    else if (parties == 0)
+    if (ahead->parties == 0)
         puts(" NONE");
     else
-        printf(" %" PRIu64 " %" PRIu64 "\n", time, parties);
+        printf(" %" PRIu64 " %" PRIu64 "\n", ahead->time, ahead->parties);
 }
 
 /* Starts the run and writes its line. */
 static int start(struct run *run)
 {
+    struct forecast ahead;
     uint32_t answer;
 
     clear_table(run->table);
-    answer = givuntha_start(run->agreement, run->bytes, run->table, GIVUNTHA_TABLE_CELLS);
+    answer = givuntha_start(run->agreement, run->bytes, run->table, GIVUNTHA_TABLE_CELLS, &ahead.time, &ahead.parties);
     if (answer != GIVUNTHA_ACCEPTED) {
         printf("0 - REFUSED %" PRIu32 "\n", answer);
         fprintf(stderr, "watch: %s\n", givuntha_words(answer));
         return 0;
     }
     printf("0 %" PRId64 " ", run->table[GIVUNTHA_HEAD_LAST_READING]);
-    print_state(run);
+    print_state(run, &ahead);
     return 1;
 }
 
@@ -129,6 +129,7 @@ static int follow(struct run *run, unsigned long n, char *line)
     uint8_t record[GIVUNTHA_READING_BYTES];
     long long time;
     size_t length = make_reading(line, record, &time);
+    struct forecast ahead;
     uint32_t answer;
     uint64_t early, cost;
 
@@ -136,14 +137,14 @@ static int follow(struct run *run, unsigned long n, char *line)
         fprintf(stderr, "watch: line %lu is not TIME TYPE VALUE.. with at most 4 values\n", n);
         return 0;
     }
-    answer = givuntha_reading(run->agreement, run->bytes, run->table, GIVUNTHA_TABLE_CELLS, record, length, &early,
-                              &cost);
+    answer = givuntha_reading(run->agreement, run->bytes, run->table, GIVUNTHA_TABLE_CELLS, record, length, &ahead.time,
+                              &ahead.parties, &early, &cost);
     fprintf(stderr, "watch: reading %lu cost %" PRIu64 "\n", n, cost);
     if (early != 0)
         fprintf(stderr, "watch: reading %lu came too early: a window that wants it opens later\n", n);
     printf("%lu %lld ", n, time);
     if (answer == GIVUNTHA_ACCEPTED)
-        print_state(run);
+        print_state(run, &ahead);
     else
         printf("REFUSED %" PRIu32 "\n", answer);
     return 1;

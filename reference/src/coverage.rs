@@ -3,6 +3,7 @@
 
 pub mod cost;
 pub mod early;
+pub mod forecast;
 pub mod members;
 pub mod moved;
 pub mod quotients;
@@ -14,9 +15,10 @@ use crate::generate::{damage, readings::collect, tables, Aim, Answer, Call, Entr
 use crate::reading::{self, Reading};
 use crate::rules::{self, evaluate, Outcome, Residue, Scope, Waiting, Window};
 use crate::table::{self, State, BREACHED, FULFILLED, MOVED, STATE, USED};
-use crate::{build, entries, Refusal};
+use crate::{build, entries, Forecast, Refusal};
 use cost::Costed;
 use early::Marked;
+use forecast::Told;
 use members::Judged;
 use moved::Effect;
 use quotients::Quotient;
@@ -42,8 +44,12 @@ const EARLY_CORNERS: &str = "where 'early' is 1";
 const COSTS: &str = "what a reading costs";
 const COST_CLAUSES: &str = "clause activated by a reading";
 const COST_CORNERS: &str = "corner of the cost";
-const CAUSES_READING: &str = "cause of 7 at a reading";
-const CAUSES_FORECAST: &str = "cause of 7 at a forecast";
+const TOLD: &str = "forecast told";
+const TOLD_BESIDE: &str = "forecast told, beside that of the table before";
+const TOLD_IDLE: &str = "forecast told, nothing altered, running still";
+const TOLD_CORNERS: &str = "corner of the forecast told";
+const ZEROS: &str = "zeros told for a forecast";
+const CAUSES: &str = "cause of 7";
 const CHANGES: &str = "changed table, whatever the number";
 const DAMAGES: &str = "damaged agreement refused";
 const EXTREMES: &str = "extreme";
@@ -75,15 +81,19 @@ impl Coverage {
             (LAST_MOVED, moved::cases()),
             (ALTERATIONS, moved::alterations()),
             (REPLACED, REPLACEMENTS.map(str::to_string).to_vec()),
-            (CELL_5, moved::places(&["reading", "forecast"])),
+            (CELL_5, moved::places()),
             (EARLY, early::cases()),
             (NEAR_EARLY, early::near_misses()),
             (EARLY_CORNERS, early::corners()),
             (COSTS, cost::cases()),
             (COST_CLAUSES, cost::activations()),
             (COST_CORNERS, cost::corners()),
-            (CAUSES_READING, tables::Damage::CAUSES.iter().map(|cause| format!("{cause:?}")).collect()),
-            (CAUSES_FORECAST, tables::Damage::CAUSES.iter().map(|cause| format!("{cause:?}")).collect()),
+            (TOLD, forecast::cases()),
+            (TOLD_BESIDE, forecast::beside_cases()),
+            (TOLD_IDLE, forecast::idle_cases()),
+            (TOLD_CORNERS, forecast::corners()),
+            (ZEROS, forecast::zeros()),
+            (CAUSES, tables::Damage::CAUSES.iter().map(|cause| format!("{cause:?}")).collect()),
             (CHANGES, tables::Damage::CHANGES.iter().map(|change| format!("{change:?}")).collect()),
             (DAMAGES, damage::Damage::ALL.iter().map(|damage| format!("{damage:?}")).collect()),
             (EXTREMES, extremes()),
@@ -117,7 +127,7 @@ impl Coverage {
         let number = answer.number();
         self.count(NUMBERS, format!("{} {number:2}", entry_name(&call.entry)));
         self.observe_aim(call, number);
-        self.untouched(call, answer);
+        self.refused(call, answer);
         self.observe_refused_reading(call, answer);
         self.observe_members(call, number);
         self.observe_cell_5(call, number);
@@ -128,15 +138,28 @@ impl Coverage {
         let accepted = accept(&agreement).expect("an accepted agreement");
         match (&call.entry, answer) {
             (Entry::Check, _) => self.observe_agreement(&call.agreement, &accepted),
-            (Entry::Start { .. }, Answer::Start { table: after, .. }) => {
+            (Entry::Start { .. }, Answer::Start { forecast, table: after, .. }) => {
                 self.observe_start(&agreement, number);
                 self.observe_start_time(call, &agreement, number, after);
+                if number == 0 {
+                    let (effect, forecast) = (None, *forecast);
+                    self.observe_forecast(call, &Told { accepted: &accepted, effect, left: after, forecast });
+                }
+                forecast::hidden_by_start(&agreement, number).into_iter().for_each(|hidden| self.count(ZEROS, hidden));
             }
-            (Entry::Reading { table, reading }, Answer::Reading { early, cost, table: after, .. }) => {
-                if let Ok(reading) = reading::parse(reading) {
+            (Entry::Reading { table, reading: bytes }, Answer::Reading { early, cost, forecast, table: after, .. }) => {
+                if number != 0 {
+                    let hidden = forecast::hidden_by_reading(&accepted, table, bytes, number);
+                    hidden.into_iter().for_each(|hidden| self.count(ZEROS, hidden));
+                }
+                if let Ok(reading) = reading::parse(bytes) {
                     self.observe_reading(&accepted, table, &reading, number);
                     let effect = &Effect { before: table, after, reading: &reading };
                     self.observe_moved(call, &accepted, effect, number);
+                    if number == 0 {
+                        let (effect, forecast) = (Some(effect), *forecast);
+                        self.observe_forecast(call, &Told { accepted: &accepted, effect, left: after, forecast });
+                    }
                     let bytes = &call.agreement;
                     self.observe_early(call, &Marked { bytes, accepted: &accepted, effect, number, early: *early });
                     if number == 0 || number == Refusal::Units.number() {
@@ -144,10 +167,6 @@ impl Coverage {
                     }
                 }
                 self.observe_table(call, &accepted, after);
-            }
-            (Entry::Forecast { table }, Answer::Forecast(answer)) => {
-                self.observe_forecast(&accepted, table);
-                self.observe_marks(call, table, answer.breach);
             }
             _ => unreachable!("an answer is of its entry"),
         }
@@ -161,19 +180,19 @@ impl Coverage {
             Aim::Agreement(_) => {}
             Aim::Table(damage) if tables::Damage::CAUSES.contains(&damage) => {
                 self.fault(number != 7, "not refused with 7", call);
-                let reading = matches!(call.entry, Entry::Reading { .. });
-                self.count(if reading { CAUSES_READING } else { CAUSES_FORECAST }, format!("{damage:?}"));
+                self.count(CAUSES, format!("{damage:?}"));
             }
             Aim::Table(damage) => self.count(CHANGES, format!("{damage:?}")),
         }
     }
 
-    /// A refusal leaves the table untouched.
-    fn untouched(&mut self, call: &Call, answer: &Answer) {
+    /// A refusal leaves the table untouched, and "gives zeros" for a forecast.
+    fn refused(&mut self, call: &Call, answer: &Answer) {
         match (&call.entry, answer) {
-            (Entry::Start { table }, Answer::Start { number, table: after })
-            | (Entry::Reading { table, .. }, Answer::Reading { number, table: after, .. }) => {
+            (Entry::Start { table }, Answer::Start { number, forecast, table: after })
+            | (Entry::Reading { table, .. }, Answer::Reading { number, forecast, table: after, .. }) => {
                 self.fault(*number != 0 && table != after, "a refusal touched the table", call);
+                self.fault(*number != 0 && forecast.is_some(), "a refusal with a forecast", call);
             }
             _ => {}
         }
@@ -185,9 +204,7 @@ impl Coverage {
         let (judged, refusal) = match &call.entry {
             Entry::Check => (members::at_check(&call.agreement), Refusal::Typing),
             Entry::Start { .. } => return,
-            Entry::Reading { table, .. } | Entry::Forecast { table } => {
-                (members::in_table(&call.agreement, table), Refusal::Table)
-            }
+            Entry::Reading { table, .. } => (members::in_table(&call.agreement, table), Refusal::Table),
         };
         let Some(judged) = judged else { return };
         let refused = number == refusal.number();
@@ -201,11 +218,11 @@ impl Coverage {
 
     /// Where cell 5 lies, if nothing else is wrong: outside the number is 7, inside it is another.
     fn observe_cell_5(&mut self, call: &Call, number: u32) {
-        let (Entry::Reading { table, .. } | Entry::Forecast { table }) = &call.entry else { return };
+        let Entry::Reading { table, .. } = &call.entry else { return };
         let Some(lies) = moved::lies(&call.agreement, table) else { return };
         let refused = number == Refusal::Table.number();
         self.fault(refused == lies.is_inside(), "cell 5 inside and refused, or outside and not", call);
-        self.count(CELL_5, moved::place_case(entry_name(&call.entry), table[STATE], lies));
+        self.count(CELL_5, moved::place_case(table[STATE], lies));
     }
 
     /// "It begins as the start time".
@@ -392,13 +409,20 @@ impl Coverage {
         self.extreme("two parties blamed", after[table::BLAMED].count_ones() > 1);
     }
 
-    fn observe_forecast(&mut self, accepted: &Accepted, table: &[i64]) {
-        let Ok(State { outcome, .. }) = table::read(accepted, table) else { return };
-        let forecast = rules::forecast(accepted.agreement, &outcome);
-        self.extreme("forecast beyond 32 bits", forecast.is_some_and(|breach| breach.time > i64::from(u32::MAX)));
-        if let Outcome::Running(residue) = outcome {
+    /// The forecast that an accepted start or reading tells.
+    fn observe_forecast(&mut self, call: &Call, told: &Told) {
+        if let Some(fault) = told.fault() {
+            self.fault(true, fault, call);
+        }
+        self.count(TOLD, told.case());
+        told.beside_before().into_iter().for_each(|case| self.count(TOLD_BESIDE, case.to_string()));
+        told.idle_case().into_iter().for_each(|case| self.count(TOLD_IDLE, case));
+        told.corners().into_iter().for_each(|corner| self.count(TOLD_CORNERS, corner));
+        let accepted = told.accepted;
+        if let Ok(State { outcome: Outcome::Running(residue), .. }) = table::read(accepted, told.left) {
             self.forecast_joins(accepted.agreement, &residue);
         }
+        self.observe_marks(call, told.left, told.forecast);
     }
 
     fn forecast_joins(&mut self, agreement: &Agreement, residue: &Residue) {
@@ -420,17 +444,17 @@ impl Coverage {
 
     /// "An accepted mark later than a forecast time gives just that breach; with forecast none, no
     /// mark breaches."
-    fn observe_marks(&mut self, call: &Call, table: &[i64], breach: Option<(i64, u32)>) {
+    fn observe_marks(&mut self, call: &Call, left: &[i64], forecast: Forecast) {
         let after = |time: u32| {
-            let mut lent = table.to_vec();
+            let mut lent = left.to_vec();
             let mark = build::reading(time, 0, &[]);
             (entries::reading(&call.agreement, &mut lent, &mark).number == 0).then_some(lent)
         };
-        let Some((time, parties)) = breach else {
+        let Some((time, parties)) = forecast else {
             let breached = after(u32::MAX).is_some_and(|left| left[STATE] == BREACHED);
             return self.fault(breached, "a breach though none was forecast", call);
         };
-        let Ok(later) = u32::try_from((time + 1).max(table[table::LAST])) else { return };
+        let Ok(later) = u32::try_from((time + 1).max(left[table::LAST])) else { return };
         let Some(left) = after(later) else { return };
         let expected = [BREACHED, time, i64::from(parties)];
         self.fault([left[0], left[2], left[3]] != expected, "another breach than forecast", call);
@@ -449,13 +473,12 @@ impl fmt::Display for Coverage {
     }
 }
 
-/// "Check uses 1 to 5, start 1 to 6 and 11, forecast 1 to 7, a reading all."
+/// "Check uses 1 to 5, start 1 to 6 and 11, ..., a reading all."
 fn numbers() -> Vec<String> {
     let entry = |name, numbers: Vec<u32>| numbers.into_iter().map(move |number| format!("{name} {number:2}"));
     entry("check", (0..=5).collect())
         .chain(entry("start", (0..=6).chain([11]).collect()))
         .chain(entry("reading", (0..=11).collect()))
-        .chain(entry("forecast", (0..=7).collect()))
         .collect()
 }
 
@@ -491,7 +514,6 @@ fn extremes() -> Vec<String> {
         "fulfilled table",
         "breached table",
         "two parties blamed",
-        "forecast beyond 32 bits",
     ];
     names.map(str::to_string).to_vec()
 }
@@ -501,7 +523,6 @@ fn entry_name(entry: &Entry) -> &'static str {
         Entry::Check => "check",
         Entry::Start { .. } => "start",
         Entry::Reading { .. } => "reading",
-        Entry::Forecast { .. } => "forecast",
     }
 }
 

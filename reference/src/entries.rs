@@ -1,5 +1,7 @@
-//! The four entries: check an agreement, start it, take a reading, forecast. Each returns the
-//! lowest refusal number that applies, or 0; a refusal leaves the table untouched.
+//! The three entries: check an agreement, start it, take a reading. Each returns the lowest refusal
+//! number that applies, or 0; a refusal leaves the table untouched. Paper 02, No. 2: "Start and
+//! reading both answer with the forecast of the table they leave; a refusal gives zeros for it. The
+//! separate forecast entry goes".
 
 use crate::agreement::{self, Agreement};
 use crate::check::{accept, Accepted};
@@ -15,20 +17,33 @@ pub struct Checked {
     pub parties: u32,
 }
 
+/// The forecast of a table: the time and parties by bit of its breach, or none. The zeros of a
+/// refusal are none too.
+pub type Forecast = Option<(i64, u32)>;
+
+/// What a start answers: 0 and the forecast of the table that it leaves, or a refusal number.
+#[derive(Clone, Copy, Debug, PartialEq, Eq)]
+pub struct Started {
+    pub number: u32,
+    pub forecast: Forecast,
+}
+
 /// What a reading answers: 0 or a refusal number; paper 02, No. 8: "a mark 'early', 1 or 0"; No. 9:
-/// "a figure for each reading", what it costs. A refusal is not early, and only 11 has a cost.
+/// "a figure for each reading", what it costs; No. 2: the forecast of the table that it leaves. A
+/// refusal is not early and has no forecast, and only 11 has a cost.
 #[derive(Clone, Copy, Debug, PartialEq, Eq)]
 pub struct Taken {
     pub number: u32,
     pub early: u32,
     pub cost: u64,
+    pub forecast: Forecast,
 }
 
-/// What forecast answers: on 0 the time and parties of the breach to come, or none.
-#[derive(Clone, Copy, Debug, PartialEq, Eq)]
-pub struct Forecast {
-    pub number: u32,
-    pub breach: Option<(i64, u32)>,
+impl Taken {
+    /// A refusal: zeros but for the number, and for the cost of one with 11.
+    fn refused(refusal: Refusal, cost: u64) -> Taken {
+        Taken { number: refusal.number(), early: 0, cost, forecast: None }
+    }
 }
 
 /// "Check uses 1 to 5".
@@ -40,15 +55,19 @@ pub fn check(agreement: &[u8]) -> Checked {
 }
 
 /// "start 1 to 6 and 11". "Start ignores the table's earlier contents."
-pub fn start(agreement: &[u8], table: &mut [i64]) -> u32 {
-    let written = with(agreement, |accepted| {
+pub fn start(agreement: &[u8], table: &mut [i64]) -> Started {
+    let left = with(agreement, |accepted| {
         if table.len() != CELLS {
             return Err(Refusal::Cells);
         }
-        started(accepted.agreement)?.write(table);
-        Ok(())
+        let state = started(accepted.agreement)?;
+        state.write(table);
+        Ok(forecast(accepted.agreement, &state.outcome))
     });
-    written.map_or_else(Refusal::number, |()| 0)
+    match left {
+        Ok(forecast) => Started { number: 0, forecast },
+        Err(refusal) => Started { number: refusal.number(), forecast: None },
+    }
 }
 
 /// "a reading all".
@@ -59,19 +78,12 @@ pub fn reading(agreement: &[u8], table: &mut [i64], reading: &[u8]) -> Taken {
         Ok(take(accepted.agreement, state, &reading, table))
     });
     // "on a refusal other than 11, the count is 0"
-    taken.unwrap_or_else(|refusal| Taken { number: refusal.number(), early: 0, cost: 0 })
+    taken.unwrap_or_else(|refusal| Taken::refused(refusal, 0))
 }
 
-/// "forecast 1 to 7".
-pub fn forecast(agreement: &[u8], table: &[i64]) -> Forecast {
-    let breach = with(agreement, |accepted| {
-        let state = table::read(accepted, table)?;
-        Ok(rules::forecast(accepted.agreement, &state.outcome))
-    });
-    match breach {
-        Ok(breach) => Forecast { number: 0, breach: breach.map(|breach| (breach.time, breach.parties)) },
-        Err(refusal) => Forecast { number: refusal.number(), breach: None },
-    }
+/// The forecast of what a start or a reading leaves: "A breached table gives its verdict."
+fn forecast<'a>(agreement: &'a Agreement, left: &Outcome<'a>) -> Forecast {
+    rules::forecast(agreement, left).map(|breach| (breach.time, breach.parties))
 }
 
 /// Parses and checks an agreement, and goes on with it if it is accepted.
@@ -116,13 +128,15 @@ fn take<'a>(agreement: &'a Agreement, state: State<'a>, reading: &Reading, table
     let found_early = state.outcome.finds_early(reading);
     // No. 9: "On a fulfilled or breached table ... the count is 0".
     let (outcome, cost) = match state.outcome {
-        Outcome::Breached(_) => return Taken { number: 0, early: 0, cost: 0 },
+        Outcome::Breached(_) => {
+            return Taken { number: 0, early: 0, cost: 0, forecast: forecast(agreement, &state.outcome) };
+        }
         Outcome::Fulfilled => (Outcome::Fulfilled, 0),
         Outcome::Running(residue) => followed(agreement, residue, reading),
     };
     if let Err(refusal) = fit(&outcome) {
         // No. 9: "on 11 it is the refused reading's, and not zero".
-        return Taken { number: refusal.number(), early: 0, cost };
+        return Taken::refused(refusal, cost);
     }
     let mut after = State { last: reading.time, moved: state.moved, outcome };
     let altered = table::altered(&before, &after.table());
@@ -130,7 +144,8 @@ fn take<'a>(agreement: &'a Agreement, state: State<'a>, reading: &Reading, table
         after.moved = reading.time;
     }
     after.write(table);
-    Taken { number: 0, early: u32::from(found_early && !altered), cost }
+    let early = u32::from(found_early && !altered);
+    Taken { number: 0, early, cost, forecast: forecast(agreement, &after.outcome) }
 }
 
 /// What a reading makes of a running table, and what that costs. Paper 02, No. 9: "Count one for

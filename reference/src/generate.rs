@@ -12,7 +12,7 @@ pub mod tables;
 use crate::agreement;
 use crate::check::{accept, Accepted};
 use crate::table::{self, CELLS, RUNNING, STATE};
-use crate::{entries, Checked, Forecast, Taken};
+use crate::{entries, Checked, Forecast, Started, Taken};
 use random::Random;
 use std::collections::VecDeque;
 use std::rc::Rc;
@@ -31,7 +31,6 @@ pub enum Entry {
     Check,
     Start { table: Vec<i64> },
     Reading { table: Vec<i64>, reading: Vec<u8> },
-    Forecast { table: Vec<i64> },
 }
 
 /// What a call was made for.
@@ -50,9 +49,8 @@ pub enum Aim {
 #[derive(Clone, Debug, PartialEq, Eq)]
 pub enum Answer {
     Check(Checked),
-    Start { number: u32, table: Vec<i64> },
-    Reading { number: u32, early: u32, cost: u64, table: Vec<i64> },
-    Forecast(Forecast),
+    Start { number: u32, forecast: Forecast, table: Vec<i64> },
+    Reading { number: u32, early: u32, cost: u64, forecast: Forecast, table: Vec<i64> },
 }
 
 impl Answer {
@@ -60,7 +58,6 @@ impl Answer {
         match self {
             Answer::Check(checked) => checked.number,
             Answer::Start { number, .. } | Answer::Reading { number, .. } => *number,
-            Answer::Forecast(forecast) => forecast.number,
         }
     }
 }
@@ -72,15 +69,14 @@ impl Call {
             Entry::Check => Answer::Check(entries::check(&self.agreement)),
             Entry::Start { table } => {
                 let mut table = table.clone();
-                let number = entries::start(&self.agreement, &mut table);
-                Answer::Start { number, table }
+                let Started { number, forecast } = entries::start(&self.agreement, &mut table);
+                Answer::Start { number, forecast, table }
             }
             Entry::Reading { table, reading } => {
                 let mut table = table.clone();
-                let Taken { number, early, cost } = entries::reading(&self.agreement, &mut table, reading);
-                Answer::Reading { number, early, cost, table }
+                let Taken { number, early, cost, forecast } = entries::reading(&self.agreement, &mut table, reading);
+                Answer::Reading { number, early, cost, forecast, table }
             }
-            Entry::Forecast { table } => Answer::Forecast(entries::forecast(&self.agreement, table)),
         }
     }
 }
@@ -149,11 +145,10 @@ impl Batch<'_> {
         entries::start(&self.bytes, &mut table);
         self.add(aim, Entry::Check);
         self.add(aim, Entry::Start { table: table.clone() });
-        self.add(aim, Entry::Reading { table: table.clone(), reading: crate::build::reading(100, 0, &[]) });
-        self.add(aim, Entry::Forecast { table });
+        self.add(aim, Entry::Reading { table, reading: crate::build::reading(100, 0, &[]) });
     }
 
-    /// A run with its readings and forecasts, and damaged tables on the way.
+    /// A run with its readings, and damaged tables on the way.
     fn run(&mut self, accepted: &Accepted) {
         let dirt = i64::from(self.random.number());
         let mut table = vec![dirt; CELLS];
@@ -161,7 +156,7 @@ impl Batch<'_> {
         if self.random.chance(30) {
             self.wrong_length();
         }
-        if entries::start(&self.bytes, &mut table) != 0 {
+        if entries::start(&self.bytes, &mut table).number != 0 {
             return;
         }
         let mut left = self.random.pick(&[3, 8, 16, 30]);
@@ -177,12 +172,11 @@ impl Batch<'_> {
         }
     }
 
-    /// One reading and a forecast after it.
+    /// One reading.
     fn step(&mut self, accepted: &Accepted, table: &mut [i64]) {
         let reading = self.reading_for(accepted, table);
         self.add(Aim::Run, Entry::Reading { table: table.to_vec(), reading: reading.clone() });
         entries::reading(&self.bytes, table, &reading);
-        self.add(Aim::Run, Entry::Forecast { table: table.to_vec() });
     }
 
     /// A reading on the table of a run with another time in cell 5. In a run no unit is activated after that time, so
@@ -202,11 +196,10 @@ impl Batch<'_> {
         let table = vec![0; self.random.pick(&[0, 8, CELLS - 1, CELLS + 1])];
         let reading = crate::build::reading(100, 0, &[]);
         self.add(Aim::TableLength, Entry::Start { table: table.clone() });
-        self.add(Aim::TableLength, Entry::Reading { table: table.clone(), reading });
-        self.add(Aim::TableLength, Entry::Forecast { table });
+        self.add(Aim::TableLength, Entry::Reading { table, reading });
     }
 
-    /// A few damages to a table, each tried by a reading and a forecast.
+    /// A few damages to a table, each tried by a reading.
     fn damages(&mut self, accepted: &Accepted, table: &[i64]) {
         for _ in 0..2 {
             let causes = self.random.chance(70);
@@ -215,8 +208,7 @@ impl Batch<'_> {
             let damaged = (0..6).find_map(|_| damage.of(self.random, accepted, table));
             if let Some(damaged) = damaged {
                 let reading = self.reading_for(accepted, &damaged);
-                self.add(Aim::Table(damage), Entry::Reading { table: damaged.clone(), reading });
-                self.add(Aim::Table(damage), Entry::Forecast { table: damaged });
+                self.add(Aim::Table(damage), Entry::Reading { table: damaged, reading });
             }
         }
     }
@@ -232,12 +224,11 @@ impl Batch<'_> {
         }
     }
 
-    /// A table made without a run, with a reading, a forecast and damages.
+    /// A table made without a run, with a reading and damages.
     fn made(&mut self, accepted: &Accepted) {
         let Some(table) = tables::made(self.random, accepted) else { return };
         let reading = self.reading_for(accepted, &table);
         self.add(Aim::Made, Entry::Reading { table: table.clone(), reading });
-        self.add(Aim::Made, Entry::Forecast { table: table.clone() });
         self.damages(accepted, &table);
     }
 }
@@ -253,7 +244,7 @@ pub fn input(seed: u64) -> Vec<u8> {
     }
     let mut stream = bytes.clone();
     let mut table = vec![0; CELLS];
-    if entries::start(&bytes, &mut table) == 0 {
+    if entries::start(&bytes, &mut table).number == 0 {
         let agreement = agreement::parse(&bytes).expect("a started agreement");
         let accepted = accept(&agreement).expect("a started agreement");
         for _ in 0..random.below(40) {

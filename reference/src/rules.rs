@@ -374,7 +374,7 @@ pub fn later(left: Breach, right: Breach) -> Breach {
 
 /// The breach that comes if no reading but marks comes any more. "A breached table gives its
 /// verdict."
-pub fn forecast<'a>(agreement: &'a Agreement, outcome: &Outcome<'a>) -> Option<Breach> {
+pub(crate) fn forecast<'a>(agreement: &'a Agreement, outcome: &Outcome<'a>) -> Option<Breach> {
     match outcome {
         Outcome::Fulfilled => None,
         Outcome::Breached(breach) => Some(*breach),
@@ -382,7 +382,7 @@ pub fn forecast<'a>(agreement: &'a Agreement, outcome: &Outcome<'a>) -> Option<B
     }
 }
 
-pub fn forecast_residue<'a>(agreement: &'a Agreement, residue: &Residue<'a>) -> Option<Breach> {
+pub(crate) fn forecast_residue<'a>(agreement: &'a Agreement, residue: &Residue<'a>) -> Option<Breach> {
     match residue {
         Residue::Waiting(waiting) => forecast_waiting(agreement, waiting),
         // "`and` treats none as later than every time"

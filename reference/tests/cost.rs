@@ -453,12 +453,17 @@ fn a_reading_that_alters_nothing_has_its_cost() {
     let to_open = Wait { after: number(20), ..simple(40) }.obligation(0);
     let mut run = Run::with(&[plain(&owed_then(named(0)))], &and(&to_open, &named(0)));
     let level = reference::build::reading(100, LEVEL, &[0]);
-    assert_eq!(run.take(&level), Taken { number: 0, early: 1, cost: 3 + 2 });
+    assert_eq!(run.take(&level), Taken { number: 0, early: 1, cost: 3 + 2, forecast: Some((160, 1)) });
 }
 
 /// P15's agreement: "template 0 is an obligation then (template 0 and template 0)".
 fn doubling() -> Run {
     Run::with(&[plain(&owed_then(and(&named(0), &named(0))))], &named(0))
+}
+
+/// A refusal with 11.
+fn too_many(cost: u64) -> Taken {
+    Taken { number: 11, early: 0, cost, forecast: None }
 }
 
 /// Each waiting unit activates an `and`, two instances and their two obligations: five clauses. Before reading n there
@@ -476,7 +481,7 @@ fn p15_and_its_costs() {
     let before = run.table.clone();
     let seventh = reference::build::reading(120, LEVEL, &[0]);
     for _ in 0..2 {
-        assert_eq!(run.take(&seventh), Taken { number: 11, early: 0, cost: 127 + 320 });
+        assert_eq!(run.take(&seventh), too_many(127 + 320));
         assert_eq!(run.table, before);
     }
     // A mark reads the units; the breach activates nothing.
@@ -491,7 +496,7 @@ fn refusal_11_by_a_then_counts_all() {
     for leaves in [65, 100, 128] {
         let mut run = Run::of(&owed_then(balanced(leaves, &owed())));
         let taken = run.take(&reference::build::reading(110, LEVEL, &[0]));
-        assert_eq!(taken, Taken { number: 11, early: 0, cost: 1 + 2 * leaves as u64 - 1 });
+        assert_eq!(taken, too_many(1 + 2 * leaves as u64 - 1));
     }
     assert_eq!(Run::of(&owed_then(balanced(64, &owed()))).level(110, 0), 1 + 127);
 }
@@ -502,7 +507,7 @@ fn refusal_11_by_a_then_counts_all() {
 fn refusal_11_by_an_else_counts_all() {
     let run = Run::of(&bell_or_else(&balanced(65, &owed())));
     let mark = reference::build::reading(106, 0, &[]);
-    assert_eq!(run.clone().take(&mark), Taken { number: 11, early: 0, cost: 1 + 129 });
+    assert_eq!(run.clone().take(&mark), too_many(1 + 129));
     assert_eq!(run.clone().level(106, 0), 1 + 129 + 65);
 }
 
@@ -512,7 +517,7 @@ fn refusal_11_counts_dropped_sides() {
     let dropping = or(&owed_then(and(&owed(), &owed())), &owed());
     let mut run = Run::of(&and(&dropping, &owed_then(balanced(65, &owed()))));
     let taken = run.take(&reference::build::reading(110, LEVEL, &[0]));
-    assert_eq!(taken, Taken { number: 11, early: 0, cost: 5 + (3 + 1) + 129 });
+    assert_eq!(taken, too_many(5 + (3 + 1) + 129));
     // Where the 129 units are dropped it is no refusal: "a side that an `or` drops costs nothing" speaks of units.
     let mut run = Run::of(&or(&owed(), &owed_then(balanced(65, &owed()))));
     assert_eq!(run.level(110, 0), 3 + 1 + 129);
@@ -536,7 +541,7 @@ fn on_a_decided_table_the_count_is_0() {
 }
 
 fn refused(number: u32) -> Taken {
-    Taken { number, early: 0, cost: 0 }
+    Taken { number, early: 0, cost: 0, forecast: None }
 }
 
 /// "on a refusal other than 11, the count is 0": a table of each state.
@@ -577,7 +582,7 @@ fn refusals_1_to_7_cost_0() {
     let mut damaged = run.clone();
     damaged.table[STATE] = 9;
     assert_eq!(damaged.take(&level), refused(7));
-    assert_eq!(run.clone().take(&level), Taken { number: 0, early: 0, cost: 1 + 1 });
+    assert_eq!(run.clone().take(&level), Taken { number: 0, early: 0, cost: 1 + 1, forecast: None });
 }
 
 /// "It is at most 65,792 for each unit read": the most that the widths allow of one unit. A choice of width 256 has an

@@ -39,7 +39,7 @@ impl Run {
         let readings = [reading_type(&[Type::Number]), reading_type(&[])];
         let agreement = agreement(start_time, 2, &readings, templates, main);
         let mut table = vec![0; CELLS];
-        assert_eq!(start(&agreement, &mut table), 0);
+        assert_eq!(start(&agreement, &mut table).number, 0);
         Run { agreement, table }
     }
 

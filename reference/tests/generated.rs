@@ -11,6 +11,7 @@ use reference::build::{
 use reference::check::accept;
 use reference::coverage::cost::{activation_name, corner_name, Costed};
 use reference::coverage::early::Marked;
+use reference::coverage::forecast::{self, Told};
 use reference::coverage::members::{self, Judged, Resolved};
 use reference::coverage::moved::{self, Effect, Lies};
 use reference::coverage::{quotients, Coverage};
@@ -23,7 +24,7 @@ use reference::table::{
     self, State, ACTIVATED, BREACHED, CELLS, FULFILLED, HEAD, LAST, MOVED, OR, PARAMETERS, PLACE, RUNNING, SORT, STATE,
     UNIT, USED, VALUES,
 };
-use reference::{check, reading, start, Checked, Forecast};
+use reference::{check, reading, start, Checked, Forecast, Started, Taken};
 
 #[test]
 fn everything_is_reached_and_no_answer_is_impossible() {
@@ -85,7 +86,7 @@ fn or_beside_another() -> (Vec<u8>, Vec<i64>) {
     let template = build::template(&[], 1, 0, &simple(60).obligation(128));
     let bytes = build::agreement(100, 3, &[reading_type(&[])], &[template], &main);
     let mut table = vec![0; CELLS];
-    assert_eq!(start(&bytes, &mut table), 0);
+    assert_eq!(start(&bytes, &mut table).number, 0);
     (bytes, table)
 }
 
@@ -105,11 +106,15 @@ fn sets_judged_in_a_table_are_found() {
     assert_eq!(members::in_table(&bytes, &table), None);
 }
 
-fn faults(agreement: &[u8], entry: Entry, answer: Answer) -> usize {
+fn found(agreement: &[u8], entry: Entry, answer: Answer) -> Vec<String> {
     let call = Call { agreement: agreement.into(), entry, aim: Aim::Agreement(Damage::OrOfSeveral) };
     let mut coverage = Coverage::new();
     coverage.observe(&call, &answer);
-    coverage.faults.len()
+    coverage.faults
+}
+
+fn faults(agreement: &[u8], entry: Entry, answer: Answer) -> usize {
+    found(agreement, entry, answer).len()
 }
 
 /// A monitor that counts the members of a set wrong gives such answers.
@@ -124,13 +129,16 @@ fn a_set_counted_wrong_is_a_fault() {
     assert_eq!(faults(&two_members, Entry::Check, checked(3)), 0);
     assert_eq!(faults(&two_members, Entry::Check, checked(4)), 1);
 
-    let forecast = |number| Answer::Forecast(Forecast { number, breach: None });
     let (bytes, mut table) = or_beside_another();
+    let found_in = |table: &[i64], number| {
+        let entry = Entry::Reading { table: table.to_vec(), reading: build::reading(100, 0, &[]) };
+        found(&bytes, entry, Answer::Reading { number, early: 0, cost: 0, forecast: None, table: table.to_vec() })
+    };
     // Cell 5 finds this fault as well: nothing is wrong with the table.
-    assert_eq!(faults(&bytes, Entry::Forecast { table: table.clone() }, forecast(7)), 2);
+    assert_eq!(found_in(&table, 7).len(), 2);
     table[HEAD + SORT] = OR;
-    assert_eq!(faults(&bytes, Entry::Forecast { table: table.clone() }, forecast(7)), 0);
-    assert_eq!(faults(&bytes, Entry::Forecast { table }, forecast(0)), 1);
+    assert_eq!(found_in(&table, 7).len(), 0);
+    assert!(found_in(&table, 0)[0].starts_with("an `or` of two members, not refused"));
 }
 
 /// An obligation from 100 to 160, then another; and its table after a mark at 110.
@@ -138,7 +146,7 @@ fn owed_twice() -> (Vec<u8>, Vec<i64>) {
     let main = Wait { then: simple(60).obligation(0), ..simple(60) }.obligation(0);
     let bytes = build::agreement(100, 1, &[reading_type(&[])], &[], &main);
     let mut table = vec![0; CELLS];
-    assert_eq!(start(&bytes, &mut table), 0);
+    assert_eq!(start(&bytes, &mut table).number, 0);
     assert_eq!(reading(&bytes, &mut table, &build::reading(110, 0, &[])).number, 0);
     (bytes, table)
 }
@@ -192,9 +200,9 @@ fn alterations_are_found() {
 fn a_wrong_cell_5_is_a_fault() {
     let (bytes, table) = owed_twice();
     let faults = |before: &[i64], taken: Vec<u8>, after: &[i64]| {
-        let cost = reading(&bytes, &mut before.to_vec(), &taken).cost;
+        let Taken { cost, forecast, .. } = reading(&bytes, &mut before.to_vec(), &taken);
         let entry = Entry::Reading { table: before.to_vec(), reading: taken };
-        faults(&bytes, entry, Answer::Reading { number: 0, early: 0, cost, table: after.to_vec() })
+        faults(&bytes, entry, Answer::Reading { number: 0, early: 0, cost, forecast, table: after.to_vec() })
     };
     let mark = || build::reading(120, 0, &[]);
     let idle = with(&table, &[(LAST, 120)]);
@@ -226,17 +234,20 @@ fn a_wrong_cell_5_is_a_fault() {
 #[test]
 fn a_wrong_number_for_cell_5_or_a_wrong_start_is_a_fault() {
     let (bytes, table) = owed_twice();
-    let forecast = |number| Answer::Forecast(Forecast { number, breach: Some((160, 1)).filter(|_| number == 0) });
-    let faults_at =
-        |moved, number| faults(&bytes, Entry::Forecast { table: with(&table, &[(MOVED, moved)]) }, forecast(number));
+    let faults_at = |moved, number| {
+        let table = with(&table, &[(MOVED, moved)]);
+        let entry = Entry::Reading { table: table.clone(), reading: build::reading(110, 0, &[]) };
+        let (cost, forecast) = if number == 0 { (1, Some((160, 1))) } else { (0, None) };
+        faults(&bytes, entry, Answer::Reading { number, early: 0, cost, forecast, table })
+    };
     assert_eq!([faults_at(100, 0), faults_at(110, 0), faults_at(99, 7), faults_at(111, 7)], [0; 4]);
     assert_eq!([faults_at(100, 7), faults_at(110, 7)], [1; 2]);
 
     let mut begun = vec![0; CELLS];
-    assert_eq!(start(&bytes, &mut begun), 0);
-    assert_eq!(begun[STATE], RUNNING);
+    let Started { number, forecast } = start(&bytes, &mut begun);
+    assert_eq!((number, begun[STATE]), (0, RUNNING));
     let faults_with = |moved| {
-        let answer = Answer::Start { number: 0, table: with(&begun, &[(MOVED, moved)]) };
+        let answer = Answer::Start { number, forecast, table: with(&begun, &[(MOVED, moved)]) };
         faults(&bytes, Entry::Start { table: vec![0; CELLS] }, answer)
     };
     assert_eq!([faults_with(100), faults_with(0), faults_with(101)], [0, 1, 1]);
@@ -247,7 +258,7 @@ fn begun(templates: &[Vec<u8>], main: &[u8]) -> (Vec<u8>, Vec<i64>) {
     let readings = [reading_type(&[Type::Number]), reading_type(&[])];
     let bytes = build::agreement(100, 1, &readings, templates, main);
     let mut table = vec![0; CELLS];
-    assert_eq!(start(&bytes, &mut table), 0);
+    assert_eq!(start(&bytes, &mut table).number, 0);
     (bytes, table)
 }
 
@@ -273,7 +284,9 @@ fn a_wrong_mark_is_a_fault() {
         |before: &[i64], taken: Vec<u8>, wrong: &dyn Fn(Answer) -> Answer| faults_in(&bytes, before, taken, wrong);
     let marked = |mark: u32| {
         move |answer: Answer| match answer {
-            Answer::Reading { number, cost, table, .. } => Answer::Reading { number, early: mark, cost, table },
+            Answer::Reading { number, cost, forecast, table, .. } => {
+                Answer::Reading { number, early: mark, cost, forecast, table }
+            }
             other => other,
         }
     };
@@ -298,6 +311,176 @@ fn a_wrong_mark_is_a_fault() {
         decided[..HEAD].copy_from_slice(&head);
         assert_eq!([0, 1].map(|mark| faults(&decided, level(115, 0), &marked(mark))), [0, 1]);
     }
+}
+
+/// A monitor that tells the forecast of another table, or one on a refusal, gives such answers.
+#[test]
+fn a_wrong_forecast_is_a_fault() {
+    let (bytes, before) = owed_twice();
+    // The table before gives a breach at 160; so does a mark leave it.
+    let cases: [(Vec<u8>, Forecast, [Forecast; 4]); 4] = [
+        (build::reading(120, 1, &[]), Some((180, 1)), [None, Some((160, 1)), Some((181, 1)), Some((180, 0))]),
+        (build::reading(120, 0, &[]), Some((160, 1)), [None, Some((180, 1)), Some((160, 2)), Some((160, 3))]),
+        (build::reading(161, 0, &[]), Some((160, 1)), [None, Some((161, 1)), Some((0, 0)), Some((160, 0))]),
+        (build::reading(109, 0, &[]), None, [Some((160, 1)), Some((0, 0)), Some((0, 1)), Some((160, 0))]),
+    ];
+    for (taken, right, wrong) in cases {
+        let entry = || Entry::Reading { table: before.clone(), reading: taken.clone() };
+        let mut after = before.clone();
+        let Taken { number, early, cost, forecast } = reading(&bytes, &mut after, &taken);
+        assert_eq!(forecast, right);
+        let told = |forecast| Answer::Reading { number, early, cost, forecast, table: after.clone() };
+        assert_eq!(found(&bytes, entry(), told(right)), Vec::<String>::new());
+        for forecast in wrong {
+            assert!(!found(&bytes, entry(), told(forecast)).is_empty(), "{forecast:?} for {right:?}");
+        }
+    }
+    let mut begun = vec![0; CELLS];
+    assert_eq!(start(&bytes, &mut begun), Started { number: 0, forecast: Some((160, 1)) });
+    let entry = || Entry::Start { table: before.clone() };
+    let told = |forecast| Answer::Start { number: 0, forecast, table: begun.clone() };
+    assert_eq!(found(&bytes, entry(), told(Some((160, 1)))), Vec::<String>::new());
+    for forecast in [None, Some((161, 1)), Some((160, 2)), Some((100, 1))] {
+        assert!(!found(&bytes, entry(), told(forecast)).is_empty(), "{forecast:?}");
+    }
+    let refused = |forecast| Answer::Start { number: 6, forecast, table: Vec::new() };
+    let entry = || Entry::Start { table: Vec::new() };
+    assert_eq!([None, Some((160, 1)), Some((0, 0))].map(|told| faults(&bytes, entry(), refused(told))), [0, 1, 1]);
+}
+
+/// What a start tells and in which corners.
+fn told_by_start((bytes, table): &(Vec<u8>, Vec<i64>)) -> (String, Vec<String>) {
+    let agreement = parse(bytes).expect("an agreement");
+    let accepted = accept(&agreement).expect("an accepted agreement");
+    let Started { forecast, .. } = start(bytes, &mut vec![0; CELLS]);
+    let told = Told { accepted: &accepted, effect: None, left: table, forecast };
+    assert_eq!((told.fault(), told.beside_before(), told.idle_case()), (None, None, None));
+    (told.case(), told.corners())
+}
+
+/// What a reading tells: by the states, beside the table before, with nothing altered, and in which corners.
+fn told_by(
+    (bytes, table): &(Vec<u8>, Vec<i64>),
+    taken: Vec<u8>,
+) -> (String, Option<&'static str>, Option<String>, Vec<String>) {
+    let agreement = parse(bytes).expect("an agreement");
+    let accepted = accept(&agreement).expect("an accepted agreement");
+    let mut after = table.clone();
+    let Taken { forecast, .. } = reading(bytes, &mut after, &taken);
+    let parsed = reference::reading::parse(&taken).expect("a record");
+    let effect = Effect { before: table, after: &after, reading: &parsed };
+    let told = Told { accepted: &accepted, effect: Some(&effect), left: &after, forecast };
+    assert_eq!(told.fault(), None);
+    (told.case(), told.beside_before(), told.idle_case(), told.corners())
+}
+
+#[test]
+fn what_is_told_is_found() {
+    let level = |time| build::reading(time, 1, &[0]);
+    let mark = |time| build::reading(time, 0, &[]);
+    let after = |begun: &(Vec<u8>, Vec<i64>), taken: &[u8]| {
+        let mut table = begun.1.clone();
+        assert_eq!(reading(&begun.0, &mut table, taken).number, 0);
+        (begun.0.clone(), table)
+    };
+    let owed = |within| simple(within).obligation(0);
+    let owed_then = |then: Vec<u8>| Wait { then, ..simple(60) }.obligation(0);
+    let to_fulfil = simple(60).choice(&fulfilled());
+
+    assert_eq!(told_by_start(&begun(&[], &owed(60))), ("start, running: a breach".to_string(), vec![]));
+    assert_eq!(told_by_start(&begun(&[], &to_fulfil)).0, "start, running: none");
+    assert_eq!(told_by_start(&begun(&[], &fulfilled())).0, "start, fulfilled: none");
+    assert_eq!(told_by_start(&begun(&[], &owed(-5))).1, ["start: in its own minute, running"]);
+
+    let told = |main: &[u8], taken| told_by(&begun(&[], main), taken);
+    let case = |(case, beside, _, _): (String, Option<&'static str>, _, _)| (case, beside.expect("a running table"));
+    let running = "reading, running to running: a breach".to_string();
+    let none = "reading, running to running: none".to_string();
+    assert_eq!(case(told(&owed_then(owed(60)), level(110))), (running.clone(), "running: a later breach"));
+    assert_eq!(case(told(&owed_then(owed(5)), level(110))), (running.clone(), "running: an earlier breach"));
+    assert_eq!(case(told(&owed(60), mark(110))), (running.clone(), "running: the breach as before"));
+    assert_eq!(case(told(&owed_then(to_fulfil.clone()), level(110))), (none.clone(), "running: none, a breach before"));
+    assert_eq!(case(told(&to_fulfil, mark(110))), (none, "running: none, as before"));
+    let then = Wait { then: owed(60), ..simple(60) }.choice(&fulfilled());
+    assert_eq!(case(told(&then, level(110))), (running, "running: a breach, none before"));
+    let fulfils = "reading, running to fulfilled: none".to_string();
+    assert_eq!(case(told(&owed(60), level(110))), (fulfils.clone(), "fulfilled: a breach before"));
+    assert_eq!(case(told(&to_fulfil, mark(161))), (fulfils, "fulfilled: none before"));
+    let breaches = "reading, running to breached: a breach".to_string();
+    assert_eq!(case(told(&owed(60), mark(161))), (breaches, "breached: as before"));
+
+    let nothing_altered = |main: &[u8], taken| told(main, taken).2;
+    assert_eq!(nothing_altered(&owed(60), mark(110)), Some("by a mark: a breach".to_string()));
+    assert_eq!(nothing_altered(&to_fulfil, mark(110)), Some("by a mark: none".to_string()));
+    let bell = build::reading(110, 2, &[]);
+    assert_eq!(nothing_altered(&owed(60), bell.clone()), Some("by another reading: a breach".to_string()));
+    assert_eq!(nothing_altered(&owed_then(owed(60)), level(110)), None);
+    assert_eq!(told(&owed_then(owed(-5)), level(110)).3, ["reading: in its own minute, running"]);
+    let at_start = |start_time, main: &[u8]| {
+        let bytes = build::agreement(start_time, 1, &[reading_type(&[])], &[], main);
+        let mut table = vec![0; CELLS];
+        assert_eq!(start(&bytes, &mut table).number, 0);
+        told_by_start(&(bytes, table)).1
+    };
+    assert_eq!(at_start(0, &owed(0)), ["start: in its own minute, running", "start: at minute 0"]);
+    assert_eq!(at_start(u32::MAX, &owed(1)), ["start: beyond 32 bits"]);
+    assert_eq!(at_start(u32::MAX, &owed(0)), ["start: in its own minute, running"]);
+
+    let fulfilled_already = after(&begun(&[], &owed(60)), &level(110));
+    let expected = ("reading, fulfilled to fulfilled: none".to_string(), None, None, vec![]);
+    assert_eq!(told_by(&fulfilled_already, bell.clone()), expected);
+    let breached_already = after(&begun(&[], &owed(60)), &mark(161));
+    let expected = ("reading, breached to breached: a breach".to_string(), None, None, vec![]);
+    assert_eq!(told_by(&breached_already, level(170)), expected);
+}
+
+/// Party 0 owes at 100 what is late then, and party 1 something that is late a minute later: a mark after 100 blames
+/// both, the one at 100 does not.
+#[test]
+fn a_breach_in_its_own_minute_is_found() {
+    let main = and(&simple(-5).obligation(0), &simple(0).obligation(1));
+    let bytes = build::agreement(100, 2, &[reading_type(&[])], &[], &main);
+    let mut table = vec![0; CELLS];
+    assert_eq!(start(&bytes, &mut table).forecast, Some((100, 3)));
+    let begun = (bytes, table);
+    let found = told_by_start(&begun).1;
+    assert_eq!(found, ["start: in its own minute, running", "start: several parties, running"]);
+    let beside = |time| told_by(&begun, build::reading(time, 0, &[])).1;
+    assert_eq!(beside(100), Some("breached: otherwise, in the reading's minute"));
+    assert_eq!(beside(101), Some("breached: as before"));
+}
+
+/// Refusals that give zeros where a breach might be told.
+#[test]
+fn what_zeros_hide_is_found() {
+    let hidden = |bytes: &[u8], table: &[i64], taken: &[u8]| {
+        let agreement = parse(bytes).expect("an agreement");
+        let accepted = accept(&agreement).expect("an accepted agreement");
+        let answer = reading(bytes, &mut table.to_vec(), taken);
+        assert_eq!(answer.forecast, None);
+        forecast::hidden_by_reading(&accepted, table, taken, answer.number)
+    };
+    let (bytes, table) = owed_twice();
+    let of_running = |number| [format!("refused with {number}: the table given is running and has a breach")];
+    assert_eq!(hidden(&bytes, &table, &[]), of_running(8));
+    assert_eq!(hidden(&bytes, &table, &build::reading(120, 2, &[])), of_running(9));
+    assert_eq!(hidden(&bytes, &table, &build::reading(109, 0, &[])), of_running(10));
+    let mut breached = table.clone();
+    assert_eq!(reading(&bytes, &mut breached, &build::reading(161, 0, &[])).number, 0);
+    let of_breached = ["refused with 10: the table given is breached and has a breach"];
+    assert_eq!(hidden(&bytes, &breached, &build::reading(109, 0, &[])), of_breached);
+
+    let crowd = balanced(65, &simple(60).obligation(0));
+    let (bytes, table) = begun(&[], &Wait { then: crowd.clone(), ..simple(60) }.obligation(0));
+    let of_too_many = "reading refused with 11: the units that are too many have a breach".to_string();
+    let [of_table] = of_running(11);
+    assert_eq!(hidden(&bytes, &table, &build::reading(110, 1, &[0])), [of_table, of_too_many]);
+    let bytes = build::agreement(100, 1, &[reading_type(&[])], &[], &crowd);
+    let agreement = parse(&bytes).expect("an agreement");
+    let of_start = "start refused with 11: the units that are too many have a breach".to_string();
+    assert_eq!(start(&bytes, &mut vec![0; CELLS]), Started { number: 11, forecast: None });
+    assert_eq!(forecast::hidden_by_start(&agreement, 11), Some(of_start));
+    assert_eq!(forecast::hidden_by_start(&agreement, 0), None);
 }
 
 /// What decides the mark of one reading, what fails alone, and in which corners it is 1.
@@ -375,8 +558,8 @@ fn corners_of_the_mark_are_found() {
 /// How many faults are found if the cost of a reading is another by so much.
 fn faults_by((bytes, table): &(Vec<u8>, Vec<i64>), taken: Vec<u8>, by: u64) -> usize {
     faults_in(bytes, table, taken, &|answer| match answer {
-        Answer::Reading { number, early, cost, table } => {
-            Answer::Reading { number, early, cost: cost.wrapping_add(by), table }
+        Answer::Reading { number, early, cost, forecast, table } => {
+            Answer::Reading { number, early, cost: cost.wrapping_add(by), forecast, table }
         }
         other => other,
     })
@@ -501,7 +684,7 @@ fn a_table_read_and_written_is_the_same() {
     for _ in 0..500 {
         let bytes = agreements::agreement(&mut random);
         let mut table = vec![0; CELLS];
-        if start(&bytes, &mut table) == 0 {
+        if start(&bytes, &mut table).number == 0 {
             let agreement = parse(&bytes).expect("an accepted agreement");
             let accepted = accept(&agreement).expect("an accepted agreement");
             let mut again = vec![-1; CELLS];

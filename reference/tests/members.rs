@@ -5,7 +5,7 @@
 
 use reference::build::*;
 use reference::table::{FULFILLED, HEAD, LAST, OR, PARAMETERS, SORT, STATE, UNIT};
-use reference::{check, forecast, reading, start, Checked, CELLS};
+use reference::{check, reading, start, Checked, Started, CELLS};
 
 const ACCEPTED: u32 = 0;
 const NOT_TYPED: u32 = 3;
@@ -152,19 +152,19 @@ fn the_main_clause_is_no_exception() {
 }
 
 /// A table under way, whose units the trials change.
-struct Started {
+struct Underway {
     agreement: Vec<u8>,
     table: Vec<i64>,
 }
 
-impl Started {
+impl Underway {
     /// The clause on trial is an `and` beside obligations of every party, so that every party is the main clause's. It
     /// begins with unit 1.
-    fn of(templates: &[Vec<u8>], tried: &[u8]) -> Started {
+    fn of(templates: &[Vec<u8>], tried: &[u8]) -> Underway {
         let agreement = sixteen(templates, &and(tried, &all_owe(&PARTIES)));
         let mut table = vec![0; CELLS];
-        assert_eq!(start(&agreement, &mut table), ACCEPTED);
-        Started { agreement, table }
+        assert_eq!(start(&agreement, &mut table).number, ACCEPTED);
+        Underway { agreement, table }
     }
 
     fn set(&mut self, unit: usize, cell: usize, value: i64) {
@@ -178,20 +178,21 @@ impl Started {
         }
     }
 
-    /// What a mark and a forecast both answer to the table. An accepted mark at the last reading time moves nothing.
+    /// What a mark answers to the table. An accepted one at the last reading time moves nothing, and tells a forecast:
+    /// every party owes. A refused one tells none.
     fn number(&self) -> u32 {
         let mut lent = self.table.clone();
         let mark = reference::build::reading(self.table[LAST] as u32, 0, &[]);
-        let number = reading(&self.agreement, &mut lent, &mark).number;
-        assert_eq!(number, forecast(&self.agreement, &self.table).number);
+        let taken = reading(&self.agreement, &mut lent, &mark);
+        assert_eq!(taken.forecast.is_some(), taken.number == ACCEPTED);
         assert_eq!(lent, self.table);
-        number
+        taken.number
     }
 }
 
 /// The number of a table in which an `or` unit joins two obligations by constant blames.
 fn number_of_constants(left: u8, right: u8) -> u32 {
-    let mut started = Started::of(&[], &and(&owed(left), &owed(right)));
+    let mut started = Underway::of(&[], &and(&owed(left), &owed(right)));
     assert_eq!(started.number(), ACCEPTED, "as an `and`: {left}, {right}");
     started.set(1, SORT, OR);
     started.number()
@@ -215,7 +216,7 @@ fn two_parties_inside_a_side_of_an_or_unit() {
         let in_then = Wait { then: owed(other), ..simple(60) }.obligation(one);
         for side in [and(&owed(one), &owed(other)), in_then] {
             for tried in [and(&side, &nobody()), and(&nobody(), &side)] {
-                let mut started = Started::of(&[], &tried);
+                let mut started = Underway::of(&[], &tried);
                 assert_eq!(started.number(), ACCEPTED);
                 started.set(1, SORT, OR);
                 assert_eq!(started.number(), ILL_TYPED_TABLE, "{one} and {other} in {side:?}");
@@ -226,7 +227,7 @@ fn two_parties_inside_a_side_of_an_or_unit() {
 
 #[test]
 fn no_party_and_all_parties_at_an_or_unit() {
-    let mut started = Started::of(&[], &or(&nobody(), &nobody()));
+    let mut started = Underway::of(&[], &or(&nobody(), &nobody()));
     assert_eq!(started.number(), ACCEPTED);
     started.set(0, SORT, OR);
     assert_eq!(started.number(), ILL_TYPED_TABLE);
@@ -234,11 +235,11 @@ fn no_party_and_all_parties_at_an_or_unit() {
 
 /// Two units of one template that blames all of its four parameters, joined by an `or` unit. At
 /// first all are party 0.
-fn or_of_parameters() -> Started {
+fn or_of_parameters() -> Underway {
     let then = all_owe(&[129, 130, 131]);
     let body = Wait { then, ..simple(60) }.obligation(128);
     let named = instance(0, &[], &[0; 4]);
-    let started = Started::of(&[template(&[], FOUR_PARAMETERS, 0, &body)], &or(&named, &named));
+    let started = Underway::of(&[template(&[], FOUR_PARAMETERS, 0, &body)], &or(&named, &named));
     assert_eq!(started.number(), ACCEPTED);
     started
 }
@@ -269,7 +270,7 @@ fn a_parameter_cell_and_a_constant_blame() {
     for constant in PARTIES {
         for parameter in 0..4 {
             let used = template(&[], FOUR_PARAMETERS, 0, &owed(128 + parameter));
-            let mut started = Started::of(&[used], &or(&owed(constant), &instance(0, &[], &[constant; 4])));
+            let mut started = Underway::of(&[used], &or(&owed(constant), &instance(0, &[], &[constant; 4])));
             for party in PARTIES {
                 let unused = 15 - party;
                 let mut parties = [unused; 4];
@@ -288,10 +289,13 @@ fn an_or_of_one_party_runs() {
     for party in PARTIES {
         let agreement = sixteen(&[], &or(&owed(party), &owed(party)));
         let mut table = vec![0; CELLS];
-        assert_eq!(start(&agreement, &mut table), ACCEPTED);
+        let forecast = Some((160, 1 << party));
+        assert_eq!(start(&agreement, &mut table), Started { number: ACCEPTED, forecast });
         assert_eq!(table[HEAD + SORT], OR);
-        assert_eq!(forecast(&agreement, &table).breach, Some((160, 1 << party)));
-        assert_eq!(reading(&agreement, &mut table, &reference::build::reading(110, 1, &[])).number, ACCEPTED);
+        let mark = reading(&agreement, &mut table, &reference::build::reading(105, 0, &[]));
+        assert_eq!((mark.number, mark.forecast), (ACCEPTED, forecast));
+        let fitting = reading(&agreement, &mut table, &reference::build::reading(110, 1, &[]));
+        assert_eq!((fitting.number, fitting.forecast), (ACCEPTED, None));
         assert_eq!(table[STATE], FULFILLED);
     }
 }

@@ -6,7 +6,7 @@ use reference::agreement::{Operator, Type};
 use reference::build::*;
 use reference::table::{ACTIVATED, AND, BREACHED, FULFILLED, HEAD, LAST, MOVED, OR, PARAMETERS, PLACE, RUNNING, SORT};
 use reference::table::{STATE, TIME, UNIT, USED, VALUES};
-use reference::{forecast, start, CELLS};
+use reference::{start, CELLS};
 
 #[path = "common/run.rs"]
 mod run;
@@ -68,7 +68,7 @@ fn it_begins_as_the_start_time() {
     for time in [0, u32::MAX] {
         let agreement = agreement(time, 1, &[reading_type(&[])], &[], &owed(60));
         let mut table = vec![-1; CELLS];
-        assert_eq!(start(&agreement, &mut table), 0);
+        assert_eq!(start(&agreement, &mut table).number, 0);
         assert_eq!((table[LAST], table[MOVED]), (i64::from(time), i64::from(time)));
     }
 }
@@ -374,10 +374,10 @@ fn outside_the_table_is_damaged() {
             damaged.set(MOVED, moved);
             let table = damaged.table.clone();
             for bytes in [reference::build::reading(200, 0, &[]), reference::build::reading(5, 9, &[]), Vec::new()] {
-                assert_eq!(damaged.take(&bytes).number, 7, "cell 5 is {moved}: {:?}", run.head());
+                let taken = damaged.take(&bytes);
+                assert_eq!((taken.number, taken.forecast), (7, None), "cell 5 is {moved}: {:?}", run.head());
             }
             assert_eq!(damaged.table, table);
-            assert_eq!(forecast(&run.agreement, &table).number, 7, "cell 5 is {moved}: {:?}", run.head());
         }
     }
 }
@@ -391,10 +391,11 @@ fn inside_the_table_is_accepted() {
             let mut other = run.clone();
             other.set(MOVED, moved);
             let table = other.table.clone();
-            assert_eq!(forecast(&other.agreement, &table), forecast(&run.agreement, &run.table));
-            assert_eq!(forecast(&other.agreement, &table).number, 0);
-            other.mark(last as u32);
+            let mark = reference::build::reading(last as u32, 0, &[]);
+            let taken = other.take(&mark);
+            assert_eq!(taken.number, 0, "cell 5 is {moved}");
             assert_eq!(other.table, table, "cell 5 is {moved}");
+            assert_eq!(taken, run.clone().take(&mark), "cell 5 is {moved}");
         }
     }
 }
@@ -407,7 +408,6 @@ fn only_the_start_is_inside_at_first() {
         for (moved, number) in [(99, 7), (100, 0), (101, 7)] {
             let mut other = run.clone();
             other.set(MOVED, moved);
-            assert_eq!(forecast(&other.agreement, &other.table).number, number);
             assert_eq!(other.take(&reference::build::reading(100, 0, &[])).number, number);
         }
     }

@@ -4,7 +4,7 @@
 use reference::agreement::{Operator, Type};
 use reference::build::*;
 use reference::table::{BREACHED, FULFILLED, HEAD, LAST, RUNNING, STATE, USED, VALUES};
-use reference::{check, forecast, reading, start, Checked, CELLS};
+use reference::{check, reading, start, Checked, Forecast, CELLS};
 
 const SAMPLE: &str = "40 00 01 00 64 00 00 00 02 01 00 | 06 00 02 00 01 01 | 2F 00 11 00 00 01 | \
     15 00 24 00 11 00 2A 00 05 00 23 00 00 08 00 20 00 FA 00 00 00 | 08 00 20 00 00 00 00 00 | \
@@ -14,13 +14,16 @@ const SAMPLE: &str = "40 00 01 00 64 00 00 00 02 01 00 | 06 00 02 00 01 01 | 2F 
 struct Run {
     agreement: Vec<u8>,
     table: Vec<i64>,
+    /// What the start or the last reading told.
+    told: Forecast,
 }
 
 impl Run {
     fn of(agreement: Vec<u8>) -> Run {
         let mut table = vec![0; CELLS];
-        assert_eq!(start(&agreement, &mut table), 0);
-        Run { agreement, table }
+        let started = start(&agreement, &mut table);
+        assert_eq!(started.number, 0);
+        Run { agreement, table, told: started.forecast }
     }
 
     /// The pond of the sample with another main clause.
@@ -29,7 +32,9 @@ impl Run {
     }
 
     fn read(&mut self, time: u32, kind: u8, values: &[i32]) -> u32 {
-        reading(&self.agreement, &mut self.table, &reference::build::reading(time, kind, values)).number
+        let taken = reading(&self.agreement, &mut self.table, &reference::build::reading(time, kind, values));
+        self.told = taken.forecast;
+        taken.number
     }
 
     fn mark(&mut self, time: u32) -> i64 {
@@ -42,10 +47,9 @@ impl Run {
         self.table[STATE]
     }
 
-    fn forecast(&self) -> Option<(i64, u32)> {
-        let answer = forecast(&self.agreement, &self.table);
-        assert_eq!(answer.number, 0);
-        answer.breach
+    /// Paper 02, No. 2: "the forecast of the table they leave".
+    fn forecast(&self) -> Forecast {
+        self.told
     }
 }
 
@@ -253,7 +257,7 @@ fn p15_the_seventh_reading_is_too_much() {
     }
     assert_eq!(run.table[USED], 127);
     let before = run.table.clone();
-    assert_eq!(run.read(120, 1, &[0]), 11);
+    assert_eq!((run.read(120, 1, &[0]), run.forecast()), (11, None));
     assert_eq!(run.table, before);
     assert_eq!(run.mark(171), BREACHED);
 }

@@ -39,6 +39,27 @@ fn no_forecast() {
     assert_eq!(watch(&[bytes, reading(68, 0, &[])].concat()), "0 7 LIVE NONE\n1 68 DONE\n");
 }
 
+/// Each line tells of the table that its own call leaves, not of the one before; a refusal tells nothing.
+#[test]
+fn a_forecast_that_moves() {
+    let then = simple(600).choice(&fulfilled());
+    let owed = Wait { then, ..simple(20) }.obligation(1);
+    let bytes = agreement(7, 2, &[reading_type(&[])], &[], &Wait { then: owed, ..simple(60) }.obligation(0));
+    let readings = [
+        reading(8, 0, &[]),
+        reading(10, 1, &[]),
+        reading(9, 1, &[]),
+        reading(30, 0, &[]),
+        reading(30, 1, &[]),
+        reading(31, 0, &[]),
+        reading(32, 1, &[]),
+        reading(40, 2, &[]),
+    ];
+    let lines = "0 7 LIVE 67 1\n1 8 LIVE 67 1\n2 10 LIVE 30 2\n3 9 REFUSED 10\n4 30 LIVE 30 2\n5 30 LIVE NONE\n\
+        6 31 LIVE NONE\n7 32 DONE\n8 40 REFUSED 9\n";
+    assert_eq!(watch(&[bytes, readings.concat()].concat()), lines);
+}
+
 /// "one cut short by the end of input is refused with 1 or 8"
 #[test]
 fn records_cut_short() {

@@ -3,7 +3,7 @@
 use reference::agreement::{Operator, Type};
 use reference::build::*;
 use reference::table::{ACTIVATED, BLAMED, HEAD, LAST, MOVED, PLACE, STATE, TIME, USED};
-use reference::{check, forecast, reading, start, Taken, CELLS};
+use reference::{check, reading, start, Started, Taken, CELLS};
 
 fn pond(templates: &[Vec<u8>], main: &[u8]) -> Vec<u8> {
     agreement(100, 2, &[reading_type(&[Type::Number, Type::Truth])], templates, main)
@@ -25,16 +25,22 @@ fn condition(condition: Vec<u8>) -> Vec<u8> {
 fn started(main: &[u8]) -> (Vec<u8>, Vec<i64>) {
     let agreement = pond(&[], main);
     let mut table = vec![0; CELLS];
-    assert_eq!(start(&agreement, &mut table), 0);
+    assert_eq!(start(&agreement, &mut table).number, 0);
     (agreement, table)
 }
 
-/// A table that must be refused with 7 by both entries, and left alone.
+/// Nothing is early, no forecast is told, and only 11 has a cost.
+fn refused(number: u32) -> Taken {
+    Taken { number, early: 0, cost: 0, forecast: None }
+}
+
+/// A table that must be refused with 7, whatever the reading, and left alone.
 fn refused_table(agreement: &[u8], table: &[i64]) {
     let mut lent = table.to_vec();
-    assert_eq!(reading(agreement, &mut lent, &[]), Taken { number: 7, early: 0, cost: 0 });
-    assert_eq!(lent, table);
-    assert_eq!(forecast(agreement, table).number, 7);
+    for taken in [Vec::new(), reference::build::reading(200, 0, &[])] {
+        assert_eq!(reading(agreement, &mut lent, &taken), refused(7));
+        assert_eq!(lent, table);
+    }
 }
 
 #[test]
@@ -162,9 +168,8 @@ fn refusal_6_cells() {
     let agreement = pond(&[], &owed());
     for cells in [0, 3_079, 3_081] {
         let mut table = vec![7; cells];
-        assert_eq!(start(&agreement, &mut table), 6);
-        assert_eq!(reading(&agreement, &mut table, &[]), Taken { number: 6, early: 0, cost: 0 });
-        assert_eq!(forecast(&agreement, &table).number, 6);
+        assert_eq!(start(&agreement, &mut table), Started { number: 6, forecast: None });
+        assert_eq!(reading(&agreement, &mut table, &[]), refused(6));
         assert_eq!(table, vec![7; cells]);
     }
 }
@@ -231,9 +236,9 @@ fn number_after_110(taken: &[u8]) -> u32 {
     let (agreement, mut table) = started(&owed());
     assert_eq!(reading(&agreement, &mut table, &reference::build::reading(110, 0, &[])).number, 0);
     let before = table.clone();
-    let Taken { number, .. } = reading(&agreement, &mut table, taken);
-    assert!(number == 0 || table == before);
-    number
+    let taken = reading(&agreement, &mut table, taken);
+    assert!(taken.number == 0 || table == before && taken == refused(taken.number));
+    taken.number
 }
 
 #[test]
@@ -266,9 +271,10 @@ fn refusal_10_time() {
 fn refusal_11_units() {
     let mut table = vec![7; CELLS];
     let wide = pond(&[], &balanced(65, &owed()));
-    assert_eq!(start(&wide, &mut table), 11);
+    assert_eq!(start(&wide, &mut table), Started { number: 11, forecast: None });
     assert_eq!(table, vec![7; CELLS]);
-    assert_eq!(start(&pond(&[], &balanced(64, &owed())), &mut table), 0);
+    let narrower = pond(&[], &balanced(64, &owed()));
+    assert_eq!(start(&narrower, &mut table), Started { number: 0, forecast: Some((160, 1)) });
     assert_eq!(table[USED], 127);
 }
 
@@ -277,6 +283,6 @@ fn refusal_11_units() {
 fn a_dropped_side_costs_nothing() {
     let mut table = vec![0; CELLS];
     let dropped = or(&balanced(65, &owed()), &fulfilled());
-    assert_eq!(start(&pond(&[], &dropped), &mut table), 0);
+    assert_eq!(start(&pond(&[], &dropped), &mut table), Started { number: 0, forecast: None });
     assert_eq!(table[STATE], 2);
 }

@@ -1,7 +1,7 @@
 //! The calls of the program `trials`, `../crates/trials/stdin`, given to this monitor: it must write what the program
 //! must, `../crates/trials/stdout`, byte for byte. How the calls are laid out stands in `../crates/trials/src/main.rt`.
 
-use reference::{check, forecast, reading, start};
+use reference::{check, reading, start, Forecast};
 use std::fmt::Write;
 use std::path::PathBuf;
 
@@ -25,9 +25,21 @@ impl<'a> Steps<'a> {
     }
 }
 
+fn start_line(agreement: &[u8], table: &mut [i64]) -> String {
+    let answer = start(agreement, table);
+    table_line(format!("start {} {}", answer.number, ahead(answer.forecast)), table)
+}
+
 fn reading_line(agreement: &[u8], table: &mut [i64], event: &[u8]) -> String {
     let answer = reading(agreement, table, event);
-    table_line(format!("reading {} {} {}", answer.number, answer.early, answer.cost), table)
+    let ahead = ahead(answer.forecast);
+    table_line(format!("reading {} {ahead} {} {}", answer.number, answer.early, answer.cost), table)
+}
+
+/// The time of the breach ahead and its parties by bit, or zeros where there is none.
+fn ahead(forecast: Forecast) -> String {
+    let (time, parties) = forecast.unwrap_or((0, 0));
+    format!("{time} {parties}")
 }
 
 /// What was answered, and the cells that are not zero.
@@ -41,14 +53,6 @@ fn table_line(answer: String, table: &[i64]) -> String {
         .expect("a line");
     }
     line
-}
-
-fn forecast_line(agreement: &[u8], table: &[i64]) -> String {
-    let answer = forecast(agreement, table);
-    match answer.breach {
-        Some((time, parties)) => format!("forecast {} {time} {parties}", answer.number),
-        None => format!("forecast {} none", answer.number),
-    }
 }
 
 #[test]
@@ -82,16 +86,15 @@ fn trials() {
                 let answer = check(agreement);
                 format!("check {} {}", answer.number, answer.parties)
             }
-            6 => table_line(format!("start {}", start(agreement, &mut table)), &table),
+            6 => start_line(agreement, &mut table),
             7 => reading_line(agreement, &mut table, event),
-            8 => forecast_line(agreement, &table),
-            9 => {
+            8 => {
                 event = &given[..0];
                 format!("# {}", String::from_utf8_lossy(steps.named()))
             }
             other => panic!("step {other}"),
         };
-        calls += usize::from(step != 9);
+        calls += usize::from(step != 8);
         assert_eq!(Some(line.as_str()), expected.next(), "call {calls}");
     }
     assert_eq!(expected.next(), None);

@@ -38,17 +38,18 @@ pub struct Step {
     pub cost: Option<u64>,
 }
 
-/// An agreement that was started, and its table.
+/// An agreement that was started, its table, and the forecast that the library told of this table.
 pub struct Run {
     agreement: Vec<u8>,
     table: Table,
+    ahead: Option<Breach>,
     readings: u64,
 }
 
 impl Run {
     pub fn start(agreement: Vec<u8>) -> Result<Run, Refusal> {
-        let table = Table::start(&agreement)?;
-        Ok(Run { agreement, table, readings: 0 })
+        let (table, ahead) = Table::start(&agreement)?;
+        Ok(Run { agreement, table, ahead, readings: 0 })
     }
 
     /// What is to be seen after the start.
@@ -60,7 +61,10 @@ impl Run {
         self.readings += 1;
         let answer = self.table.reading(&self.agreement, record);
         let (time, verdict, early) = match answer {
-            Ok(Taken { early, .. }) => (time(record), self.verdict(), early),
+            Ok(Taken { ahead, early, .. }) => {
+                self.ahead = ahead;
+                (time(record), self.verdict(), early)
+            }
             // Refused with 8 it is no record of a reading, so it has no time.
             Err(Refused::Other(refusal @ Refusal::ReadingForm)) => (None, Verdict::Refused(refusal), false),
             Err(refused) => (time(record), Verdict::Refused(refused.refusal()), false),
@@ -71,12 +75,10 @@ impl Run {
 
     /// What the table says now.
     pub fn verdict(&self) -> Verdict {
-        // The library promises that a table which it made is in order, so neither call can fail.
-        let ahead = self.table.forecast(&self.agreement).expect("the forecast of a table that the library made");
         match self.table.state().expect("the state of a table that the library made") {
-            State::Running => Verdict::Live(ahead),
+            State::Running => Verdict::Live(self.ahead),
             State::Fulfilled => Verdict::Done,
-            State::Breached(breach) => Verdict::Breached(ahead.unwrap_or(breach)),
+            State::Breached(breach) => Verdict::Breached(self.ahead.unwrap_or(breach)),
         }
     }
 

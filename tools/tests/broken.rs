@@ -1,8 +1,8 @@
 //! Generated runs: every breach that the library tells, come or ahead, is led back to duties, and what
 //! a reading changed is seen exactly where the table changed.
 
-use givuntha::{forecast, reading, Breach, Parties, State};
-use reference::generate::{calls, Aim, Entry};
+use givuntha::{reading, start, Breach, Parties, State};
+use reference::generate::{calls, Aim, Call, Entry};
 use tools::decode::decode;
 use tools::model::Agreement;
 use tools::pending::breach::broken;
@@ -28,21 +28,32 @@ fn read(record: &[u8]) -> Reading {
     Reading { time, kind: record[8], values: record[9..].chunks(4).map(value).collect() }
 }
 
+/// The breach that a start or a reading tells, and the table that it leaves.
+fn ahead(call: &Call) -> Option<(Breach, Vec<i64>)> {
+    let (Entry::Start { table } | Entry::Reading { table, .. }) = &call.entry else { return None };
+    let mut left = table.clone();
+    let told = match &call.entry {
+        Entry::Reading { reading: record, .. } => reading(&call.agreement, &mut left, record).ok()?.ahead,
+        _ => start(&call.agreement, &mut left).ok()?,
+    };
+    told.map(|breach| (breach, left))
+}
+
 #[test]
 fn every_breach_ahead() {
-    let mut explained = 0;
+    let (mut by_start, mut by_reading) = (0, 0);
     for call in calls(11).take(40_000) {
-        let Entry::Forecast { table } = &call.entry else { continue };
-        let Ok(Some(ahead)) = forecast(&call.agreement, table) else { continue };
-        if State::of(table) != Some(State::Running) {
+        let Some((breach, left)) = ahead(&call) else { continue };
+        if State::of(&left) != Some(State::Running) {
             continue;
         }
         let agreement = decode(&call.agreement).expect("an accepted agreement");
-        let duties = broken(&agreement, &tree(table, &agreement), i64::MAX, &ahead).expect("an explanation");
+        let duties = broken(&agreement, &tree(&left, &agreement), i64::MAX, &breach).expect("an explanation");
         assert!(!duties.is_empty());
-        explained += 1;
+        let by = if matches!(call.entry, Entry::Start { .. }) { &mut by_start } else { &mut by_reading };
+        *by += 1;
     }
-    assert!(explained > 300, "{explained}");
+    assert!(by_start > 500 && by_reading > 2_000, "{by_start} by a start, {by_reading} by a reading");
 }
 
 #[test]

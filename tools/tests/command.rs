@@ -72,7 +72,7 @@ fn readings() {
 fn explain() {
     let record = written(&["assemble", SAMPLE], b"");
     let mut cells = vec![0; reference::CELLS];
-    assert_eq!(reference::start(&record, &mut cells), 0);
+    assert_eq!(reference::start(&record, &mut cells).number, 0);
     let table: Vec<u8> = cells.iter().flat_map(|cell| cell.to_le_bytes()).collect();
     let words = text(&written(&["explain", "--for", SAMPLE, "-"], &table));
     assert!(

@@ -48,7 +48,7 @@ fn runs(seed: u64, calls_made: usize) -> Vec<(Vec<u8>, Vec<Reading>)> {
 /// that came too early, and its cost.
 fn second(agreement: &[u8], readings: &[Reading]) -> Vec<(i64, bool, Option<u64>)> {
     let mut table = vec![0; CELLS];
-    assert_eq!(start(agreement, &mut table), 0);
+    assert_eq!(start(agreement, &mut table).number, 0);
     let mut told = vec![(table[MOVED], false, None)];
     for given in readings {
         // A refused reading leaves the table.

@@ -1,4 +1,4 @@
-//! The four entries on lent memory.
+//! The three entries on lent memory.
 //!
 //! Why the calls are right, for each of them alike: a slice's pointer is not null and aligned, also where the slice is
 //! empty, and the slice is as long as its length says; what is lent as `&mut` overlaps nothing else and nobody else
@@ -14,7 +14,10 @@ use crate::refused::Refused;
 /// No reading costs more: it is at most 65,792 for each of 128 units.
 pub const MOST_COST: u64 = 8_421_376;
 
-/// A breach: its time in minutes, and who is to blame.
+/// A breach: its time in minutes, and who is to blame, at least one party.
+///
+/// The forecast of a table is what its run comes to without further readings, a breach or none: [`start`] and
+/// [`reading`] tell it of the table that they leave. Of a breached table it is the verdict, of a fulfilled one none.
 #[derive(Clone, Copy, Debug, PartialEq, Eq, Hash)]
 pub struct Breach {
     /// A forecast time may exceed 32 bits.
@@ -25,21 +28,24 @@ pub struct Breach {
 /// What is told of a reading that was accepted.
 ///
 /// ```
-/// use givuntha::{record, Table, Taken};
+/// use givuntha::{record, Breach, Parties, Table, Taken};
 ///
 /// // From minute 100 on; party 0 owes the reading after 100 minutes within 60, that is from 200 to 260.
 /// let agreement = [
 ///     47, 0, 1, 0, 100, 0, 0, 0, 1, 1, 0, 5, 0, 2, 0, 0, 31, 0, 17, 0, 0, 1, 5, 0, 33, 0, 1, 8, 0, 32, 0, 100, 0, 0,
 ///     0, 8, 0, 32, 0, 60, 0, 0, 0, 4, 0, 16, 0,
 /// ];
-/// let mut table = Table::start(&agreement)?;
+/// let (mut table, ahead) = Table::start(&agreement)?;
+/// assert_eq!(ahead, Some(Breach { time: 260, parties: Parties::from_bits(1) }));
 /// // One unit is read; then it is read once more, and fulfilled is activated.
-/// assert_eq!(table.reading(&agreement, &record::reading(140, 1, &[]))?, Taken { early: true, cost: 1 });
-/// assert_eq!(table.reading(&agreement, &record::reading(200, 1, &[]))?, Taken { early: false, cost: 2 });
+/// assert_eq!(table.reading(&agreement, &record::reading(140, 1, &[]))?, Taken { ahead, early: true, cost: 1 });
+/// assert_eq!(table.reading(&agreement, &record::reading(200, 1, &[]))?, Taken { ahead: None, early: false, cost: 2 });
 /// # Ok::<(), givuntha::Refusal>(())
 /// ```
 #[derive(Clone, Copy, Debug, PartialEq, Eq, Hash)]
 pub struct Taken {
+    /// The forecast of the table that the reading leaves; of a breached one the verdict.
+    pub ahead: Option<Breach>,
     /// Whether it came too early: the run was running, no unit or state altered, and at least one waiting unit wants
     /// this type, finds `where` true, and has a window that opens later than the reading. The reading does not count
     /// for that window.
@@ -73,20 +79,34 @@ pub fn check(agreement: &[u8]) -> Result<Parties, Refusal> {
     Ok(party_set(parties))
 }
 
-/// Starts a run in lent cells, whatever they held before. A refusal leaves them.
+/// Starts a run in lent cells, whatever they held before, and answers the forecast: the breach that comes without
+/// readings, or none. A refusal leaves the cells.
 ///
 /// ```
-/// let agreement = [21, 0, 1, 0, 100, 0, 0, 0, 1, 1, 0, 5, 0, 2, 0, 0, 4, 0, 16, 0];
-/// assert_eq!(givuntha::start(&agreement, &mut [0; 3080]), Err(givuntha::Refusal::AgreementLength));
+/// // Fulfilled from the start, so no breach is ahead.
+/// let agreement = [20, 0, 1, 0, 100, 0, 0, 0, 1, 1, 0, 5, 0, 2, 0, 0, 4, 0, 16, 0];
+/// assert_eq!(givuntha::start(&agreement, &mut [0; 3080]), Ok(None));
+/// assert_eq!(givuntha::start(&agreement, &mut [0; 3079]), Err(givuntha::Refusal::TableLength));
 /// ```
-pub fn start(agreement: &[u8], table: &mut [i64]) -> Result<(), Refusal> {
-    // SAFETY: `agreement` is borrowed for the call and `table` is so alone; see above.
-    let answer = unsafe { raw::givuntha_start(agreement.as_ptr(), agreement.len(), table.as_mut_ptr(), table.len()) };
-    Refusal::answer(answer)
+pub fn start(agreement: &[u8], table: &mut [i64]) -> Result<Option<Breach>, Refusal> {
+    let (mut time, mut parties) = (0, 0);
+    // SAFETY: all four are borrowed for the call, `table` and the two results apart from all else; see above.
+    let answer = unsafe {
+        raw::givuntha_start(
+            agreement.as_ptr(),
+            agreement.len(),
+            table.as_mut_ptr(),
+            table.len(),
+            &mut time,
+            &mut parties,
+        )
+    };
+    Refusal::answer(answer)?;
+    Ok(ahead(time, parties))
 }
 
-/// Gives the run in lent cells a reading of any bytes, and answers whether it came too early and what it cost. A
-/// refusal leaves the cells; once breached, so does an accepted reading.
+/// Gives the run in lent cells a reading of any bytes, and answers the forecast of the cells afterwards, whether the
+/// reading came too early and what it cost. A refusal leaves the cells; once breached, so does an accepted reading.
 ///
 /// ```
 /// use givuntha::{reading, record, start, State, Taken, Times};
@@ -96,14 +116,14 @@ pub fn start(agreement: &[u8], table: &mut [i64]) -> Result<(), Refusal> {
 /// let mut cells = vec![0; givuntha::CELLS];
 /// start(&agreement, &mut cells)?;
 /// let taken = reading(&agreement, &mut cells, &record::reading(120, 1, &[]))?;
-/// assert_eq!(taken, Taken { early: false, cost: 0 });
+/// assert_eq!(taken, Taken { ahead: None, early: false, cost: 0 });
 /// assert_eq!(State::of(&cells), Some(State::Fulfilled));
 /// assert_eq!(Times::of(&cells), Some(Times { last_reading: 120, last_moved: 100 }));
 /// # Ok::<(), givuntha::Refusal>(())
 /// ```
 pub fn reading(agreement: &[u8], table: &mut [i64], reading: &[u8]) -> Result<Taken, Refused> {
-    let (mut early, mut cost) = (0, 0);
-    // SAFETY: all five are borrowed for the call, `table` and the two results apart from all else; see above.
+    let (mut time, mut parties, mut early, mut cost) = (0, 0, 0, 0);
+    // SAFETY: all seven are borrowed for the call, `table` and the four results apart from all else; see above.
     let answer = unsafe {
         raw::givuntha_reading(
             agreement.as_ptr(),
@@ -112,37 +132,20 @@ pub fn reading(agreement: &[u8], table: &mut [i64], reading: &[u8]) -> Result<Ta
             table.len(),
             reading.as_ptr(),
             reading.len(),
+            &mut time,
+            &mut parties,
             &mut early,
             &mut cost,
         )
     };
     Refused::answer(answer, cost)?;
-    Ok(Taken { early: is_set(early), cost })
+    Ok(Taken { ahead: ahead(time, parties), early: is_set(early), cost })
 }
 
-/// What the run in lent cells comes to without further readings: a breach, or none. Of a breached run it is the
-/// verdict.
-///
-/// ```
-/// let short = givuntha::forecast(&[20, 0, 1, 0, 9, 0, 0, 0, 1, 1, 0, 5, 0, 2, 0, 0, 4, 0, 16, 0], &[0; 3079]);
-/// assert_eq!(short, Err(givuntha::Refusal::TableLength));
-/// ```
-pub fn forecast(agreement: &[u8], table: &[i64]) -> Result<Option<Breach>, Refusal> {
-    let (mut time, mut parties) = (0, 0);
-    // SAFETY: all four are borrowed for the call, the two results apart from all else; see above.
-    let answer = unsafe {
-        raw::givuntha_forecast(
-            agreement.as_ptr(),
-            agreement.len(),
-            table.as_ptr(),
-            table.len(),
-            &mut time,
-            &mut parties,
-        )
-    };
-    Refusal::answer(answer)?;
+/// A breach has always a party, so without one there is none ahead.
+fn ahead(time: u64, parties: u64) -> Option<Breach> {
     let parties = party_set(parties);
-    Ok((!parties.is_empty()).then_some(Breach { time, parties }))
+    (!parties.is_empty()).then_some(Breach { time, parties })
 }
 
 /// A mark is 1 or 0; another number would break the entries' proved contracts.

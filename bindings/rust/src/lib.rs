@@ -1,9 +1,10 @@
 //! The Givuntha monitor of timed agreements, for Rust.
 //!
-//! The four entries are the proved C functions of `include/givuntha.h`; this crate only lends them memory and gives
+//! The three entries are the proved C functions of `include/givuntha.h`; this crate only lends them memory and gives
 //! their numbers names. An agreement is bytes, and so is a reading; the state of a run is a table of
-//! [`CELLS`] cells. [`Table`] owns one; the functions [`start`], [`reading`] and [`forecast`] work on any cells that
-//! are lent. Times are in minutes.
+//! [`CELLS`] cells. [`Table`] owns one; the functions [`start`] and [`reading`] work on any cells that are lent. Both
+//! answer the forecast too: the [`Breach`] that the run comes to without further readings, or none. Times are in
+//! minutes.
 //!
 //! Party 0 owes a salinity of at least 250 within 60 minutes of minute 100:
 //!
@@ -16,23 +17,25 @@
 //! ];
 //! assert!(check(&agreement)?.contains(0));
 //!
-//! let mut table = Table::start(&agreement)?;
-//! let ahead = table.forecast(&agreement)?.expect("a breach if nothing is read");
-//! assert_eq!((ahead.time, ahead.parties.bits()), (160, 1));
+//! let (mut table, ahead) = Table::start(&agreement)?;
+//! let breach = ahead.expect("a breach if nothing is read");
+//! assert_eq!((breach.time, breach.parties.bits()), (160, 1));
 //!
-//! table.reading(&agreement, &record::reading(110, 1, &[240]))?;
+//! let taken = table.reading(&agreement, &record::reading(110, 1, &[240]))?;
+//! assert_eq!(taken.ahead, Some(breach));
 //! assert_eq!(table.state(), Some(State::Running));
 //! assert_eq!(table.times(), Some(Times { last_reading: 110, last_moved: 100 }));
 //! let past = table.reading(&agreement, &record::reading(105, 1, &[250]));
 //! assert_eq!(past, Err(Refused::Other(Refusal::ReadingTime)));
-//! table.reading(&agreement, &record::reading(160, 1, &[250]))?;
+//! let taken = table.reading(&agreement, &record::reading(160, 1, &[250]))?;
+//! assert_eq!(taken.ahead, None);
 //! assert_eq!(table.state(), Some(State::Fulfilled));
 //! assert_eq!(table.times(), Some(Times { last_reading: 160, last_moved: 160 }));
 //! # Ok::<(), Refusal>(())
 //! ```
 //!
-//! An accepted reading is answered with [`Taken`], which says whether it came too early and what it cost, a refused one
-//! with [`Refused`], which has a cost where the reading was followed: on 11.
+//! An accepted reading is answered with [`Taken`], which has the forecast and says whether the reading came too early
+//! and what it cost, a refused one with [`Refused`], which has a cost where the reading was followed: on 11.
 //!
 //! [`STACK`] bytes of stack are enough for every call; the deepest that we built runs in 307,968. The stacks of the
 //! main thread and of threads that the standard library makes are larger. Where the stack is too small the program is
@@ -48,7 +51,7 @@ mod stack;
 mod state;
 mod table;
 
-pub use entries::{check, forecast, reading, start, version, Breach, Taken, MOST_COST};
+pub use entries::{check, reading, start, version, Breach, Taken, MOST_COST};
 pub use parties::Parties;
 pub use refusal::Refusal;
 pub use refused::Refused;

@@ -6,8 +6,7 @@ use std::fmt;
 /// Why an entry refuses: the lowest number that applies. A refusal leaves the table as it was.
 ///
 /// [`check`](crate::check) refuses with 1 to 5, [`start`](crate::start) with 1 to 6 and 11,
-/// [`forecast`](crate::forecast) with 1 to 7, [`reading`](crate::reading) with all, as a
-/// [`Refused`](crate::Refused).
+/// [`reading`](crate::reading) with all, as a [`Refused`](crate::Refused).
 ///
 /// ```
 /// let refusal = givuntha::check(&[]).unwrap_err();

@@ -14,7 +14,7 @@ use std::fmt;
 ///
 /// // Fulfilled from the start, minute 100.
 /// let agreement = [20, 0, 1, 0, 100, 0, 0, 0, 1, 1, 0, 5, 0, 2, 0, 0, 4, 0, 16, 0];
-/// let mut table = Table::start(&agreement)?;
+/// let (mut table, _) = Table::start(&agreement)?;
 /// let refused = table.reading(&agreement, &record::mark(99)).unwrap_err();
 /// assert_eq!(refused, Refused::Other(Refusal::ReadingTime));
 /// assert_eq!((refused.number(), refused.cost()), (10, 0));

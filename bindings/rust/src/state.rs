@@ -22,8 +22,7 @@ pub enum State {
 impl State {
     /// Reads the head of lent cells; none where they are not a table's length or the head names no state.
     ///
-    /// Only the head is looked at. Whether the whole table is in order, [`reading`](crate::reading) and
-    /// [`forecast`](crate::forecast) judge.
+    /// Only the head is looked at. Whether the whole table is in order, [`reading`](crate::reading) judges.
     ///
     /// ```
     /// use givuntha::{Breach, Parties, State, CELLS};
@@ -61,14 +60,14 @@ impl Times {
     /// 32 bits.
     ///
     /// Only these two cells are looked at. Whether the whole table is in order, so that `last_moved` lies from the
-    /// start to `last_reading`, [`reading`](crate::reading) and [`forecast`](crate::forecast) judge.
+    /// start to `last_reading`, [`reading`](crate::reading) judges.
     ///
     /// ```
     /// use givuntha::{record, Table, Times};
     ///
     /// // Fulfilled from the start, minute 100.
     /// let agreement = [20, 0, 1, 0, 100, 0, 0, 0, 1, 1, 0, 5, 0, 2, 0, 0, 4, 0, 16, 0];
-    /// let mut table = Table::start(&agreement)?;
+    /// let (mut table, _) = Table::start(&agreement)?;
     /// table.reading(&agreement, &record::mark(120))?;
     /// assert_eq!(Times::of(table.cells()), Some(Times { last_reading: 120, last_moved: 100 }));
     /// # Ok::<(), givuntha::Refusal>(())

@@ -13,33 +13,30 @@ pub const CELLS: usize = 3080;
 /// It may be made of stored cells, and these may be anything: each call judges them.
 ///
 /// ```
-/// use givuntha::{Refusal, Table};
+/// use givuntha::{record, Refusal, Refused, Table};
 ///
 /// let mut damaged = Table::default();
 /// damaged.cells_mut()[0] = 9;
 /// let agreement = [20, 0, 1, 0, 9, 0, 0, 0, 1, 1, 0, 5, 0, 2, 0, 0, 4, 0, 16, 0];
-/// assert_eq!(damaged.forecast(&agreement), Err(Refusal::TableContent));
+/// let refused = damaged.reading(&agreement, &record::mark(9));
+/// assert_eq!(refused, Err(Refused::Other(Refusal::TableContent)));
 /// ```
 #[derive(Clone, Debug, PartialEq, Eq)]
 pub struct Table(Box<[i64; CELLS]>);
 
 impl Table {
-    /// The table of an agreement at its start.
-    pub fn start(agreement: &[u8]) -> Result<Table, Refusal> {
+    /// The table of an agreement at its start, and its forecast: the breach that comes without readings, or none; see
+    /// [`start`](crate::start).
+    pub fn start(agreement: &[u8]) -> Result<(Table, Option<Breach>), Refusal> {
         let mut table = Table::default();
-        entries::start(agreement, table.cells_mut())?;
-        Ok(table)
+        let ahead = entries::start(agreement, table.cells_mut())?;
+        Ok((table, ahead))
     }
 
-    /// Gives the run a reading, and answers whether it came too early and what it cost; see
-    /// [`reading`](crate::reading).
+    /// Gives the run a reading, and answers the forecast of the table afterwards, whether the reading came too early
+    /// and what it cost; see [`reading`](crate::reading).
     pub fn reading(&mut self, agreement: &[u8], reading: &[u8]) -> Result<Taken, Refused> {
         entries::reading(agreement, self.cells_mut(), reading)
-    }
-
-    /// What the run comes to without further readings; see [`forecast`](crate::forecast).
-    pub fn forecast(&self, agreement: &[u8]) -> Result<Option<Breach>, Refusal> {
-        entries::forecast(agreement, self.cells())
     }
 
     /// What the head says; see [`State::of`].

@@ -7,7 +7,7 @@ mod pond;
 #[path = "common/run.rs"]
 mod run;
 
-use givuntha::{record, Refusal, Refused, State, Table, Taken, MOST_COST};
+use givuntha::{record, Breach, Parties, Refusal, Refused, State, Table, Taken, MOST_COST};
 use pond::pond;
 use reference::build::{and, fulfilled, if_clause, instance, number, or, simple, template, truth, Wait};
 use run::Run;
@@ -69,6 +69,11 @@ impl Run {
     }
 }
 
+/// A breach ahead at this time, by party 0.
+fn party_0(time: u64) -> Option<Breach> {
+    Some(Breach { time, parties: Parties::from_bits(1) })
+}
+
 /// What the first reading costs.
 fn cost(main: &[u8], record: &[u8]) -> u64 {
     run_of(main).cost(record)
@@ -81,7 +86,7 @@ fn one_unit_that_waits_costs_1() {
         assert_eq!(run.cost(&given), 1);
     }
     let mut later = run_of(&Wait { after: number(60), ..simple(60) }.obligation(0));
-    assert_eq!(later.take(&salinity(110)), Ok(Taken { early: true, cost: 1 }));
+    assert_eq!(later.take(&salinity(110)), Ok(Taken { ahead: party_0(220), early: true, cost: 1 }));
 }
 
 #[test]
@@ -166,7 +171,7 @@ fn a_side_that_is_dropped_counts() {
 fn p15_and_its_costs() {
     let mut run = unfolded(&owed_then(&and(&itself(), &itself())));
     for cost in [6, 13, 27, 55, 111, 223] {
-        assert_eq!(run.take(&salinity(110)), Ok(Taken { early: false, cost }));
+        assert_eq!(run.take(&salinity(110)), Ok(Taken { ahead: party_0(170), early: false, cost }));
     }
     let before = run.table.clone();
     for time in [110, 120] {
@@ -260,7 +265,7 @@ fn every_stream() {
 /// refused.
 fn each_reading(mut stream: &[u8], mut judge: impl FnMut(u64, u64)) {
     let agreement = record::next(&mut stream).unwrap().unwrap_or_default();
-    let Ok(mut table) = Table::start(&agreement) else { return };
+    let Ok((mut table, _)) = Table::start(&agreement) else { return };
     while let Some(given) = record::next(&mut stream).unwrap() {
         let units = u64::try_from(table.cells()[UNITS]).unwrap();
         match table.reading(&agreement, &given) {

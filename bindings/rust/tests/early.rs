@@ -267,7 +267,7 @@ fn every_stream() {
 /// Gives away the tables before and after each accepted reading of a stream; none where its start is refused.
 fn each_reading(mut stream: &[u8], mut judge: impl FnMut(&Table, &Table, Taken)) {
     let agreement = record::next(&mut stream).unwrap().unwrap_or_default();
-    let Ok(mut table) = Table::start(&agreement) else { return };
+    let Ok((mut table, _)) = Table::start(&agreement) else { return };
     while let Some(given) = record::next(&mut stream).unwrap() {
         let before = table.clone();
         if let Ok(taken) = table.reading(&agreement, &given) {

@@ -1,6 +1,6 @@
 //! Generated calls, damaged ones too, given to the library and to the second monitor.
 
-use givuntha::{check, forecast, reading, start, Refusal, Refused};
+use givuntha::{check, reading, start, Breach, Refusal, Refused};
 use reference::generate::{calls, Answer, Call, Entry};
 use reference::{Checked, Forecast};
 
@@ -8,6 +8,10 @@ const CALLS: usize = 20_000;
 
 fn number<T>(answer: &Result<T, Refusal>) -> u32 {
     answer.as_ref().err().map_or(0, |refusal| refusal.number())
+}
+
+fn told(ahead: Option<Breach>) -> Forecast {
+    ahead.map(|breach| (i64::try_from(breach.time).expect("a time"), u32::from(breach.parties.bits())))
 }
 
 /// What the library answers, in the second monitor's terms.
@@ -20,35 +24,33 @@ fn answer(call: &Call) -> Answer {
         }
         Entry::Start { table } => {
             let mut table = table.clone();
-            let number = number(&start(&call.agreement, &mut table));
-            Answer::Start { number, table }
+            let answer = start(&call.agreement, &mut table);
+            Answer::Start { number: number(&answer), forecast: told(answer.ok().flatten()), table }
         }
         Entry::Reading { table, reading: given } => {
             let mut table = table.clone();
             let answer = reading(&call.agreement, &mut table, given);
             let early = answer.map_or(0, |taken| u32::from(taken.early));
             let cost = answer.map_or_else(Refused::cost, |taken| taken.cost);
-            Answer::Reading { number: number(&answer.map_err(Refusal::from)), early, cost, table }
-        }
-        Entry::Forecast { table } => {
-            let answer = forecast(&call.agreement, table);
-            let breach = answer.ok().flatten();
-            let breach = breach.map(|breach| (breach.time as i64, u32::from(breach.parties.bits())));
-            Answer::Forecast(Forecast { number: number(&answer), breach })
+            let forecast = told(answer.ok().and_then(|taken| taken.ahead));
+            Answer::Reading { number: number(&answer.map_err(Refusal::from)), early, cost, forecast, table }
         }
     }
 }
 
 #[test]
 fn both_monitors_answer_alike() {
-    let (mut reached, mut early, mut costly) = ([0; 12], 0, 0);
+    let (mut reached, mut early, mut costly, mut ahead) = ([0; 12], 0, 0, [0; 2]);
     for (n, call) in calls(1).take(CALLS).enumerate() {
         let expected = call.answer();
         assert!(answer(&call) == expected, "call {n} of seed 1: {:?}", call.aim);
         reached[expected.number() as usize] += 1;
         early += usize::from(matches!(expected, Answer::Reading { early: 1, .. }));
         costly += usize::from(matches!(expected, Answer::Reading { cost: 1000.., .. }));
+        ahead[0] += usize::from(matches!(expected, Answer::Start { forecast: Some(_), .. }));
+        ahead[1] += usize::from(matches!(expected, Answer::Reading { forecast: Some(_), .. }));
     }
     assert!(reached.iter().all(|&count| count > 0), "{reached:?}");
     assert!(early > 0 && costly > 0, "{early} readings came too early, {costly} cost 1,000 or more");
+    assert!(ahead.iter().all(|&count| count > 100), "a breach told by so many starts and readings: {ahead:?}");
 }

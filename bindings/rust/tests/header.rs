@@ -89,7 +89,11 @@ fn the_functions_are_those_of_the_header() {
     let declared = functions(&header(), "\nuint32_t ", ");", |one| one.rsplit([' ', '*']).next());
     let raw = functions(include_str!("../src/raw.rs"), "pub fn ", ") -> u32;", |one| one.split(':').next());
     assert_eq!(declared, raw);
-    let parameters = "agreement, agreement_bytes, table, table_cells, reading, reading_bytes, early, cost";
+    let names: Vec<&str> = declared.iter().filter_map(|one| one.split('(').next()).collect();
+    assert_eq!(names, ["givuntha_version", "givuntha_check", "givuntha_start", "givuntha_reading"]);
+    assert!(declared.contains(&"givuntha_start(agreement, agreement_bytes, table, table_cells, time, parties)".into()));
+    let parameters =
+        "agreement, agreement_bytes, table, table_cells, reading, reading_bytes, time, parties, early, cost";
     assert!(declared.contains(&format!("givuntha_reading({parameters})")), "{declared:?}");
 }
 

@@ -9,7 +9,7 @@ mod run;
 #[path = "common/sample.rs"]
 mod sample;
 
-use givuntha::{forecast, reading, record, Refusal, Refused, State, Table, Times};
+use givuntha::{reading, record, Refusal, Refused, State, Table, Times};
 use pond::pond;
 use reference::build::{and, fulfilled, instance, simple, template, Wait};
 use run::Run;
@@ -163,7 +163,7 @@ fn from_the_start_to_the_last_reading_it_is_in_order() {
         for moved in [100, 101, last_reading - 1, last_reading] {
             let mut cells = run.table.cells().to_vec();
             cells[LAST_MOVED] = i64::from(moved);
-            assert!(forecast(&run.agreement, &cells).is_ok(), "{moved}");
+            assert!(reading(&run.agreement, &mut cells, &record::mark(last_reading)).is_ok(), "{moved}");
             assert_eq!(Times::of(&cells), Some(Times { last_reading, last_moved: moved }));
         }
     }
@@ -178,7 +178,6 @@ fn elsewhere_it_is_refused_with_7() {
             let mut cells = run.table.cells().to_vec();
             cells[LAST_MOVED] = moved;
             let damaged = cells.clone();
-            assert_eq!(forecast(&run.agreement, &cells), Err(Refusal::TableContent), "{moved}");
             let answer = reading(&run.agreement, &mut cells, &record::mark(180));
             assert_eq!((answer, cells), (Err(Refused::Other(Refusal::TableContent)), damaged), "{moved}");
         }
@@ -187,7 +186,7 @@ fn elsewhere_it_is_refused_with_7() {
 
 #[test]
 fn cells_that_hold_no_times_have_none() {
-    let table = Table::start(&sample()).unwrap();
+    let (table, _) = Table::start(&sample()).unwrap();
     assert_eq!(Times::of(&table.cells()[1..]), None);
     for (cell, number) in [(1, -1), (1, 1 << 32), (LAST_MOVED, -1), (LAST_MOVED, 1 << 32)] {
         let mut cells = table.cells().to_vec();
@@ -220,7 +219,7 @@ fn every_stream() {
 /// Gives away the tables before and after each reading of a stream; none where its start is refused.
 fn each_reading(mut stream: &[u8], mut judge: impl FnMut(&Table, &Table)) {
     let agreement = record::next(&mut stream).unwrap().unwrap_or_default();
-    let Ok(mut table) = Table::start(&agreement) else { return };
+    let Ok((mut table, _)) = Table::start(&agreement) else { return };
     while let Some(given) = record::next(&mut stream).unwrap() {
         let before = table.clone();
         // A refused reading leaves the table, and so alters nothing.

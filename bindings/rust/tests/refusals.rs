@@ -5,7 +5,7 @@ mod pond;
 #[path = "common/sample.rs"]
 mod sample;
 
-use givuntha::{check, forecast, reading, record, start, Refusal, Refused, State, Table, Taken, CELLS};
+use givuntha::{check, reading, record, start, Breach, Parties, Refusal, Refused, State, Table, Taken, CELLS};
 use pond::pond;
 use reference::agreement::Operator;
 use reference::build::{and, binary, fulfilled, instance, number, record as made, simple, template, truth, Wait};
@@ -58,7 +58,6 @@ fn refusals_1_to_5_by_every_entry() {
         assert_eq!(check(&agreement), Err(refusal));
         assert_eq!(refused_start(&agreement, &cells), Some(refusal));
         assert_eq!(refused_reading(&agreement, &cells, &[]), Some(refusal));
-        assert_eq!(forecast(&agreement, &cells), Err(refusal));
         assert_eq!(Table::start(&agreement), Err(refusal));
     }
     assert!(check(&pond(&[], &balanced(128))).is_ok());
@@ -70,28 +69,27 @@ fn refusal_6_a_table_of_another_length() {
         let cells = vec![7; length];
         assert_eq!(refused_start(&sample(), &cells), Some(Refusal::TableLength));
         assert_eq!(refused_reading(&sample(), &cells, &[]), Some(Refusal::TableLength));
-        assert_eq!(forecast(&sample(), &cells), Err(Refusal::TableLength));
         assert_eq!(State::of(&cells), None);
     }
 }
 
 #[test]
 fn refusal_7_a_damaged_table() {
-    let good = Table::start(&sample()).unwrap();
+    let (good, _) = Table::start(&sample()).unwrap();
     let head = [(0, 9), (0, 2), (1, 99), (2, 1), (3, 1), (4, 2), (5, 99), (5, 101), (6, 1), (7, 1)];
     let units = [(8, 18), (9, 16), (10, 99), (3079, 1)];
     for (cell, value) in head.into_iter().chain(units) {
         let mut cells = good.cells().to_vec();
         cells[cell] = value;
         assert_eq!(refused_reading(&sample(), &cells, &record::mark(100)), Some(Refusal::TableContent), "cell {cell}");
-        assert_eq!(forecast(&sample(), &cells), Err(Refusal::TableContent));
     }
-    assert_eq!(forecast(&sample(), Table::default().cells()), Err(Refusal::TableContent));
+    let zeros = Table::default();
+    assert_eq!(refused_reading(&sample(), zeros.cells(), &record::mark(100)), Some(Refusal::TableContent));
 }
 
 #[test]
 fn refusal_8_no_whole_reading() {
-    let table = Table::start(&sample()).unwrap();
+    let (table, _) = Table::start(&sample()).unwrap();
     let whole = record::reading(110, 1, &[240]);
     let other_kind = [&whole[..2], &[65], &whole[3..]].concat();
     let long = [&whole[..], &[0]].concat();
@@ -102,7 +100,7 @@ fn refusal_8_no_whole_reading() {
 
 #[test]
 fn refusal_9_a_reading_that_does_not_fit() {
-    let table = Table::start(&sample()).unwrap();
+    let (table, _) = Table::start(&sample()).unwrap();
     let out_of_range = 1_000_000_001;
     for (sort, values) in [(2, &[240][..]), (1, &[]), (1, &[1, 2]), (0, &[1]), (1, &[out_of_range])] {
         let bytes = record::reading(110, sort, values);
@@ -112,11 +110,11 @@ fn refusal_9_a_reading_that_does_not_fit() {
 
 #[test]
 fn refusal_10_a_reading_before_the_last() {
-    let mut table = Table::start(&sample()).unwrap();
+    let (mut table, ahead) = Table::start(&sample()).unwrap();
     table.reading(&sample(), &record::reading(110, 1, &[240])).unwrap();
     let past = record::reading(105, 1, &[250]);
     assert_eq!(refused_reading(&sample(), table.cells(), &past), Some(Refusal::ReadingTime));
-    assert_eq!(table.reading(&sample(), &record::mark(110)), Ok(Taken { early: false, cost: 1 }));
+    assert_eq!(table.reading(&sample(), &record::mark(110)), Ok(Taken { ahead, early: false, cost: 1 }));
 }
 
 #[test]
@@ -125,12 +123,12 @@ fn refusal_11_too_many_units() {
     let eleven = instance(0, &[], &[]);
     let templates = [template(&[], 0, 1, &leaves(11))];
     let many = |n| (1..n).fold(eleven.clone(), |all, _| and(&all, &eleven));
-    assert_eq!(Table::start(&pond(&templates, &many(5))).unwrap().cells()[4], 109);
+    assert_eq!(Table::start(&pond(&templates, &many(5))).unwrap().0.cells()[4], 109);
     let cells = vec![7; CELLS];
     assert_eq!(refused_start(&pond(&templates, &many(6)), &cells), Some(Refusal::Units));
     let grows = Wait { then: many(6), ..simple(60) }.obligation(0);
     let agreement = pond(&templates, &grows);
-    let table = Table::start(&agreement).unwrap();
+    let (table, _) = Table::start(&agreement).unwrap();
     let given = record::reading(110, 1, &[0]);
     assert_eq!(refused_reading(&agreement, table.cells(), &given), Some(Refusal::Units));
 }
@@ -138,8 +136,8 @@ fn refusal_11_too_many_units() {
 #[test]
 fn start_ignores_what_the_cells_held() {
     let mut cells = vec![-1; CELLS];
-    assert_eq!(start(&sample(), &mut cells), Ok(()));
-    assert_eq!(cells, Table::start(&sample()).unwrap().cells());
+    assert_eq!(start(&sample(), &mut cells), Ok(Some(Breach { time: 160, parties: Parties::from_bits(1) })));
+    assert_eq!(cells, Table::start(&sample()).unwrap().0.cells());
 }
 
 #[test]

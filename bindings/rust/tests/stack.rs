@@ -64,10 +64,9 @@ fn waiting(count: usize) -> Vec<u8> {
 fn run_worst() {
     let agreement = worst();
     check(&agreement).unwrap();
-    let mut table = Table::start(&agreement).unwrap();
+    let (mut table, _) = Table::start(&agreement).unwrap();
     table.reading(&agreement, &record::reading(101, 2, &[])).unwrap();
     assert_eq!(table.cells()[4], 127);
-    table.forecast(&agreement).unwrap();
     table.reading(&agreement, &record::reading(102, 1, &[])).unwrap();
     assert_eq!(table.cells()[4], 127);
 }

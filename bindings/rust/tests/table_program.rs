@@ -29,7 +29,7 @@ fn cells(output: &Output) -> Vec<i64> {
 /// The sample and a low reading: the stream, and the table that it ends with.
 fn sample_and_low() -> (Vec<u8>, Table) {
     let low = record::reading(110, 1, &[240]);
-    let mut table = Table::start(&sample()).unwrap();
+    let (mut table, _) = Table::start(&sample()).unwrap();
     table.reading(&sample(), &low).unwrap();
     ([sample(), low].concat(), table)
 }

@@ -1,7 +1,7 @@
-//! Gives generated calls to the proved library and to the reference monitor, and compares answer and all cells:
-//! `agree [CALLS [SEED [SECONDS]]]`. Prints what the calls reached; fails if the two ever differ, if something
-//! was never reached, or if fewer calls than asked for were made in the time given. The smallest differing
-//! call is printed whole.
+//! Gives generated calls to the proved library and to the reference monitor, and compares answers, with all that a
+//! start and a reading tell, and all cells: `agree [CALLS [SEED [SECONDS]]]`. Prints what the calls reached; fails if
+//! the two ever differ, if something was never reached, or if fewer calls than asked for were made in the time given.
+//! The smallest differing call is printed whole.
 
 use comparison::proved;
 use reference::coverage::Coverage;
@@ -54,9 +54,7 @@ fn main() -> ExitCode {
 fn size(call: &Call) -> (usize, usize) {
     let cells = match &call.entry {
         Entry::Check => 0,
-        Entry::Start { table } | Entry::Reading { table, .. } | Entry::Forecast { table } => {
-            table.iter().filter(|cell| **cell != 0).count()
-        }
+        Entry::Start { table } | Entry::Reading { table, .. } => table.iter().filter(|cell| **cell != 0).count(),
     };
     (call.agreement.len(), cells)
 }
@@ -86,7 +84,6 @@ fn show(difference: &Difference) {
         Entry::Reading { table, reading } => {
             println!("entry: reading {}\ntable: {}", hex(reading), cells(table));
         }
-        Entry::Forecast { table } => println!("entry: forecast\ntable: {}", cells(table)),
     }
     println!("reference: {}", words(&difference.expected));
     println!("proved library: {}", words(&difference.given));
@@ -95,10 +92,12 @@ fn show(difference: &Difference) {
 fn words(answer: &Answer) -> String {
     match answer {
         Answer::Check(checked) => format!("{checked:?}"),
-        Answer::Forecast(forecast) => format!("{forecast:?}"),
-        Answer::Start { number, table } => format!("{number}, table afterwards: {}", cells(table)),
-        Answer::Reading { number, early, cost, table } => {
-            format!("{number}, early {early}, cost {cost}, table afterwards: {}", cells(table))
+        Answer::Start { number, forecast, table } => {
+            format!("{number}, forecast {forecast:?}, table afterwards: {}", cells(table))
+        }
+        Answer::Reading { number, early, cost, forecast, table } => {
+            let told = format!("{number}, forecast {forecast:?}, early {early}, cost {cost}");
+            format!("{told}, table afterwards: {}", cells(table))
         }
     }
 }

@@ -1,5 +1,5 @@
-//! Readings built to cost or to last as much as can be, given to the proved library: the agreement's bytes, the units in
-//! use, the number and what the reading costs, as both monitors have it, and the time of one call.
+//! Readings built to cost or to last as much as can be, given to the proved library: the agreement's bytes, the units
+//! in use, the number and what the reading costs, as both monitors have it, and the time of one call.
 
 use comparison::cases::{self, Case};
 use comparison::proved;
@@ -14,10 +14,10 @@ fn main() {
 fn measure(case: &Case) {
     let mut table = case.table.clone();
     let begun = Instant::now();
-    let (number, _, cost) = proved::reading(&case.agreement, &mut table, &case.reading);
+    let answer = proved::reading(&case.agreement, &mut table, &case.reading);
     let time = begun.elapsed().as_secs_f64() * 1e3;
     let other = entries::reading(&case.agreement, &mut case.table.clone(), &case.reading);
-    assert_eq!((number, cost), (other.number, other.cost), "{}: the reference monitor", case.name);
+    assert_eq!(answer, other, "{}: the reference monitor", case.name);
     let (bytes, units) = (case.agreement.len(), case.units());
-    println!("{:28} {bytes:6} {units:6} {number:7} {cost:9} {time:12.1}", case.name);
+    println!("{:28} {bytes:6} {units:6} {:7} {:9} {time:12.1}", case.name, answer.number, answer.cost);
 }

@@ -36,26 +36,21 @@ fn growth() -> Vec<(&'static str, Vec<Case>)> {
 /// The entries by name, each with the two monitors' ways to take a case.
 type Taker = fn(&Case, &mut [i64]) -> u32;
 
-const ENTRIES: [(&str, Taker, Taker); 4] = [
-    ("check", |case, _| proved::check(&case.agreement).0, |case, _| entries::check(&case.agreement).number),
+const ENTRIES: [(&str, Taker, Taker); 3] = [
+    ("check", |case, _| proved::check(&case.agreement).number, |case, _| entries::check(&case.agreement).number),
     (
         "start",
-        |case, table| proved::start(&case.agreement, table),
-        |case, table| entries::start(&case.agreement, table),
+        |case, table| proved::start(&case.agreement, table).number,
+        |case, table| entries::start(&case.agreement, table).number,
     ),
     (
         "reading",
-        |case, table| proved::reading(&case.agreement, table, &case.reading).0,
+        |case, table| proved::reading(&case.agreement, table, &case.reading).number,
         |case, table| entries::reading(&case.agreement, table, &case.reading).number,
-    ),
-    (
-        "forecast",
-        |case, table| proved::forecast(&case.agreement, table).0,
-        |case, table| entries::forecast(&case.agreement, table).number,
     ),
 ];
 
-/// Prints a case's four lines, and answers its largest ratio.
+/// Prints a case's line for each entry, and answers its largest ratio.
 fn measure(case: &Case, time: Duration) -> f64 {
     let mut worst: f64 = 0.0;
     for (entry, mine, other) in ENTRIES {

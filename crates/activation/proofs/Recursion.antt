@@ -72,8 +72,8 @@ is_ends : (o : List ℤ) {x : cells.Reduced} → x ≡ cells.done → Is x Done 
 unfolding Is
 is_ends o e = rw e tt
 
-breach_is : (o : List ℤ) {x : cells.Reduced} (b : Broken) → (u : ℕ) × (x ≡ cells.breach u b.parties) × (b.time ≡ pos u)
-    → Is x (Breach b) o
+pub breach_is : (o : List ℤ) {x : cells.Reduced} (b : Broken)
+    → (u : ℕ) × (x ≡ cells.breach u b.parties) × (b.time ≡ pos u) → Is x (Breach b) o
 unfolding Is
 breach_is o b h = rw h.1 (h.2, refl)
 

@@ -1,7 +1,7 @@
 -- Laws of the rules as the code knows things: what each clause leads to.
 use mathlib.Core.Path.{◌≡◌, refl, sym, ap, ◌∙◌, subst}
 use mathlib.Core.Bool.{Bool, true, false, cond, ◌&&◌}
-use mathlib.Core.List.{List}
+use mathlib.Core.List.{List, []}
 use mathlib.Core.Option.{Option, none, some}
 use Prim.Native.Nat.{ℕ, zero, suc, ◌+◌, ◌-◌, ◌≤◌, ◌<◌}
 use native.Mathlib.Nat.{add_comm}
@@ -11,6 +11,7 @@ use lib.IntN.{ℤ, pos}
 use lib.Dec.{eqb}
 use lib.ListN.{length}
 use borrow.Author.Tests.{ne_eqb, eq-eqb}
+use Rattle.std.specs.Prelude.{Some}
 use Rattle.laws.proofs.Clash.{impossible}
 use Rattle.arith.specs.Near.{Near}
 use Rattle.arith.proofs.Ints.{seen, read}
@@ -33,7 +34,7 @@ use Rattle.cells.proofs.Unfolds.{unfold_at, unfold_past}
 use Rattle.cells.specs.Reduce.{Mode, activating, fate, waits, late, taken, last_of, then_values, blamed_cells}
 use Rattle.cells.specs.Reduce.{blame_bits}
 use Rattle.records.proofs.Trees.{clause_zero, clause_none, clause_at_lem, kind_no_clause_low, kind_no_clause_high}
-use Rattle.records.proofs.Trees.{kind_fulfilled}
+use Rattle.records.proofs.Trees.{kind_fulfilled, kind_obligation}
 use denote.Ref.{Bor}
 use Rattle.kinds.specs.Kinds.{join_in, join_number}
 use Rattle.parties.specs.declared.breach.Breach.{Breach as Broken}
@@ -44,12 +45,13 @@ use Rattle.readings.specs.declared.reading.Reading.{Reading}
 use Rattle.waits.specs.Fates.{mode_at, mode_of, FateIs}
 use Rattle.residues.specs.Tallies.{ended_by}
 use Rattle.activation.specs.Leads.{Leads, Shaped, Outlined, Acting, Told, Ended, reckon_at, reckon_below, body_in}
-use Rattle.activation.specs.Leads.{templates_of, Follows}
+use Rattle.activation.specs.Leads.{templates_of, Follows, BreaksAhead}
 use Rattle.waits.specs.declared.Event.{Event}
 use Rattle.activation.specs.declared.sites.Site.{Site}
 use Rattle.waits.specs.declared.Event.TheVariants.{Activate, Forecast, Follow}
 use Rattle.waits.specs.declared.Fate.{Fate}
 use Rattle.waits.specs.declared.Fate.TheVariants.{Waits as WaitsOn, Late, Taken}
+use Rattle.activation.proofs.Recursion.{breach_is}
 use Rattle.activation.specs.declared.Next.{Next}
 use Rattle.activation.specs.declared.Next.TheVariants.{Ends, Breaks, Waits, Picks, Lapses, Takes, Unfolds}
 use Rattle.activation.specs.declared.Shape.{Shape}
@@ -368,6 +370,24 @@ module _ (e : Event) (ag : List ℕ) (below : ℕ) (s : List ℕ) (place : ℕ) 
         → Leads e ag below s place ps vs a depth here r
     leads_body t em q r x = subst (λ c. Leads e ag below s place ps vs a depth c r)
         (clause_is (record { deep = t.deep; is_whole = t.is_whole; kind = em }) q) x
+
+-- an obligation's breach, if only time goes on
+pub breaks_ahead : (s : List ℕ) (ps vs : List ℤ) (a : ℕ) → is_record s ≡ true → {m : ℕ} → m ≡ kind_number s → m ≡ 17
+    → {l : ℤ} → ((p : ℕ) → l ≡ last_of vs a (wait_at (expr 22) p s 5)) → (b : Broken)
+    → (b.time ≡ pos (later_of a l)) × (b.parties ≡ blame_bits ps (byte s 4)) → BreaksAhead s ps vs a (Some b)
+unfolding BreaksAhead Leads fate cells.reaches cells.broken
+breaks_ahead s ps vs a whole {m} em e el b is = λ ag place.
+    let below = byte ag 10 in
+    let acts : Acting 23 s = record {
+      deep = omega arith;
+      is_whole = whole;
+      from = omega arith;
+      to = omega arith;
+      single = λ x y. omega arith;
+    } in
+    let h = leads_body Forecast ag below s place ps vs a 23 acts em (kind_obligation e) (Breaks b)
+    (obligation_late Forecast ag below s place ps vs a 23 (omega arith) refl (el place) b is.0 is.1) in
+    breach_is [] b (h.0, ap (λ x. x.outcome) h.1, h.2)
 
 -- the last kind of a clause that acts
 pub acting_last : {depth : ℕ} {s : List ℕ} → Acting depth s → {m : ℕ} → m ≡ kind_number s → (m ≡ 17 → ⊥) → (m ≡ 18 → ⊥)

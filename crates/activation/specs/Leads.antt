@@ -1,5 +1,6 @@
 -- What a clause leads to, as the code says it before it recurs.
-use Rattle.std.specs.Prelude.{◌≡◌, true, List, ℕ, ◌+◌, ◌-◌, ◌*◌, ◌≤◌, ◌<◌, ℤ, pos, ◌-ℤ◌, length}
+use Rattle.std.specs.Prelude.{◌≡◌, true, List, [], ℕ, ◌+◌, ◌-◌, ◌*◌, ◌≤◌, ◌<◌, ℤ, pos, ◌-ℤ◌, length}
+use Rattle.std.specs.Prelude.{Option, Some, None}
 use Rattle.csl.specs.Bytes.{byte, part, is_record, kind_number}
 use Rattle.csl.specs.Syntax.{Clause, Template, and}
 use Rattle.csl.specs.Decode.{ClauseKind, clause_body, clause, expr, heads_of, agreement_of, arguments}
@@ -14,7 +15,9 @@ use Rattle.readings.specs.declared.reading.Reading.{Reading}
 use Rattle.waits.specs.Fates.{mode_at}
 use Rattle.waits.specs.declared.Event.{Event}
 use Rattle.waits.specs.declared.Event.TheVariants.{Activate, Forecast, Follow}
-use Rattle.residues.specs.Reduces.{farthest}
+use Rattle.parties.specs.declared.breach.Breach.{Breach as Broken}
+use Rattle.residues.specs.Reduces.{farthest, Is}
+use Rattle.residues.specs.declared.Reduced.TheVariants.{Breach}
 use Rattle.residues.specs.Tallies.{ended_by}
 use Rattle.activation.specs.declared.sites.Site.{Site}
 use Rattle.activation.specs.declared.sites.Clause.{Clause as Here}
@@ -194,6 +197,12 @@ pub record OfInstance (c : Here) (k i : ℕ) : Type 0 where
   pub deep : 1 ≤ c.site.depth
   pub inside : i ≤ length c.bytes.now
   pub few : length c.bytes.now ≤ i + 4
+
+-- the record s, of the outermost depth, tells this breach if only time goes on, wherever it stands
+unfoldable pub BreaksAhead : List ℕ → List ℤ → List ℤ → ℕ → Option Broken → Type 0
+BreaksAhead s ps vs a None = Unit {0}
+BreaksAhead s ps vs a (Some b) = (ag : List ℕ) (place : ℕ)
+    → Is (reckon_at Forecast ag (whole_site ag place a) s ps vs).outcome (Breach b) []
 
 -- there is nothing to do in the record s, wherever it stands
 pub record Ended (s : List ℕ) : Type 0 where

@@ -1,21 +1,24 @@
 // What a clause leads to, before anything within it is activated.
 ghost use Rattle.std.specs.Prelude.{◌≡◌, true, ℕ, ◌+◌, ◌-◌, ◌≤◌, pos, length};
+ghost use Rattle.csl.specs.Bytes as bytes;
 ghost use Rattle.csl.specs.Numbers.{later_of};
 ghost use Rattle.csl.specs.Decode.{if_kind, obligation_kind, choice_kind};
 ghost use Rattle.arith.specs.Near.{Near};
 ghost use Rattle.kinds.specs.Kinds.{join_number};
+ghost use Rattle.cells.specs.Reduce.{blame_bits};
 ghost use Rattle.residues.specs.Reduces.{farthest};
-ghost use Rattle.activation.specs.Leads.{LeadsFrom, Outlined, Acting, Told, Ended, body_at, clause_at};
+ghost use Rattle.activation.specs.Leads.{LeadsFrom, Outlined, Acting, Told, Ended, body_at, clause_at, BreaksAhead};
 
 use crate::blames::blame_bits;
 use crate::instances::instance;
 use crate::sites::Clause;
 use crate::{Next, Shape};
+use cells::Values;
 use evaluation::{eval, is_true};
 use kinds::{Join, WaitKind};
 use octets::{byte, is_record, kind, record_end};
 use parties::Breach;
-use records::wait_end;
+use records::{MAIN_DEPTH, wait_end};
 use waits::{Event, Fate, Wait};
 
 // The later of a time and a window's last minute, as a time.
@@ -24,6 +27,17 @@ fn moved(a: usize, last: i64) -> i64
     ensures { (result ≡ pos (later_of a last)) × (later_of a last ≤ a + 2_000_000_000) }
 {
     (a as i64).max(last)
+}
+
+// The breach of the obligation in the record s, activated at the time a, whose last minute it is.
+fn breach(s: &[u8], params: &[i64], a: usize, last: i64) -> Breach
+    requires { (a ≤ farthest) × Near (a + 2_000_000_000) last }
+    ensures { (result.time ≡ pos (later_of a last)) × (result.parties ≡ blame_bits params.now (bytes.byte s.now 4)) }
+{
+    Breach {
+        time: moved(a, last),
+        parties: blame_bits(params, byte(s, 4)),
+    }
 }
 
 // (What `Acting` leaves for the clause of one kind is asked by itself here and below: four bytes and a depth.)
@@ -59,10 +73,7 @@ fn obligation<'a>(event: Event<'a>, clause: &Clause<'_>) -> Next<'a>
     };
     match wait.becomes(event) {
         Fate::Waits => Next::Waits(WaitKind::Obligation),
-        Fate::Late(last) => Next::Breaks(Breach {
-            time: moved(a, last),
-            parties: blame_bits(clause.params, byte(s, 4)),
-        }),
+        Fate::Late(last) => Next::Breaks(breach(s, clause.params, a, last)),
         Fate::Taken(reading, last) => Next::Takes {
             reading,
             from: wait_end(s, 5),
@@ -101,6 +112,25 @@ fn choice<'a>(event: Event<'a>, clause: &Clause<'_>) -> Next<'a>
             last,
         },
     }
+}
+
+// The breach that the record s comes to, an obligation of the outermost depth, if only time goes on; none where it is
+// another clause. (It stands apart from `leads_to`, which asks for the clause's site.)
+pub fn breach_ahead(s: &[u8], params: &[i64], values: Values<'_>, a: usize) -> Option<Breach>
+    requires { a ≤ farthest }
+    ensures { BreaksAhead s.now params.now values.entry.cells.now a result }
+{
+    if !is_record(s) || kind(s) != 17 {
+        return None;
+    }
+    let wait = Wait {
+        bytes: s,
+        at: 5,
+        values,
+        a,
+        depth: MAIN_DEPTH - 1,
+    };
+    Some(breach(s, params, a, wait.last()))
 }
 
 // What a clause that acts does, before anything within it is activated. A record's kind is decided by its number, a

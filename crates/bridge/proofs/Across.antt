@@ -1,6 +1,6 @@
 -- At every unit of a table the rules on cells show what csl's rules reckon of the residue, whatever is reckoned.
--- Main theorems: `across_shows` for any step and mode, `follow_across` and `forecast_across` for whole tables, and
--- `follow_costs` for what a reading costs.
+-- Main theorems: `across_shows` for any step and mode, `follow_across` for whole tables, and `follow_costs` for what a
+-- reading costs.
 use mathlib.Core.Bool.{cond}
 use mathlib.Core.List.{List, [], ◌∷◌, ◌++◌, append_assoc}
 use mathlib.Core.Option.{Option, none, some}
@@ -36,7 +36,7 @@ use Rattle.cells.specs.Reduce as cells
 use Rattle.cells.specs.Across as table
 use Rattle.cells.specs.Across.{nat_of, unit_reckoned}
 use Rattle.bridge.proofs.Shows.{Matches, match_bind, tallies_match}
-use Rattle.bridge.proofs.Reduce.{Shown, follow_shows, forecast_shows}
+use Rattle.bridge.proofs.Reduce.{Shown, follow_shows}
 
 -- ---- the numbers of party parameters and of values in sight, unit by unit; a join has the number of its left side's
 -- units and 0
@@ -248,11 +248,3 @@ module _ (s mains : List ℕ) (fair : Fair (agreement_of s) mains) (found : Foun
         → total (follow_across d rok).given.tally ≡ follow_cost ag d res
     unfolding follow_cost Open.follow
     follow_costs d rok = ap total (sym ((follow_across d rok).shown tallies_match))
-
-    pub forecast_across : Whole cells.forecasting s (λ A g. Open.forecasting g) res sights us
-    unfolding Good
-    forecast_across =
-        whole_shows (Since ag now) (λ A g. Open.forecasting g) cells.forecasting
-        (λ A g R z. forecast_shows z ag mains fair)
-        now moved res inv.good.0 sights us inv.good.1
-        (table_back ag mains us (run_at now moved (running res)) is l)

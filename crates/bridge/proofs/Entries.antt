@@ -15,39 +15,38 @@ use Rattle.csl.specs.Parties.{bits_of}
 use Rattle.csl.specs.Syntax.{Agreement}
 use Rattle.csl.specs.Decode.{agreement_of, main_of}
 use Rattle.csl.specs.Check.{accepted, checked}
-use Rattle.csl.specs.Outcomes.{Outcome, Residue, breach, done, running, stuck, units}
-use Rattle.csl.specs.Rules.{Reading, activate, follow, forecast}
+use Rattle.csl.specs.Outcomes.{Outcome, Residue, breach, done, running, units}
+use Rattle.csl.specs.Rules.{Reading, activate, follow}
 use Rattle.csl.specs.Run.{Raw, Stepped, altered, fit, fit_of, followed, kept, raw_reading, read_at, started, step}
 use Rattle.csl.specs.Run.{typed_reading, unfit}
 use Rattle.csl.specs.Table.{Run, cells_of, head_cells, nat_cells, run_of, stand_for, table_of}
 use Rattle.csl.specs.Early.{came_early, idle, mark_of, some_too_early}
 use Rattle.csl.specs.Cost.{cost_from, cost_of, total}
-use Rattle.csl.specs.Entries.{Answer, Forecast, breach_at, forecast_of, forecast_run, no_breach, no_forecast}
-use Rattle.csl.specs.Entries.{reading_of}
-use Rattle.csl.specs.Entries.{answered, refusal, shown, start_of, written}
+use Rattle.csl.specs.Entries.{Answer, breach_at, forecast_of, forecast_run, no_breach}
+use Rattle.csl.specs.Entries.{read_of}
+use Rattle.csl.specs.Entries.{answered, refusal, shown, begun_of, written}
 use Rattle.csl.specs.Demand3.{fitting, needed}
 use Rattle.laws.proofs.Bools.{by}
-use Rattle.laws.proofs.Clash.{impossible}
 use Rattle.laws.proofs.Options.{some_inj, none_some}
 use Rattle.soundness.proofs.Evaluation.{HaveTy}
 use Rattle.soundness.proofs.Good.{Good, SightOk}
 use Rattle.soundness.proofs.Walks.{Fair}
 use Rattle.soundness.proofs.Activation.{activate_good}
 use Rattle.soundness.proofs.Following.{ReadingOk, follow_good}
-use Rattle.soundness.proofs.Forecasts.{ForecastOk, forecast_ok}
 use Rattle.soundness.proofs.Readings.{reading_ok}
 use Rattle.soundness.proofs.Runs.{Since, fit_cases, fit_by_bytes, fit_by_type, is_fair, moved_to, reading_is, run_at}
 use Rattle.soundness.proofs.Runs.{start_is, stepped}
 use Rattle.soundness.proofs.Moved.{stays_done}
 use Rattle.soundness.proofs.Early.{mark_not_early}
+use Rattle.soundness.proofs.Marks.{forecast_is}
 use Rattle.soundness.proofs.ReadBack.{run_of_good, table_back}
 use Rattle.cells.specs.Reduce.{Reckoned, Reduced}
 use Rattle.cells.specs.Reduce as cells
 use Rattle.cells.specs.Across as table
 use Rattle.bridge.proofs.Shows.{Shows, outcomes_match}
 use Rattle.bridge.proofs.Reduce.{activate_shows}
-use Rattle.bridge.proofs.Across.{FoundIs, follow_across, follow_costs, forecast_across, sights_of}
-use Rattle.bridge.proofs.Refusals.{answer, forecast_on, unread}
+use Rattle.bridge.proofs.Across.{FoundIs, follow_across, follow_costs, sights_of}
+use Rattle.bridge.proofs.Refusals.{answer, unread}
 use Rattle.cells.specs.Tables.{alters, head_of, moved_cell, reduced_table, stepped_table}
 use Rattle.bridge.proofs.Tables.{needed_shows, table_shows, too_many_shows, units_in}
 use Rattle.bridge.proofs.Moved.{alters_shows, moved_first_lem, moved_shows}
@@ -96,20 +95,6 @@ module _ (ag : Agreement) (W : ℕ → Type 0) (P : List ℕ) (before : Run) (us
       last false true = refl
       last false false = refl
 
--- a forecast's outcome on cells
-unfoldable pub foretold : Reduced → Forecast
-foretold cells.done = no_breach
-foretold (cells.breach t b) = breach_at t b
-foretold (cells.running us) = no_forecast
-
-foretold_shows : (ag : Agreement) (mains : List ℕ) (o : Outcome) (x : Reduced) → ForecastOk ag mains o → Shows o x
-    → (shown o ≡ foretold x) × ((us : List ℤ) → x ≡ cells.running us → ⊥)
-unfolding ForecastOk Shows shown foretold
-foretold_shows ag mains done x f h = rw h (refl, λ us e. impossible cc)
-foretold_shows ag mains (breach t ps) x f h = rw h (refl, λ us e. impossible cc)
-foretold_shows ag mains (running r) x f h = absurd f
-foretold_shows ag mains stuck x f h = absurd f
-
 same_one : {x y : Reckoned} → x ∷ [] ≡ y ∷ [] → x ≡ y
 same_one e = cc
 
@@ -153,7 +138,7 @@ module _ (s mains : List ℕ) (ck : checked s ≡ accepted (agreement_of s) main
   -- ---- start
   start_shows : (us : List ℤ) (x : Reduced) → length us ≡ 3080
       → Shows (activate ag.templates ag.main (record { params = []; values = [] }) ag.start) x
-      → start_of s us ≡ kept_cells ag.start 0 us x
+      → begun_of s us ≡ kept_cells ag.start 0 us x
   unfolding started
   start_shows us x l h =
       start_is s ag mains ck us l
@@ -168,7 +153,7 @@ module _ (s mains : List ℕ) (ck : checked s ≡ accepted (agreement_of s) main
           ag.start mains no_sight tt fair.main fair.main_placed
 
   pub start_reduce : (us : List ℤ) → length us ≡ 3080
-      → start_of s us ≡ kept_cells ag.start 0 us
+      → begun_of s us ≡ kept_cells ag.start 0 us
       (cells.reduce cells.activating ag.templates (main_of s) [] [] ag.start).outcome
   unfolding agreement_of nat_cells cells_of activate
   start_reduce us l = start_shows us _ l (activate_shows outcomes_match ag mains fair ag.main 0 []
@@ -177,27 +162,27 @@ module _ (s mains : List ℕ) (ck : checked s ≡ accepted (agreement_of s) main
   module _ (us : List ℤ) (l : length us ≡ 3080) where
     -- ---- a reading that does not fit, or comes before the last
     module _ (q : Run) (is : run_of ag mains us ≡ some q) (r : List ℕ) where
-      unfits : (n : ℕ) → fit_of ag q.last_time r ≡ unfit n → reading_of s us r ≡ answered 0 0 (written us (stepped n q))
+      unfits : (n : ℕ) → fit_of ag q.last_time r ≡ unfit n → read_of s us r ≡ answered 0 0 (written us (stepped n q))
       unfolding came_early mark_of cost_of step
       unfits n e = reading_is s ag mains ck us q r l is ∙ rw (e, came_early, cost_of, step) refl
 
-      pub reading_eight : raw_reading r ≡ none → reading_of s us r ≡ unread 8 us
+      pub reading_eight : raw_reading r ≡ none → read_of s us r ≡ unread 8 us
       unfolding written refusal
       reading_eight e = unfits 8 (fit_eight ag q.last_time r e)
 
       pub reading_nine : (w : Raw) → raw_reading r ≡ some w → typed_reading ag w ≡ none
-          → reading_of s us r ≡ unread 9 us
+          → read_of s us r ≡ unread 9 us
       unfolding written refusal
       reading_nine w e f = unfits 9 (fit_nine ag q.last_time r w e f)
 
-      pub reading_ten : (d : Reading) → fitting ag r ≡ some d → d.time < q.last_time → reading_of s us r ≡ unread 10 us
+      pub reading_ten : (d : Reading) → fitting ag r ≡ some d → d.time < q.last_time → read_of s us r ≡ unread 10 us
       unfolding written refusal
       reading_ten d f lt = unfits 10 (fit_ten ag q.last_time r d f lt)
 
     -- ---- one that fits and does not come before the last
     module _ (now m : ℕ) (r : List ℕ) (d : Reading) (f : fitting ag r ≡ some d) (le : now ≤ d.time) where
       pub reading_done : run_of ag mains us ≡ some (run_at now m done)
-          → reading_of s us r ≡ answered 0 0 (answer 0 (reduced_table d.time (pos m) cells.done))
+          → read_of s us r ≡ answered 0 0 (answer 0 (reduced_table d.time (pos m) cells.done))
       unfolding came_early mark_of cost_of cost_from step written followed read_at
       reading_done is = reading_is s ag mains ck us (run_at now m done) r l is
           ∙ rw ((fit_on ag now r d f le).1, came_early, cost_of, step) refl
@@ -205,7 +190,7 @@ module _ (s mains : List ℕ) (ck : checked s ≡ accepted (agreement_of s) main
           ∙ ap (λ t. answered 0 0 (answer 0 t)) (unfold table_of reduced_table head_of head_cells nat_cells in refl)
 
       pub reading_breach : (t : ℕ) (ps : List ℕ) → run_of ag mains us ≡ some (run_at now m (breach t ps))
-          → reading_of s us r ≡ answered 0 0 (answer 0 us)
+          → read_of s us r ≡ answered 0 0 (answer 0 us)
       unfolding came_early mark_of cost_of cost_from step written followed
       reading_breach t ps is = reading_is s ag mains ck us (run_at now m (breach t ps)) r l is
           ∙ rw ((fit_on ag now r d f le).1, came_early, cost_of, step) refl
@@ -221,7 +206,7 @@ module _ (s mains : List ℕ) (ck : checked s ≡ accepted (agreement_of s) main
         pub reading_running : (x : Reckoned) → run_of ag mains us ≡ some (run_at now m (running res))
             → table.across (cells.following d.time d.type (cells_of d.values)) s (units res)
             (sights_of ag res ++ sights) (drop 8 us) ≡ x ∷ []
-            → reading_of s us r ≡ answered (mark_of (early_cells (units res) us x.outcome later)) (total x.tally)
+            → read_of s us r ≡ answered (mark_of (early_cells (units res) us x.outcome later)) (total x.tally)
             (kept_cells d.time (units res) us x.outcome)
         unfolding came_early cost_of cost_from step followed Good follow read_at
         reading_running x is e =
@@ -258,23 +243,10 @@ module _ (s mains : List ℕ) (ck : checked s ≡ accepted (agreement_of s) main
     -- ---- the forecast
     pub forecast_done : (now m : ℕ) → run_of ag mains us ≡ some (run_at now m done) → forecast_of s us ≡ no_breach
     unfolding forecast_run shown
-    forecast_done now m is = forecast_on us s ag mains ck l (some (run_at now m done)) is
+    forecast_done now m is = forecast_is s ag mains ck us (run_at now m done) is
 
     -- "A breached table gives its verdict."
     pub forecast_breach : (now m t : ℕ) (ps : List ℕ) → run_of ag mains us ≡ some (run_at now m (breach t ps))
         → forecast_of s us ≡ breach_at t (bits_of ps)
     unfolding forecast_run shown
-    forecast_breach now m t ps is = forecast_on us s ag mains ck l (some (run_at now m (breach t ps))) is
-
-    pub forecast_running : FoundIs s → (now m : ℕ) (res : Residue) (sights : List ℕ) (x : Reckoned)
-        → run_of ag mains us ≡ some (run_at now m (running res))
-        → table.across cells.forecasting s (units res) (sights_of ag res ++ sights) (drop 8 us) ≡ x ∷ []
-        → (forecast_of s us ≡ foretold x.outcome) × ((vs : List ℤ) → x.outcome ≡ cells.running vs → ⊥)
-    unfolding Good forecast forecast_run
-    forecast_running found now m res sights x is e =
-        let g = (run_of_good ag mains us (run_at now m (running res)) fair is).good in
-        let w = forecast_across s mains fair found now m res us l is sights in
-        let t = foretold_shows ag mains (forecast ag res) x.outcome
-        (forecast_ok ag mains fair now res g.0 g.1 g.2)
-        (subst (λ y. Shows (forecast ag res) y.outcome) (same_one (sym w.only ∙ e)) (w.shown outcomes_match)) in
-        (forecast_on us s ag mains ck l (some (run_at now m (running res))) is ∙ t.0, t.1)
+    forecast_breach now m t ps is = forecast_is s ag mains ck us (run_at now m (breach t ps)) is

@@ -7,3 +7,4 @@ pub mod Moved
 pub mod Early
 pub mod Refusals
 pub mod Entries
+pub mod Ahead

@@ -19,9 +19,9 @@ use Rattle.csl.specs.Run.{started, step}
 use Rattle.csl.specs.Table.{Run, run_of}
 use Rattle.csl.specs.Early.{came_early, mark_of}
 use Rattle.csl.specs.Cost.{cost_of}
-use Rattle.csl.specs.Entries.{Answer, Forecast, ReadingAnswer, answered, forecast_of, forecast_run, is_table}
-use Rattle.csl.specs.Entries.{reading_of}
-use Rattle.csl.specs.Entries.{refusal, refused_forecast, shown, start_of, written}
+use Rattle.csl.specs.Entries.{Answer, ReadAnswer, answered, is_table}
+use Rattle.csl.specs.Entries.{read_of}
+use Rattle.csl.specs.Entries.{refusal, begun_of, written}
 use Rattle.soundness.proofs.Decoding.{decode_is}
 use Rattle.soundness.proofs.Checked.{passed}
 use Rattle.soundness.proofs.Runs.{is_table_is}
@@ -30,7 +30,7 @@ abbrev pub answer : ℕ → List ℤ → Answer
 answer n us = record { number = n; table = us }
 
 -- a refused reading's
-abbrev pub unread : ℕ → List ℤ → ReadingAnswer
+abbrev pub unread : ℕ → List ℤ → ReadAnswer
 unread n us = answered 0 0 (answer n us)
 
 -- ---- what check says
@@ -109,65 +109,45 @@ module _ (us : List ℤ) where
   on_start : Agreement → List ℕ → Answer
   on_start a ps = written us (started a)
 
-  abbrev read_by : List ℕ → Agreement → Option Run → ReadingAnswer
+  abbrev read_by : List ℕ → Agreement → Option Run → ReadAnswer
   read_by r a o = elim o [
     | none ↦ unread 7 us
     | some q ↦ answered (mark_of (came_early a q r)) (cost_of a q r) (written us (step a q r))
   ]
 
-  on_reading : List ℕ → Agreement → List ℕ → ReadingAnswer
+  on_reading : List ℕ → Agreement → List ℕ → ReadAnswer
   on_reading r a ps = read_by r a (run_of a ps us)
-
-  on_forecast : Agreement → List ℕ → Forecast
-  on_forecast a ps = elim (run_of a ps us) [ none ↦ refused_forecast 7 | some q ↦ shown (forecast_run a q) ]
 
   refuse : ℕ → Answer
   refuse n = answer n us
 
-  refuse_reading : ℕ → ReadingAnswer
+  refuse_reading : ℕ → ReadAnswer
   refuse_reading n = unread n us
 
   -- the numbers 1 to 5
   module _ (s : List ℕ) (n : ℕ) (ck : checked s ≡ refused n) where
-    pub start_refused_lem : start_of s us ≡ answer n us
-    unfolding start_of refusal asked on_start refuse
+    pub start_refused_lem : begun_of s us ≡ answer n us
+    unfolding begun_of refusal asked on_start refuse
     start_refused_lem = ap (asked us refuse on_start) ck
 
-    pub reading_refused : (r : List ℕ) → reading_of s us r ≡ unread n us
-    unfolding reading_of refusal asked on_reading refuse_reading
+    pub reading_refused : (r : List ℕ) → read_of s us r ≡ unread n us
+    unfolding read_of refusal asked on_reading refuse_reading
     reading_refused r = ap (asked us refuse_reading (on_reading r)) ck
-
-    pub forecast_refused_lem : forecast_of s us ≡ refused_forecast n
-    unfolding forecast_of asked on_forecast
-    forecast_refused_lem = ap (asked us refused_forecast on_forecast) ck
 
   module _ (s : List ℕ) (a : Agreement) (mains : List ℕ) (ck : checked s ≡ accepted a mains) where
     -- 6
     module _ (no_table : length us ≡ 3080 → ⊥) where
-      pub start_six : start_of s us ≡ answer 6 us
-      unfolding start_of refusal asked on_start refuse
+      pub start_six : begun_of s us ≡ answer 6 us
+      unfolding begun_of refusal asked on_start refuse
       start_six = asked_six us refuse on_start s a mains ck no_table
 
-      pub reading_six : (r : List ℕ) → reading_of s us r ≡ unread 6 us
-      unfolding reading_of refusal asked on_reading refuse_reading
+      pub reading_six : (r : List ℕ) → read_of s us r ≡ unread 6 us
+      unfolding read_of refusal asked on_reading refuse_reading
       reading_six r = asked_six us refuse_reading (on_reading r) s a mains ck no_table
 
-      pub forecast_six : forecast_of s us ≡ refused_forecast 6
-      unfolding forecast_of asked on_forecast
-      forecast_six = asked_six us refused_forecast on_forecast s a mains ck no_table
-
-    -- 7, or the run that the table shows
+    -- 7
     module _ (l : length us ≡ 3080) where
-      pub reading_seven : (r : List ℕ) → run_of a mains us ≡ none → reading_of s us r ≡ unread 7 us
-      unfolding reading_of refusal asked on_reading refuse_reading
+      pub reading_seven : (r : List ℕ) → run_of a mains us ≡ none → read_of s us r ≡ unread 7 us
+      unfolding read_of refusal asked on_reading refuse_reading
       reading_seven r e = asked_on us refuse_reading (on_reading r) s a mains ck l
           ∙ ap (read_by r a) e
-
-      pub forecast_on : (o : Option Run) → run_of a mains us ≡ o
-          → forecast_of s us ≡ (elim o [ none ↦ refused_forecast 7 | some q ↦ shown (forecast_run a q) ])
-      unfolding forecast_of asked on_forecast
-      forecast_on o e = asked_on us refused_forecast on_forecast s a mains ck l
-          ∙ ap (λ o. elim o [ none ↦ refused_forecast 7 | some q ↦ shown (forecast_run a q) ]) e
-
-      pub forecast_seven : run_of a mains us ≡ none → forecast_of s us ≡ refused_forecast 7
-      forecast_seven e = forecast_on none e

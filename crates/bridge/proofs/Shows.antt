@@ -66,7 +66,7 @@ later_shows t u ps qs = go (ltb t u) (ltb u t) (is_same_set ps qs)
     go false false false = tt
 
 -- what shows two sides, joined on cells, shows the two joined
-joined_shows : (j : Join) (l r : Outcome) (l' r' : cells.Reduced) → Shows l l' → Shows r r'
+pub joined_shows : (j : Join) (l r : Outcome) (l' r' : cells.Reduced) → Shows l l' → Shows r r'
     → Shows (joined j l r) (cells.joined j l' r')
 unfolding joined join_both join_either Shows cells.joined cells.join_both cells.join_either residue_cells
 joined_shows and done r l' r' p q = rw p q

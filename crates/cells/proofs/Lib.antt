@@ -1,2 +1,3 @@
 pub mod Unfolds
 pub mod Sights
+pub mod Wide

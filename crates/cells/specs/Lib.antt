@@ -3,3 +3,4 @@ pub mod Reduce
 pub mod Across
 pub mod Tables
 pub mod Sights
+pub mod Ahead

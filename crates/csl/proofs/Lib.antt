@@ -2,3 +2,4 @@ pub mod Trials
 pub mod Further
 pub mod TooEarly
 pub mod Costs
+pub mod Joined

@@ -1,6 +1,6 @@
 -- Trials of paper 02, No. 9, by computation, as one claim over a list: what readings cost, for each kind of clause, in
 -- an else, with sides that are dropped, and where it is 0; and the outcome that each name of `Rules` gives by itself.
-use Rattle.std.specs.Prelude.{List, [], ◌∷◌, ◌++◌, map, ◌≡◌, refl, ℕ, ◌+◌, ℤ, pos, negsuc, replicate}
+use Rattle.std.specs.Prelude.{List, [], ◌∷◌, ◌++◌, map, ℕ, ◌+◌, ℤ, pos, negsuc, replicate}
 use Rattle.std.proofs.Math.Option.{none, some}
 use Prim.Native.String.{String}
 use Rattle.csl.specs.Syntax.{number_lit, bad_expr, or, Clause, fulfilled, if, join, instance, bad_clause}
@@ -10,14 +10,14 @@ use Rattle.csl.specs.Outcomes.{an_obligation, a_choice, unit, done, breach, runn
 use Rattle.csl.specs.Rules.{Reading, walk, walk_in, during, activating, taken, following, forecasting, across}
 use Rattle.csl.specs.Run.{Stepped, started, step}
 use Rattle.csl.specs.Cost.{cost_from, cost_of}
-use Rattle.csl.specs.Entries.{reading_of}
+use Rattle.csl.specs.Entries.{Forecast, no_breach, breach_at, untold, reading_of}
 use Rattle.csl.specs.Demand3.{costs_by}
 use Rattle.csl.specs.Build.{truth_of, yes', nothing, owes, simply, may, ifs, all', any', template_with, agreement}
 use Rattle.csl.specs.Build.{reading, mark, zeros, running_table, fulfilled_table, breached_table}
 use Rattle.csl.specs.Trials.{Trial, Seen, answers, becomes, counts, self, doubling, doubled, choosing, harness}
 use Rattle.csl.specs.Trials as trials
-use Rattle.csl.specs.Further.{shows, waits, owed, chosen, by, asking, next, main, calls, body, waiting, next'}
-use Rattle.csl.specs.Further.{either', laddered, ladder', bare, still}
+use Rattle.csl.specs.Further.{shows, owed, chosen, by, asking, next, main, calls, body, waiting, next'}
+use Rattle.csl.specs.Further.{either', laddered, bare, still}
 
 -- ---- forms of a trial
 -- an agreement started and given readings, by the rules: the number of each, and what it costs
@@ -49,8 +49,12 @@ takes n b cost = costs n b (reading 110 (pos 1) ∷ []) (each 0 cost [])
 unfoldable pub asked : List ℕ → List ℤ → List ℕ → Seen
 asked b us r = answers (reading_of b us r)
 
-unfoldable pub told : ℕ → ℕ → List ℤ → Seen
-told n cost us = answers (record { number = n; early = 0; cost = cost; table = us })
+-- with the forecast told
+unfoldable pub told : Forecast → ℕ → List ℤ → Seen
+told f cost us = answers (record { number = 0; forecast = f; early = 0; cost = cost; table = us })
+
+unfoldable pub denied : ℕ → ℕ → List ℤ → Seen
+denied n cost us = answers (record { number = n; forecast = untold; early = 0; cost = cost; table = us })
 
 -- ---- clauses
 -- an `and` of two obligations: three clauses
@@ -155,13 +159,14 @@ costing =
     (each 11 447 (each 10 0 (each 0 127 (each 0 0 []))))))))))
     ∷ shows "11 by the entry, with its cost"
     (asked doubling (running_table 106 106 (doubled 106 6)) (reading 107 (pos 0)) ∷ [])
-    (told 11 447 (running_table 106 106 (doubled 106 6)) ∷ [])
+    (denied 11 447 (running_table 106 106 (doubled 106 6)) ∷ [])
     ∷ shows "by the entry: a mark, a reading that is taken, fulfilled, breached; refused with 7, 8 and 10"
     (asked owe (untaken 105) (mark 110) ∷ asked owe (untaken 105) (reading 110 (pos 1))
     ∷ asked owe (fulfilled_table 105 105) (mark 110) ∷ asked owe (breached_table 161 161 160 1) (mark 170)
     ∷ asked owe zeros (mark 110) ∷ asked owe (untaken 105) [] ∷ asked owe (untaken 105) (mark 104) ∷ [])
-    (told 0 1 (untaken 110) ∷ told 0 2 (fulfilled_table 110 110) ∷ told 0 0 (fulfilled_table 110 105)
-    ∷ told 0 0 (breached_table 161 161 160 1) ∷ told 7 0 zeros ∷ told 8 0 (untaken 105) ∷ told 10 0 (untaken 105) ∷ [])
+    (told (breach_at 160 1) 1 (untaken 110) ∷ told no_breach 2 (fulfilled_table 110 110)
+    ∷ told no_breach 0 (fulfilled_table 110 105) ∷ told (breach_at 160 1) 0 (breached_table 161 161 160 1)
+    ∷ denied 7 0 zeros ∷ denied 8 0 (untaken 105) ∷ denied 10 0 (untaken 105) ∷ [])
     ∷ shows "fulfilled, and what cannot be activated, beside a side that follows; a stuck run"
     (or_late fulfilled ∷ or_late bad_clause ∷ or_late (if (number_lit (pos 1)) fulfilled fulfilled) ∷ or_late (calls 99)
     ∷ or_late (instance 0 (bad_expr ∷ []) []) ∷ counts (cost_of (laddered [] fulfilled) (still stuck) (mark 200)) ∷ [])

@@ -1,15 +1,16 @@
 -- The words of demand 3: readings that fit, what one of them reaches, and the run through a list of them.
 -- The claim itself stands in monitor/specs/Demand3, of calls of the entries; `soundness` proves what it rests on.
-use Rattle.std.specs.Prelude.{List, [], ◌∷◌, ◌≡◌, ℕ, T, ltb, ℤ, drop}
+use Rattle.std.specs.Prelude.{List, [], ◌∷◌, ◌≡◌, ℕ, zero, suc, T, ltb, ℤ, drop}
 use Rattle.std.proofs.Math.Option.{Option}
 use Rattle.csl.specs.Lists.{◌>>=◌, all, at}
 use Rattle.csl.specs.Syntax.{Agreement}
 use Rattle.csl.specs.Outcomes.{Outcome, done, breach, running, stuck, units}
 use Rattle.csl.specs.Rules.{Reading, follow}
 use Rattle.csl.specs.Table.{Run}
-use Rattle.csl.specs.Run.{raw_reading, typed_reading, step}
+use Rattle.csl.specs.Run.{Stepped, raw_reading, typed_reading, step}
 use Rattle.csl.specs.Early.{came_early, mark_of}
 use Rattle.csl.specs.Cost.{cost_of}
+use Rattle.csl.specs.Entries.{Forecast, untold, shown, forecast_run}
 
 unfoldable pub Bytes : List ℕ → Type 0
 Bytes bs = T (all (λ b. ltb b 256) bs)
@@ -71,3 +72,12 @@ marks_by a run (r ∷ rs) = mark_of (came_early a run r) ∷ marks_by a (step a 
 unfoldable pub costs_by : Agreement → Run → List (List ℕ) → List ℕ
 costs_by a run [] = []
 costs_by a run (r ∷ rs) = cost_of a run r ∷ costs_by a (step a run r).run rs
+
+-- paper 02, No. 2: the forecast that a step of the run tells, of the run that it leads to
+unfoldable pub told_by : Agreement → Stepped → Forecast
+told_by a s = elim s.number [ zero ↦ shown (forecast_run a s.run) | suc n ↦ untold ]
+
+-- and the one told with each reading
+unfoldable pub forecasts_by : Agreement → Run → List (List ℕ) → List Forecast
+forecasts_by a run [] = []
+forecasts_by a run (r ∷ rs) = told_by a (step a run r) ∷ forecasts_by a (step a run r).run rs

@@ -1,7 +1,7 @@
 -- Trials beyond P1 to P15, by computation, as one claim over a list: just enough that no line of a definition can be
 -- changed unseen. bench/mutants changes them; bench/MUTANTS.md says which trial refuses each change.
 -- All further trials are executed: crates/trials.
-use Rattle.std.specs.Prelude.{Bool, true, false, List, [], ◌∷◌, ◌++◌, map, ◌≡◌, refl, ℕ, zero, suc, ◌+◌, ◌*◌, ℤ, pos}
+use Rattle.std.specs.Prelude.{Bool, true, false, List, [], ◌∷◌, ◌++◌, map, ℕ, zero, suc, ◌+◌, ◌*◌, ℤ, pos}
 use Rattle.std.specs.Prelude.{negsuc, length, replicate, take}
 use Rattle.std.proofs.Math.Option.{Option, none, some}
 use Prim.Native.String.{String}
@@ -22,13 +22,13 @@ use Rattle.csl.specs.Rules.{activate}
 use Rattle.csl.specs.Widths.{narrow_all}
 use Rattle.csl.specs.Table.{Run, add_unit, cells_of, is_sort, table_of, run_of}
 use Rattle.csl.specs.Early.{wait_in, some_too_early, came_early}
-use Rattle.csl.specs.Entries.{refused_forecast, no_forecast, shown, start_of, reading_of, forecast_of, forecast_run}
+use Rattle.csl.specs.Entries.{breach_at, no_forecast, shown, start_of, reading_of, forecast_of, forecast_run}
 use Rattle.csl.specs.Build.{le2, le4, record_of, lit, truth_of, yes', party_of, var, opposite, op, nothing}
 use Rattle.csl.specs.Build.{owes_typed, owes, simply, may, may_typed, ifs, all', any', inst, reading_type_of}
 use Rattle.csl.specs.Build.{template_with, agreement_with, agreement, reading_with, reading, mark, sample, zeros}
 use Rattle.csl.specs.Build.{filled, unit_of, join_unit, flat, running_table, fulfilled_table}
 use Rattle.csl.specs.Trials.{Trial, Seen, checks, answers, forecasts, steps, reads, becomes, decides, evaluates}
-use Rattle.csl.specs.Trials.{holds, counts, gives, uncosted, unmarked, follows, live, fulfils, breaches, harness}
+use Rattle.csl.specs.Trials.{holds, counts, gives, denies, cells, uncosted, unmarked, follows, live, fulfils, breaches}
 
 -- ---- forms of a trial
 unfoldable pub shows : String → List Seen → List Seen → Trial
@@ -54,9 +54,8 @@ five = pos 5 ∷ []
 
 unfoldable pub refuses_all : String → ℕ → List ℕ → Trial
 refuses_all n k b = shows n
-    (checks (check_of b) ∷ answers (unmarked (start_of b five)) ∷ answers (reading_of b five []) ∷ forecasts
-    (forecast_of b five) ∷ [])
-    (says k 0 ∷ gives k five ∷ gives k five ∷ forecasts (refused_forecast k) ∷ [])
+    (checks (check_of b) ∷ answers (unmarked (start_of b five)) ∷ answers (reading_of b five []) ∷ [])
+    (says k 0 ∷ denies k five ∷ denies k five ∷ [])
 
 -- an agreement started and given readings, by the rules alone
 unfoldable pub steps_of : Agreement → Stepped → List (List ℕ) → List Seen
@@ -806,7 +805,7 @@ tables =
     ∷ alone' an_obligation 273 [] (7 ∷ 50 ∷ [])
     ∷ alone' a_choice 26 (0 ∷ 0 ∷ []) (9 ∷ [])
     ∷ reads none ∷ [])
-    ∷ shows "truths in cells" (gives 0 (cells_of (bool false ∷ bool true ∷ [])) ∷ []) (gives 0 (pos 0 ∷ pos 1 ∷ [])
+    ∷ shows "truths in cells" (cells (cells_of (bool false ∷ bool true ∷ [])) ∷ []) (cells (pos 0 ∷ pos 1 ∷ [])
     ∷ [])
     ∷ rejects "7: a state that is none"
     (set 0 (pos 0) good ∷ set 0 (pos 4) good ∷ set 0 (negsuc 0) good ∷ take 7 (full 100) ∷ [])
@@ -868,17 +867,14 @@ entries =
     (live 100 100 begun 160 3 ∷ live 110 110 (units' 20 21 (pos 7) 1 1 100) 160 2 ∷ [])
     ∷ shows "6: a cell too few and one too many"
     (answers (unmarked (start_of sample (take 3079 zeros))) ∷ answers (reading_of sample (take 3079 zeros) [])
-    ∷ forecasts (forecast_of sample (take 3079 zeros)) ∷ answers (unmarked (start_of sample (pos 1 ∷ zeros))) ∷ [])
-    (gives 6 (take 3079 zeros) ∷ gives 6 (take 3079 zeros) ∷ forecasts (refused_forecast 6) ∷ gives 6 (pos 1 ∷ zeros)
-    ∷ [])
+    ∷ answers (unmarked (start_of sample (pos 1 ∷ zeros))) ∷ [])
+    (denies 6 (take 3079 zeros) ∷ denies 6 (take 3079 zeros) ∷ denies 6 (pos 1 ∷ zeros) ∷ [])
     ∷ shows "a start whatever the table was, 7 before 8"
-    (answers (unmarked (start_of sample (set 0 (pos 9) zeros))) ∷ answers (reading_of sample zeros []) ∷ forecasts
-    (forecast_of sample zeros) ∷ [])
-    (gives 0 (running_table 100 100 (unit_of 17 17 100 [] [] ∷ [])) ∷ gives 7 zeros ∷ forecasts (refused_forecast 7)
-    ∷ [])
+    (answers (unmarked (start_of sample (set 0 (pos 9) zeros))) ∷ answers (reading_of sample zeros []) ∷ [])
+    (gives (breach_at 160 1) (running_table 100 100 (unit_of 17 17 100 [] [] ∷ [])) ∷ denies 7 zeros ∷ [])
     ∷ shows "11 at the start, 8 on a fulfilled table"
     (answers (unmarked (start_of crowd zeros)) ∷ answers (reading_of sample (fulfilled_table 120 100) []) ∷ [])
-    (gives 11 zeros ∷ gives 8 (fulfilled_table 120 100) ∷ [])
+    (denies 11 zeros ∷ denies 8 (fulfilled_table 120 100) ∷ [])
     ∷ []
 
 -- ---- when a run last moved: paper 02, No. 1
@@ -917,7 +913,8 @@ moved =
     ∷ shows "a unit replaced by its equal, and by one a minute later"
     (answers (uncosted (reading_of ever (running_table 120 105 (since 120)) (reading 120 (pos 1)))) ∷ answers
     (uncosted (reading_of ever (running_table 120 105 (since 120)) (reading 121 (pos 1)))) ∷ [])
-    (gives 0 (running_table 120 105 (since 120)) ∷ gives 0 (running_table 121 121 (since 121)) ∷ [])
+    (gives (breach_at 180 1) (running_table 120 105 (since 120)) ∷ gives (breach_at 181 1)
+    (running_table 121 121 (since 121)) ∷ [])
     ∷ shows "what has altered: the state cell, a unit cell"
     (map (λ t. holds (altered ten t)) unlike ++ map (λ t. holds (altered t ten)) unlike)
     (replicate 16 (holds true))
@@ -961,11 +958,13 @@ unreached =
     ∷ op' equal
     (party_lit 1) (truth_lit 1)
     ∷ evaluates (eval [] bad_expr) ∷ evaluates (eval [] (truth_lit 2)) ∷ []) (replicate 12 (evaluates none))
-    ∷ shows "a stuck run" (gives 0 (table_of (still stuck)) ∷ forecasts (shown stuck) ∷ forecasts
+    ∷ shows "a stuck run" (cells (table_of (still stuck)) ∷ forecasts (shown stuck) ∷ forecasts
     (shown (running left)) ∷ becomes (forecast_run (laddered [] fulfilled) (still stuck)) ∷ steps
     (step (laddered [] fulfilled) (still stuck) (mark 9)) done ∷ steps (started (laddered [] bad_clause)) done ∷ [])
-    (gives 0 [] ∷ forecasts no_forecast ∷ forecasts no_forecast ∷ becomes stuck ∷ steps
+    (cells [] ∷ forecasts no_forecast ∷ forecasts no_forecast ∷ becomes stuck ∷ steps
     (record { number = 0; run = still stuck }) done ∷ leads 0 100 100 stuck done ∷ [])
+    ∷ shows "the forecast of no agreement, and of no table"
+    (forecasts (forecast_of [] zeros) ∷ forecasts (forecast_of sample zeros) ∷ []) (replicate 2 (forecasts no_forecast))
     ∷ shows "fewer values than types" (holds (absent (values_of 2 (number ∷ []) [])) ∷ []) (holds true ∷ [])
     ∷ shows "a unit without cells" (holds (absent (add_unit (laddered [] fulfilled) [] [])) ∷ []) (holds true ∷ [])
     ∷ shows "a byte that is not there" (says (byte [] 0) 0 ∷ []) (says 0 0 ∷ [])

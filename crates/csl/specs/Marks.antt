@@ -8,7 +8,7 @@ use Rattle.csl.specs.Parties.{members, subset}
 use Rattle.csl.specs.Syntax.{Agreement}
 use Rattle.csl.specs.Rules.{Reading}
 use Rattle.csl.specs.Table.{padded, head_cells, table_length}
-use Rattle.csl.specs.Entries.{Forecast, refused_forecast, no_breach, breach_at, no_forecast}
+use Rattle.csl.specs.Entries.{Forecast, no_breach, breach_at, untold, no_forecast}
 use Rattle.csl.specs.Demand3.{fitting}
 
 -- "Reading type 0 is a time mark without values"
@@ -32,9 +32,9 @@ Breached cells = at cells 0 ≡ some (pos 3)
 unfoldable pub breach_table : ℕ → ℕ → ℕ → ℕ → List ℤ
 breach_table now moved t b = padded table_length (head_cells 3 now t b 0 moved)
 
--- no refusal: none, or a breach by at least one party, only by the main clause's, not before the start
+-- one is told: none, or a breach by at least one party, only by the main clause's, not before the start
 unfoldable pub ForecastFits : Agreement → List ℕ → Forecast → Type 0
-ForecastFits a mains (refused_forecast n) = ⊥
 ForecastFits a mains no_breach = Unit {0}
 ForecastFits a mains (breach_at t b) = (0 < b) × T (subset (members b) mains) × (a.start ≤ t)
+ForecastFits a mains untold = ⊥
 ForecastFits a mains no_forecast = ⊥

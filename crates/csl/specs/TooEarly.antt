@@ -1,6 +1,6 @@
 -- Trials of paper 02, No. 8, by computation, as one claim over a list: readings that came too early, and each condition
 -- of the mark failing.
-use Rattle.std.specs.Prelude.{Bool, true, false, List, [], ◌∷◌, ◌++◌, map, ◌≡◌, refl, ℕ, ℤ, pos, negsuc}
+use Rattle.std.specs.Prelude.{Bool, true, false, List, [], ◌∷◌, ◌++◌, map, ℕ, ℤ, pos, negsuc}
 use Prim.Native.String.{String}
 use Rattle.csl.specs.Syntax.{Agreement}
 use Rattle.csl.specs.Check.{CheckResult, refused, accepted, checked}
@@ -9,13 +9,13 @@ use Rattle.csl.specs.Values.{Val, num}
 use Rattle.csl.specs.Outcomes.{an_obligation, a_choice, Residue, unit, Outcome, done}
 use Rattle.csl.specs.Rules.{Reading}
 use Rattle.csl.specs.Early.{some_too_early, came_early}
-use Rattle.csl.specs.Entries.{start_of, reading_of}
+use Rattle.csl.specs.Entries.{breach_at, start_of, reading_of}
 use Rattle.csl.specs.Build.{lit, truth_of, yes', var, opposite, op, nothing, owes_typed, owes, simply, may, all'}
 use Rattle.csl.specs.Build.{any', inst, reading_type_of, template_with, agreement_with, agreement, reading_with}
 use Rattle.csl.specs.Build.{reading, mark, zeros, unit_of, join_unit, running_table}
 use Rattle.csl.specs.Trials.{Trial, Seen, Moment, answers, holds, counts, marks, uncosted, follows, live}
-use Rattle.csl.specs.Trials.{fulfils, refusing, harness}
-use Rattle.csl.specs.Further.{shows, steps_of, run_seen, obeys, leads, waits, owed, by, asking, next, main}
+use Rattle.csl.specs.Trials.{fulfils, refusing}
+use Rattle.csl.specs.Further.{shows, obeys, leads, waits, owed, by, asking, next, main}
 use Rattle.csl.specs.Further.{a_number, template, call, two}
 
 -- ---- forms of a trial
@@ -146,7 +146,7 @@ too_earlies =
     ∷ tells "11 where a unit is too early" crowding (reading 110 (pos 1) ∷ []) (refusing' 11 [])
     ∷ shows "what a late choice's else waits for is no unit of the table"
     (at_once (may yes' (pos 0) (negsuc 0) nothing (any' (soon yes') (simply 0 (pos 60)))) ∷ [])
-    (answers (marks 0 0 again) ∷ [])
+    (answers (marks 0 (breach_at 160 1) 0 again) ∷ [])
     ∷ shows "late, with a first later than the reading, and the same unit anew"
-    (at_once (may yes' (pos 30) (negsuc 30) nothing nothing) ∷ []) (answers (marks 0 1 again) ∷ [])
+    (at_once (may yes' (pos 30) (negsuc 30) nothing nothing) ∷ []) (answers (marks 0 (breach_at 160 1) 1 again) ∷ [])
     ∷ []

@@ -1,7 +1,7 @@
 -- Paper 01, "Pond trials": P1 to P15 by computation, as one claim over a list.
 -- What the entries and the run show is, in every number and cell, what stands beside it.
 -- The two are equal by computing, so no comparison is to be believed.
-use Rattle.std.specs.Prelude.{Bool, List, [], ◌∷◌, ◌++◌, map, ◌≡◌, refl, ℕ, zero, suc, ℤ, pos, negsuc}
+use Rattle.std.specs.Prelude.{Bool, List, [], ◌∷◌, ◌++◌, ℕ, zero, suc, ℤ, pos, negsuc}
 use Rattle.std.proofs.Math.Option.{Option}
 use Prim.Native.String.{String}
 use Rattle.csl.specs.Lists as Lists
@@ -30,8 +30,10 @@ use Rattle.csl.specs.Outcomes.{Outcome}
 use Rattle.csl.specs.Run.{Stepped, started, step}
 use Rattle.csl.specs.Table.{Run, table_of}
 use Rattle.csl.specs.Early.{came_early, mark_of}
-use Rattle.csl.specs.Entries.{Answer, ReadingAnswer, Forecast, no_breach, breach_at, start_of, reading_of}
-use Rattle.csl.specs.Entries.{forecast_of}
+use Rattle.csl.specs.Entries.{StartAnswer, ReadingAnswer, Forecast, no_breach, breach_at, untold, start_of}
+use Rattle.csl.specs.Entries.{reading_of}
+use Rattle.csl.specs.Demand3 as Demand3
+use Rattle.csl.specs.Demand3.{told_by}
 use Rattle.csl.specs.Build.{lit, yes', op, nothing, owes, simply, may, all', any', inst, template_with, agreement}
 use Rattle.csl.specs.Build.{reading, mark, sample, zeros, unit_of, join_unit, running_table, fulfilled_table}
 use Rattle.csl.specs.Build.{breached_table}
@@ -40,7 +42,7 @@ use Rattle.csl.specs.Build.{breached_table}
 unfoldable pub computes : Unit {0}
 unfolding Lists.computes Numbers.computes Bytes.computes Parties.computes Decode.computes Typing.computes
     Guards.computes Widths.computes Check.computes Values.computes Outcomes.computes Rules.computes Places.computes
-    Run.computes Early.computes Cost.computes Table.computes Entries.computes Build.computes
+    Run.computes Early.computes Cost.computes Table.computes Entries.computes Demand3.told_by Build.computes
 computes = tt
 
 -- ---- a trial: what is computed, and what it must be
@@ -63,72 +65,62 @@ pub record Trial : Type 0 where
   pub shown : List Seen
   pub expected : List Seen
 
--- a number, a mark and a table
-unfoldable pub marks : ℕ → ℕ → List ℤ → ReadingAnswer
-marks n early cells = record { number = n; early = early; cost = 0; table = cells }
+-- a number, a forecast, a mark and a table
+unfoldable pub marks : ℕ → Forecast → ℕ → List ℤ → ReadingAnswer
+marks n f early cells = record { number = n; forecast = f; early = early; cost = 0; table = cells }
 
 -- without what a reading costs, of which `Costs` has trials of its own
 unfoldable pub uncosted : ReadingAnswer → ReadingAnswer
-uncosted a = marks a.number a.early a.table
+uncosted a = marks a.number a.forecast a.early a.table
 
-unfoldable pub gives : ℕ → List ℤ → Seen
-gives n cells = answers (marks n 0 cells)
+-- accepted with a forecast, and refused
+unfoldable pub gives : Forecast → List ℤ → Seen
+gives f cells = answers (marks 0 f 0 cells)
+
+unfoldable pub denies : ℕ → List ℤ → Seen
+denies n cells = answers (marks n untold 0 cells)
+
+-- cells alone
+unfoldable pub cells : List ℤ → Seen
+cells us = denies 0 us
 
 -- a start's answer, which has no mark
-unfoldable pub unmarked : Answer → ReadingAnswer
-unmarked a = marks a.number 0 a.table
+unfoldable pub unmarked : StartAnswer → ReadingAnswer
+unmarked a = marks a.number a.forecast 0 a.table
 
 -- ---- an agreement started and given readings
--- by the entries, on the table that the one before left, with the forecast of each table
+-- by the entries, on the table that the one before left
 unfoldable pub by_entries : List ℕ → ReadingAnswer → List (List ℕ) → List Seen
-by_entries bytes a [] = answers (uncosted a) ∷ forecasts (forecast_of bytes a.table) ∷ []
-by_entries bytes a (r ∷ rs) = answers (uncosted a) ∷ forecasts (forecast_of bytes a.table) ∷ by_entries bytes
-    (reading_of bytes a.table r) rs
-
--- the same without the forecasts
-unfoldable pub by_readings : List ℕ → ReadingAnswer → List (List ℕ) → List Seen
-by_readings bytes a [] = answers (uncosted a) ∷ []
-by_readings bytes a (r ∷ rs) = answers (uncosted a) ∷ by_readings bytes (reading_of bytes a.table r) rs
+by_entries bytes a [] = answers (uncosted a) ∷ []
+by_entries bytes a (r ∷ rs) = answers (uncosted a) ∷ by_entries bytes (reading_of bytes a.table r) rs
 
 -- by the rules: no table is read
 unfoldable pub by_rules : Agreement → ℕ → Stepped → List (List ℕ) → List Seen
-by_rules ag early s [] = answers (marks s.number early (table_of s.run)) ∷ []
-by_rules ag early s (r ∷ rs) = answers (marks s.number early (table_of s.run)) ∷ by_rules ag
+by_rules ag early s [] = answers (marks s.number (told_by ag s) early (table_of s.run)) ∷ []
+by_rules ag early s (r ∷ rs) = answers (marks s.number (told_by ag s) early (table_of s.run)) ∷ by_rules ag
     (mark_of (came_early ag s.run r)) (step ag s.run r) rs
 
 unfoldable pub rules_of : CheckResult → List (List ℕ) → List Seen
 rules_of (refused n) rs = []
 rules_of (accepted ag ps) rs = by_rules ag 0 (started ag) rs
 
--- ---- a moment: a number, a mark, the table with them, and its forecast
+-- ---- a moment: a number, a mark, the table with them, and the forecast told
 pub record Moment : Type 0 where
   pub number : ℕ
   pub early : ℕ
   pub table : List ℤ
   pub forecast : Forecast
 
-unfoldable pub of_entries : List Moment → List Seen
-of_entries [] = []
-of_entries (m ∷ ms) = answers (marks m.number m.early m.table) ∷ forecasts m.forecast ∷ of_entries ms
-
-unfoldable pub of_rules : List Moment → List Seen
-of_rules [] = []
-of_rules (m ∷ ms) = answers (marks m.number m.early m.table) ∷ of_rules ms
+unfoldable pub of_moments : List Moment → List Seen
+of_moments [] = []
+of_moments (m ∷ ms) = answers (marks m.number m.forecast m.early m.table) ∷ of_moments ms
 
 unfoldable pub follows : String → List ℕ → List (List ℕ) → List Moment → Trial
 follows n bytes rs ms = record {
   name = n;
   shown = by_entries bytes (unmarked (start_of bytes zeros)) rs ++ rules_of
       (checked bytes) rs;
-  expected = of_entries ms ++ of_rules ms;
-}
-
-unfoldable pub grows : String → List ℕ → List (List ℕ) → List Moment → Trial
-grows n bytes rs ms = record {
-  name = n;
-  shown = by_readings bytes (unmarked (start_of bytes zeros)) rs ++ rules_of
-      (checked bytes) rs;
-  expected = of_rules ms ++ of_rules ms;
+  expected = of_moments ms ++ of_moments ms;
 }
 
 -- running: the last reading time, when it last moved, the units, and the forecast breach
@@ -151,9 +143,9 @@ breaches now moved t b = record {
   forecast = breach_at t b;
 }
 
--- the moment before, with a number
+-- the table of the moment before, with a number; no forecast is told
 unfoldable pub refusing : ℕ → Moment → Moment
-refusing n m = record { number = n; early = 0; table = m.table; forecast = m.forecast }
+refusing n m = record { number = n; early = 0; table = m.table; forecast = untold }
 
 -- an obligation and a choice that wait since A, with nothing in sight
 unfoldable pub owed : ℕ → ℕ → List ℤ
@@ -235,7 +227,7 @@ doubled a zero = owed 25 a ∷ []
 doubled a (suc n) = join_unit 20 ∷ (doubled a n ++ doubled a n)
 
 unfoldable pub p15 : Trial
-p15 = grows "P15" doubling (reading 101 (pos 0) ∷ reading 102 (pos 0) ∷ reading 103 (pos 0) ∷ reading 104 (pos 0)
+p15 = follows "P15" doubling (reading 101 (pos 0) ∷ reading 102 (pos 0) ∷ reading 103 (pos 0) ∷ reading 104 (pos 0)
     ∷ reading 105 (pos 0) ∷ reading 106 (pos 0) ∷ reading 107 (pos 0) ∷ [])
     (live 100 100 (doubled 100 0) 160 1
     ∷ live 101 101 (doubled 101 1) 161 1
@@ -251,7 +243,6 @@ trials = p1to4 ∷ p5and6 ∷ p7 ∷ p8 ∷ p9 ∷ p10 ∷ p11 ∷ p12a ∷ p12b
 
 -- what a proof by computation unfolds
 unfoldable pub harness : Unit {0}
-unfolding computes marks uncosted gives unmarked by_entries by_readings by_rules rules_of of_entries of_rules follows
-    grows
-    live fulfils breaches refusing owed chosen
+unfolding computes marks uncosted gives denies cells unmarked by_entries by_rules rules_of of_moments follows live
+    fulfils breaches refusing owed chosen
 harness = tt

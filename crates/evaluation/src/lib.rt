@@ -1,7 +1,8 @@
 // The value of an expression, over the bytes of an agreement and cells.
 #![tactic(auto)]
 
-ghost use Rattle.std.specs.Prelude.{◌≡◌, ◌≤◌};
+ghost use Rattle.std.specs.Prelude.{◌≡◌, true, ◌≤◌, ◌<◌};
+ghost use Rattle.csl.specs.Bytes.{is_record, kind_number};
 ghost use Rattle.csl.specs.Numbers.{Held};
 ghost use Rattle.csl.specs.Decode.{expr};
 ghost use Rattle.records.specs.Kinds.{op_of};
@@ -52,29 +53,40 @@ fn leaf(s: &[u8], kind: usize, values: &[i64]) -> Number
     }
 }
 
-// The value of an expression as a number, which knows that it is held.
+// The value of an expression as a number, which knows that it is held. (Inline: a literal then costs no call.)
+#[cycle(expression)]
+#[inline(always)]
 fn number(s: &[u8], values: &[i64], depth: usize) -> Number
     ensures { result ≡ eval_cells values.now (expr depth s.now) }
 {
     if depth == 0 || !is_record(s) {
         return Number::held(0);
     }
-    let d = depth - 1;
     let k = kind(s);
     match k {
         32..=35 => leaf(s, k, values),
-        36 => {
-            let x = number(&s[4..], values, d);
-            Number::from(!holds(x))
-        }
-        37..=43 => {
-            let cut = record_end(s, 4);
-            let x = number(&s[4..cut], values, d);
-            let y = number(&s[cut..], values, d);
-            operate(k, x, y)
-        }
+        36..=43 => compound(s, k, values, depth),
         _ => Number::held(0),
     }
+}
+
+// The same of kinds 36 to 43, which have expressions within: in the compiled code it alone calls itself.
+#[cycle(expression)]
+#[inline(never)]
+fn compound(s: &[u8], kind: usize, values: &[i64], depth: usize) -> Number
+    requires record { (1 ≤ depth) × (is_record s.now ≡ true) }
+    requires kind { (kind ≡ kind_number s.now) × (36 ≤ kind) × (kind < 44) }
+    ensures { result ≡ eval_cells values.now (expr depth s.now) }
+{
+    let d = depth - 1;
+    if kind == 36 {
+        let x = number(&s[4..], values, d);
+        return Number::from(!holds(x));
+    }
+    let cut = record_end(s, 4);
+    let x = number(&s[4..cut], values, d);
+    let y = number(&s[cut..], values, d);
+    operate(kind, x, y)
 }
 
 // The value of an expression, truths being 0 and 1.

@@ -4,8 +4,12 @@
 
 ghost use Rattle.std.specs.Prelude.{◌≡◌};
 ghost use Rattle.csl.specs.Check.{CheckAnswer, check_of};
-ghost use Rattle.csl.specs.Entries.{Answer, ReadingAnswer, start_of, reading_of, forecast_of};
-ghost use Rattle.givuntha.specs.Numbers.{ForecastNumbers, forecast_numbers};
+ghost use Rattle.csl.specs.Entries.{untold, start_of, reading_of};
+ghost use Rattle.monitor.specs.Answers.{ahead_told, number_of};
+ghost use Rattle.givuntha.specs.Numbers.{ForecastNumbers, StartNumbers, ReadingNumbers};
+ghost use Rattle.givuntha.specs.Numbers.{forecast_numbers, start_numbers, reading_numbers};
+
+use monitor::{BreachAhead, Refusal};
 
 pub fn givuntha_check(agreement: &[u8], parties: &mut u64) -> u32
     ensures { record { number = result; parties = parties.new } ≡ check_of agreement.now }
@@ -22,12 +26,34 @@ pub fn givuntha_check(agreement: &[u8], parties: &mut u64) -> u32
     }
 }
 
-pub fn givuntha_start(agreement: &[u8], table: &mut [i64]) -> u32
-    ensures { record { number = result; table = table.new } ≡ start_of agreement.now table.old }
+// Gives an accepted call's forecast: the time of the breach ahead and its parties by bit, or zeros where there is none.
+fn accept(ahead: Option<BreachAhead>, time: &mut u64, parties: &mut u64) -> u32
+    ensures number { result ≡ 0 }
+    ensures forecast { record { time = time.new; parties = parties.new } ≡ forecast_numbers (ahead_told ahead) }
+{
+    (*time, *parties) = match ahead {
+        Some(breach) => (breach.time, breach.parties as u64),
+        None => (0, 0),
+    };
+    0
+}
+
+// Gives a refusal's zeros.
+fn refuse(why: Refusal, time: &mut u64, parties: &mut u64) -> u32
+    ensures number { result ≡ number_of why }
+    ensures forecast { record { time = time.new; parties = parties.new } ≡ forecast_numbers untold }
+{
+    (*time, *parties) = (0, 0);
+    why.into()
+}
+
+pub fn givuntha_start(agreement: &[u8], table: &mut [i64], time: &mut u64, parties: &mut u64) -> u32
+    ensures { record { number = result; time = time.new; parties = parties.new; table = table.new }
+        ≡ start_numbers (start_of agreement.now table.old) }
 {
     match monitor::start(agreement, table) {
-        Ok(()) => 0,
-        Err(why) => why.into(),
+        Ok(ahead) => accept(ahead, time, parties),
+        Err(why) => refuse(why, time, parties),
     }
 }
 
@@ -35,40 +61,31 @@ pub fn givuntha_reading(
     agreement: &[u8],
     table: &mut [i64],
     reading: &[u8],
+    time: &mut u64,
+    parties: &mut u64,
     early: &mut u64,
     cost: &mut u64,
 ) -> u32
-    ensures { record { number = result; early = early.new; cost = cost.new; table = table.new }
-        ≡ reading_of agreement.now table.old reading.now }
+    ensures { record {
+      number = result;
+      time = time.new;
+      parties = parties.new;
+      early = early.new;
+      cost = cost.new;
+      table = table.new;
+    } ≡ reading_numbers (reading_of agreement.now table.old reading.now) }
 {
     match monitor::reading(agreement, table, reading) {
         Ok(taken) => {
             *early = u64::from(taken.early);
             *cost = taken.cost as u64;
-            0
+            accept(taken.ahead, time, parties)
         }
         Err(refused) => {
             *early = 0;
             *cost = refused.cost as u64;
-            refused.why.into()
+            refuse(refused.why, time, parties)
         }
-    }
-}
-
-pub fn givuntha_forecast(agreement: &[u8], table: &[i64], time: &mut u64, parties: &mut u64) -> u32
-    ensures { record { number = result; time = time.new; parties = parties.new }
-        ≡ forecast_numbers (forecast_of agreement.now table.now) }
-{
-    *time = 0;
-    *parties = 0;
-    match monitor::forecast(agreement, table) {
-        Ok(None) => 0,
-        Ok(Some(breach)) => {
-            *time = breach.time;
-            *parties = breach.parties as u64;
-            0
-        }
-        Err(why) => why.into(),
     }
 }
 

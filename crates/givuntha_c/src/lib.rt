@@ -3,8 +3,8 @@
 
 ghost use Rattle.std.specs.Prelude.{◌≡◌};
 ghost use Rattle.csl.specs.Check.{CheckAnswer, check_of};
-ghost use Rattle.csl.specs.Entries.{Answer, ReadingAnswer, start_of, reading_of, forecast_of};
-ghost use Rattle.givuntha.specs.Numbers.{ForecastNumbers, forecast_numbers};
+ghost use Rattle.csl.specs.Entries.{start_of, reading_of};
+ghost use Rattle.givuntha.specs.Numbers.{StartNumbers, ReadingNumbers, start_numbers, reading_numbers};
 
 #[unsafe(no_mangle)]
 pub extern "C" fn givuntha_check(agreement: &[u8], parties: &mut u64) -> u32
@@ -14,10 +14,16 @@ pub extern "C" fn givuntha_check(agreement: &[u8], parties: &mut u64) -> u32
 }
 
 #[unsafe(no_mangle)]
-pub extern "C" fn givuntha_start(agreement: &[u8], table: &mut [i64]) -> u32
-    ensures { record { number = result; table = table.new } ≡ start_of agreement.now table.old }
+pub extern "C" fn givuntha_start(
+    agreement: &[u8],
+    table: &mut [i64],
+    time: &mut u64,
+    parties: &mut u64,
+) -> u32
+    ensures { record { number = result; time = time.new; parties = parties.new; table = table.new }
+        ≡ start_numbers (start_of agreement.now table.old) }
 {
-    givuntha::givuntha_start(agreement, table)
+    givuntha::givuntha_start(agreement, table, time, parties)
 }
 
 #[unsafe(no_mangle)]
@@ -25,26 +31,21 @@ pub extern "C" fn givuntha_reading(
     agreement: &[u8],
     table: &mut [i64],
     reading: &[u8],
+    time: &mut u64,
+    parties: &mut u64,
     early: &mut u64,
     cost: &mut u64,
 ) -> u32
-    ensures { record { number = result; early = early.new; cost = cost.new; table = table.new }
-        ≡ reading_of agreement.now table.old reading.now }
+    ensures { record {
+      number = result;
+      time = time.new;
+      parties = parties.new;
+      early = early.new;
+      cost = cost.new;
+      table = table.new;
+    } ≡ reading_numbers (reading_of agreement.now table.old reading.now) }
 {
-    givuntha::givuntha_reading(agreement, table, reading, early, cost)
-}
-
-#[unsafe(no_mangle)]
-pub extern "C" fn givuntha_forecast(
-    agreement: &[u8],
-    table: &[i64],
-    time: &mut u64,
-    parties: &mut u64,
-) -> u32
-    ensures { record { number = result; time = time.new; parties = parties.new }
-        ≡ forecast_numbers (forecast_of agreement.now table.now) }
-{
-    givuntha::givuntha_forecast(agreement, table, time, parties)
+    givuntha::givuntha_reading(agreement, table, reading, time, parties, early, cost)
 }
 
 // The version: 10,000 times its first number, 100 times its second, and its third.

@@ -1,6 +1,6 @@
 -- Texts put one after another are put together, and where there is room for all of a text all of it is put.
 use mathlib.Core.Path.{◌≡◌, refl, sym, ap, ap₂, ◌∙◌}
-use mathlib.Core.List.{List, [], ◌∷◌, ◌++◌, append_assoc, append-nil}
+use mathlib.Core.List.{List, [], ◌∷◌, ◌++◌, append_assoc}
 use Prim.Native.Nat.{ℕ, zero, suc, ◌+◌, ◌-◌, ◌≤◌, min}
 use native.Mathlib.Omega.{arith}
 use borrow.Rule.Slice.PartMut.{put_mid, same_len_mid}
@@ -29,11 +29,6 @@ put_put p s t =
 
 pub then : (p : OnPage) (s t : List ℕ) {q r : OnPage} → q ≡ put p s → r ≡ put q t → r ≡ put p (s ++ t)
 then p s t e f = f ∙ ap (λ l. put l t) e ∙ put_put p s t
-
-pub put_none : (p : OnPage) → put p [] ≡ p
-unfolding put
-put_none p = ap (λ l. record { text = l; capacity = p.capacity })
-    (ap (λ l. p.text ++ l) (take_all (p.capacity - length p.text) [] (omega arith)) ∙ append-nil p.text)
 
 pub put_all : (p : OnPage) (t : List ℕ) → length p.text + length t ≤ p.capacity
     → put p t ≡ record { text = p.text ++ t; capacity = p.capacity }

@@ -28,6 +28,7 @@ use Rattle.monitor.specs.Calls.{Call, cost_in, number_in}
 use Rattle.monitor.specs.Cost.{CostClaim, Costs}
 use Rattle.monitor.proofs.Calls.{Called, Sound, called, shown}
 use Rattle.monitor.proofs.Early.{running_cell}
+use Rattle.monitor.proofs.Joined.{part_of}
 use Rattle.monitor.proofs.Opens.{by_run}
 
 -- ---- the units in use, in the head of a run's table
@@ -71,8 +72,8 @@ module _ (s : List ℕ) (us : List ℤ) (one : Call)
   costs : Costs s us one
   unfolding cost_in number_in answered
   costs = by_run s us
-      (λ n more few reads told.
-      let is = meets ∙ reads one.bytes in
+      (λ n more few reads.
+      let is = part_of s us one.bytes meets ∙ reads one.bytes in
       let free : cost_in one ≡ 0 = ap (λ x. x.cost) is in
       let number : number_in one ≡ n = ap (λ x. x.number) is in
       record {

@@ -1,9 +1,8 @@
 -- Demand 3 holds: the table that each call is given is the run's (`Calls`), and of one more reading the run says all
 -- that is claimed.
 use mathlib.Core.Path.{◌≡◌, refl, sym, ap, ◌∙◌}
-use mathlib.Core.List.{List, ◌∷◌, ◌++◌}
+use mathlib.Core.List.{List, [], ◌∷◌, ◌++◌}
 use mathlib.Core.Option.{some}
-use Rattle.std.specs.Prelude.{Ok, Err}
 use Prim.Native.Nat.{ℕ}
 use native.Mathlib.Omega.{arith}
 use lib.IntN.{ℤ, pos}
@@ -12,30 +11,30 @@ use Rattle.csl.specs.Lists.{at}
 use Rattle.csl.specs.Syntax.{Agreement}
 use Rattle.csl.specs.Decode.{agreement_of}
 use Rattle.csl.specs.Check.{checked, accepted}
-use Rattle.csl.specs.Run.{started}
+use Rattle.csl.specs.Run.{started, step}
 use Rattle.csl.specs.Table.{Run, run_of, table_of}
-use Rattle.csl.specs.Entries.{start_of}
-use Rattle.csl.specs.Demand3.{AllBytes, Bytes}
+use Rattle.csl.specs.Entries.{begun_of, forecast_of, forecast_run, shown, start_of, told_of}
+use Rattle.csl.specs.Demand3.{AllBytes, Bytes, run_after, told_by}
 use Rattle.soundness.proofs.Checked.{passed}
 use Rattle.soundness.proofs.CostBound.{run_cost}
+use Rattle.soundness.proofs.Marks.{forecast_shows, told_more, told_zero}
 use Rattle.soundness.proofs.Runs.{CaseOf, case_of, not_stuck, start_is, table_typed, written_number, written_zero}
 use Rattle.soundness.proofs.Demand3.{after_inv, moved_cell_lem, start_inv, start_moved, start_unbreached, step_eleven}
 use Rattle.soundness.proofs.Demand3.{step_final, step_moves, step_refused, step_shows, step_stays, step_taken}
 use Rattle.monitor.specs.Answers.{Started, start_answer}
 use Rattle.monitor.specs.Calls.{Call, Calls, readings_in}
 use Rattle.monitor.specs.Demand3.{Begins, Demand3, IsStarted, Upheld, run_by}
-use Rattle.monitor.proofs.Apart.{start_told, told}
 use Rattle.monitor.proofs.Calls.{Found, Sound, found, inv_at, runs}
 use Rattle.monitor.proofs.Early.{early_is, unaltered_in}
+use Rattle.monitor.proofs.Joined.{begun_table}
 use Rattle.monitor.proofs.Opens.{by_table}
 
--- a start that carries 0 has begun
-begun_is : (r : Started) (us : List ℤ) → (start_answer r us).number ≡ 0 → r ≡ Ok tt
-begun_is r us e = sym (start_told r us) ∙ ap (told (Ok tt) Err) e
-
-table_left_lem : (r : Started) (us : List ℤ) → (start_answer r us).table ≡ us
-table_left_lem (Ok begun) us = refl
-table_left_lem (Err w) us = refl
+-- the run after one call more
+run_next : (a : Agreement) (q : Run) (before : List Call) (one : Call)
+    → run_after a q (readings_in (before ++ (one ∷ []))) ≡ (step a (run_after a q (readings_in before)) one.bytes).run
+unfolding run_after readings_in
+run_next a q [] one = refl
+run_next a q (c ∷ before) one = run_next a (step a q c.bytes).run before one
 
 module _ (s : List ℕ) (lent : List ℤ) (a : Agreement) (mains : List ℕ) (st : IsStarted s lent a mains)
     (r : Started) (us : List ℤ) (start : start_answer r us ≡ start_of s lent) (hs : Bytes s) where
@@ -45,16 +44,26 @@ module _ (s : List ℕ) (lent : List ℤ) (a : Agreement) (mains : List ℕ) (st
   ck : checked s ≡ accepted a mains
   ck = st.is_accepted
 
-  begins_zero : start_of s lent ≡ record { number = 0; table = table_of run }
+  begun_zero : begun_of s lent ≡ record { number = 0; table = table_of run }
   unfolding run
-  begins_zero = start_is s a mains ck lent st.not_six ∙ written_zero lent (started a) st.not_eleven
+  begun_zero = start_is s a mains ck lent st.not_six ∙ written_zero lent (started a) st.not_eleven
+
+  begins_zero : start_of s lent ≡ record { number = 0; forecast = forecast_of s (table_of run); table = table_of run }
+  unfolding start_of told_of
+  begins_zero = ap (λ x. record { number = x.number; forecast = told_of s x.number x.table; table = x.table })
+      begun_zero
 
   us_is : us ≡ table_of run
-  us_is = sym (table_left_lem r us) ∙ ap (λ x. x.table) (start ∙ begins_zero)
+  us_is = sym (begun_table r us) ∙ ap (λ x. x.table) (start ∙ begins_zero)
 
   run_inv : Sound s a mains ck run
   unfolding run
   run_inv = start_inv s a mains ck hs st.not_eleven
+
+  begun_told : (start_answer r us).forecast ≡ told_by a (started a)
+  unfolding run
+  begun_told = ap (λ x. x.forecast) (start ∙ begins_zero) ∙ forecast_shows s a mains ck run run_inv
+      ∙ sym (told_zero a (started a) st.not_eleven)
 
   -- when a run last moved, in the cells of its table
   cell_five : {cells : List ℤ} {q : Run} → cells ≡ table_of q → Sound s a mains ck q
@@ -82,7 +91,7 @@ module _ (s : List ℕ) (lent : List ℤ) (a : Agreement) (mains : List ℕ) (st
         record {
           never_stuck = λ before later e. not_stuck a mains _ _
               (inv_at s a mains ck run us us_is run_inv calls hr cs before later e).good;
-          begun = begun_is r us (ap (λ x. x.number) (start ∙ begins_zero));
+          begun = ap (λ x. x.number) (start ∙ begins_zero);
           numbers = whole.numbers;
           cells = ap length whole.table ∙ typed.0;
           well_typed = (typed.1.0, ap (run_of a mains) whole.table ∙ typed.1.1);
@@ -104,6 +113,13 @@ module _ (s : List ℕ) (lent : List ℤ) (a : Agreement) (mains : List ℕ) (st
               cell_five f.0.left f.0.next
               ∙ ap (λ m. some (pos m)) (step_moves a (run_by a before) one.bytes f.1
               (λ u. h (unaltered_in (sym f.0.table) (sym f.0.left) u)));
+          begun_ahead = begun_told;
+          forecasts = whole.forecasts;
+          ahead = λ before one later e z. let f = (at_call before one later e).0 in
+              f.forecast ∙ told_zero a _ (sym f.number ∙ z)
+              ∙ ap (λ q. shown (forecast_run a q)) (sym (run_next a run before one));
+          untold = λ before one later e nz. let f = (at_call before one later e).0 in
+              f.forecast ∙ told_more a _ (λ z. nz (f.number ∙ z));
           marks = whole.marks;
           early = λ before one later e. let f = (at_call before one later e).0 in
               early_is a (run_by a before) _ one f.table f.number f.left f.early;
@@ -125,8 +141,8 @@ unfolding Demand3
 demand3 s lent a mains r us calls hs hr st start cs = upheld s lent a mains st r us start hs calls hr cs
 
 pub begins : Begins
-unfolding Begins
-begins s lent us start = by_table s lent
+unfolding Begins start_of
+begins s lent us ahead start = by_table s lent
     (λ n more few x. let z : n ≡ 0 = sym (ap (λ y. y.number) x.start) ∙ zero in absurd (omega arith))
     (λ mains ck l. (
       agreement_of s,
@@ -139,5 +155,5 @@ begins s lent us start = by_table s lent
       },
     ))
   where
-    zero : (start_of s lent).number ≡ 0
+    zero : (begun_of s lent).number ≡ 0
     zero = sym (ap (λ x. x.number) start)

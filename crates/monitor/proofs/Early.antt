@@ -30,6 +30,7 @@ use Rattle.monitor.specs.Answers.{TakenOrRefused, taken_answer}
 use Rattle.monitor.specs.Calls.{Call, early_in, number_in}
 use Rattle.monitor.specs.Early.{CameEarly, EarlyClaim, TooEarly}
 use Rattle.monitor.proofs.Calls.{called, shown}
+use Rattle.monitor.proofs.Joined.{part_of}
 use Rattle.monitor.proofs.Opens.{by_run}
 
 -- ---- a mark that is 1
@@ -120,8 +121,8 @@ module _ (s : List ℕ) (us : List ℤ) (one : Call)
   early_iff : (early_in one ≡ 1) ↔ CameEarly s us one
   unfolding early_in number_in answered
   early_iff = by_run s us
-      (λ n more few reads told.
-      let is = meets ∙ reads one.bytes in (
+      (λ n more few reads.
+      let is = part_of s us one.bytes meets ∙ reads one.bytes in (
         λ h. let z : ◌≡◌ {A = ℕ} 0 1 = sym (ap (λ x. x.early) is) ∙ h in absurd (omega arith),
         λ x. let z : n ≡ 0 = sym (ap (λ y. y.number) is) ∙ x.too_early.is_accepted in absurd (omega arith),
       ))

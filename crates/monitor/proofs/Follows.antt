@@ -26,11 +26,11 @@ use Rattle.csl.specs.Table as csl
 use Rattle.csl.specs.Table.{table_of, table_length, padded, head_cells, nat_cells, cells_of}
 use Rattle.csl.specs.Early.{mark_of}
 use Rattle.csl.specs.Cost.{total}
-use Rattle.csl.specs.Entries.{ReadingAnswer, answered, reading_of}
+use Rattle.csl.specs.Entries.{ReadAnswer, answered, read_of, reading_of}
 use Rattle.csl.specs.Demand3.{fitting}
 use Rattle.soundness.proofs.Checked.{passed}
 use Rattle.soundness.proofs.CostBound.{cost_of_units}
-use Rattle.soundness.proofs.Readings.{reading_ok}
+use Rattle.soundness.proofs.Readings.{fitting_time, reading_ok}
 use Rattle.soundness.proofs.Runs.{is_fair, run_at}
 use Rattle.soundness.proofs.Walks.{Fair}
 use Rattle.soundness.proofs.ReadBack.{table_back}
@@ -66,16 +66,20 @@ use Rattle.state.specs.declared.State.{State}
 use Rattle.state.specs.declared.State.TheVariants.{Running, Fulfilled, Breached}
 use Rattle.monitor.specs.declared.Refusal.TheVariants.{ReadingTime}
 use Rattle.monitor.specs.declared.Refusal.TheVariants.{Units as tooManyUnits}
-use Rattle.monitor.specs.Answers.{taken_answer}
 use Rattle.reduction.specs.Steps.{UnitsDue, Due, reckoned, reduced}
 use Rattle.reduction.specs.Steps.{advanced, cost_in, Advances}
 use Rattle.reduction.specs.declared.TooMany.{TooMany}
 use Rattle.reduction.specs.declared.Wrote.{Wrote}
+use Rattle.monitor.specs.declared.Followed.{Followed}
+use Rattle.monitor.proofs.Leaves.{reading_leaves}
 use Rattle.monitor.proofs.Begins.{short}
 use Rattle.monitor.proofs.Opens.{opened_as}
 use Rattle.reduction.proofs.Advances.{behind_head}
 use Rattle.reduction.proofs.Tabled.{founds, flat_sighted, has_tree}
-use Rattle.monitor.specs.Steps.{Opened, why_misfit, Fitted, SomeReading, ReadAs, some_later, Judged}
+use Rattle.monitor.specs.Steps.{Opened, why_misfit, Fitted, SomeReading, ReadAs, some_later, Judged, read_answer}
+use Rattle.monitor.specs.Steps.{Shown}
+use Rattle.monitor.specs.Answers.{taken_answer}
+use Rattle.monitor.proofs.Joined.{reading_err, reading_ok as told_ok}
 
 fits_as : {s bytes : List ℕ} {r : Reading} (f : FittingRead s bytes r) → fitting (agreement_of s) bytes ≡ some f.reading
 unfolding fitting ◌>>=◌
@@ -132,7 +136,7 @@ later_by : (s : List ℕ) (us : List ℤ) {a bytes : List ℕ} {r : Reading} (f 
     ≡ some_open_later r.time r.tag r.values.items s n sights us
 later_by s us f e g = rw (e, g, f.time, f.type, f.cells) refl
 
-abbrev replied : List ℤ → cells.Reckoned → ℕ → ℕ → Bool → ReadingAnswer
+abbrev replied : List ℤ → cells.Reckoned → ℕ → ℕ → Bool → ReadAnswer
 replied us x time n later =
     answered (mark_of (early_cells n us x.outcome later)) (total x.tally) (kept_cells time n us x.outcome)
 
@@ -188,7 +192,7 @@ module _ {s : List ℕ} {us : List ℤ} {sights : List Sight} {n : ℕ} (o : Ope
     record Given : Type 0 where
       given : cells.Reckoned
       is : table.across (mode_of r) s n (flat sights) (drop 8 us) ≡ given ∷ []
-      reads : reading_of s us bytes ≡ replied us given r.time n (later r)
+      reads : read_of s us bytes ≡ replied us given r.time n (later r)
       small : total given.tally ≤ most_counted
       marks : r.tag ≡ 0 → later r ≡ false
 
@@ -246,7 +250,7 @@ module _ {s : List ℕ} {us : List ℤ} {sights : List Sight} {n : ℕ} (o : Ope
 
       -- the mark is the one judged on cells
       reads_as : answered (mark_of (early_cells n us (reduced s sights us n e) (later rr.now))) (cost_in r)
-          (advanced r left) ≡ reading_of s us bytes
+          (advanced r left) ≡ read_of s us bytes
       reads_as =
           ap₂ (λ x y. answered (mark_of (early_cells n us x.outcome (later rr.now))) (cost_in r) y)
           follows_as (a.is ∙ ap (λ x. kept_cells rr.now.time n us x.outcome) follows_as)
@@ -332,12 +336,16 @@ module _ {s : List ℕ} {us : List ℤ} {sights : List Sight} {state : State} (o
   abbrev shown : SomeRun s us
   shown = some_run s us sights state o.shows
 
+  read_refused : (m : Misfit) → TakenIs s bytes (Err m)
+      → read_answer (Err (record { why = why_misfit m; cost = 0 })) us ≡ read_of s us bytes
+  unfolding answered
+  read_refused Malformed f = sym (reading_eight s (mains_of s) (ck o) us l shown.run shown.is bytes f)
+  read_refused Untyped f = sym (reading_nine s (mains_of s) (ck o) us l shown.run shown.is bytes f.raw f.is
+      f.untyped)
+
   pub read_misfit : (m : Misfit) → TakenIs s bytes (Err m)
       → taken_answer (Err (record { why = why_misfit m; cost = 0 })) us ≡ reading_of s us bytes
-  unfolding answered
-  read_misfit Malformed f = sym (reading_eight s (mains_of s) (ck o) us l shown.run shown.is bytes f)
-  read_misfit Untyped f = sym (reading_nine s (mains_of s) (ck o) us l shown.run shown.is bytes f.raw f.is
-      f.untyped)
+  read_misfit m f = reading_err s us us bytes (record { why = why_misfit m; cost = 0 }) (read_refused m f)
 
   module _ {r : Reading} (f : FittingRead s bytes r) {z : ℤ} (ez : z ≡ get_or us 1 (pos 0)) where
     -- the time of the last reading, as the code compares
@@ -347,8 +355,9 @@ module _ {s : List ℕ} {us : List ℤ} {sights : List Sight} {state : State} (o
     pub read_ten : lt_z (to_z w64 r.time) z ≡ true
         → taken_answer (Err (record { why = ReadingTime; cost = 0 })) us ≡ reading_of s us bytes
     unfolding answered
-    read_ten t = sym (reading_ten s (mains_of s) (ck o) us l shown.run shown.is bytes f.reading (fits_as f)
-        (omega (arith, ltb-true r.time shown.run.last_time (sym earlier ∙ t), f.time)))
+    read_ten t = reading_err s us us bytes (record { why = ReadingTime; cost = 0 })
+        (sym (reading_ten s (mains_of s) (ck o) us l shown.run shown.is bytes f.reading (fits_as f)
+        (omega (arith, ltb-true r.time shown.run.last_time (sym earlier ∙ t), f.time))))
 
     pub read_fitted : lt_z (to_z w64 r.time) z ≡ false → Fitted s bytes us r
     read_fitted t = record {
@@ -360,6 +369,15 @@ module _ {s : List ℕ} {us : List ℤ} {sights : List Sight} {state : State} (o
       );
     }
 
+  -- a reading that is followed leaves a table that shows a run
+  module _ {r : Reading} (f : Fitted s bytes us r) (a : Followed) (left : List ℤ)
+      (e : read_answer (Ok a) left ≡ read_of s us bytes) where
+    pub read_shows : Shown s left
+    read_shows =
+        let x = f.fits in
+        let time = fitting_time (agreement_of s) bytes x.reading (fits_as x) in
+        reading_leaves o.accepted us l (shown.run, shown.is) bytes (omega (arith, x.small, x.time, time)) a left e
+
 -- ---- what the methods' goals need
 pub ruleset lending = (behind_head, length-take)
 
@@ -367,4 +385,4 @@ pub ruleset asking = (short, tree_taken, taken_open)
 
 pub ruleset stepping = (follow_due, follow_no, follow_yes, judge_due, read_done, read_breached, opened_as)
 
-pub ruleset judging = (time_fits, read_misfit, read_ten, read_fitted)
+pub ruleset judging = (time_fits, read_misfit, read_ten, read_fitted, read_shows, told_ok)

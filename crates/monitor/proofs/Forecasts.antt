@@ -3,25 +3,31 @@
 use mathlib.Core.Path.{◌≡◌, refl, sym, ap, subst, ◌∙◌}
 use mathlib.Core.List.{List, [], ◌∷◌, ◌++◌}
 use mathlib.Core.Logic.{inl, inr, ◌⊎◌}
+use mathlib.Core.Option.{some}
 use Prim.Native.Nat.{ℕ, ◌<◌}
+use native.Mathlib.Omega.{arith}
 use lib.Dec.{T}
 use lib.IntN.{ℤ}
 use Rattle.csl.specs.Parties.{bits_of, members, subset}
 use Rattle.csl.specs.Syntax.{Agreement}
 use Rattle.csl.specs.Check.{checked, accepted}
 use Rattle.csl.specs.Outcomes.{Outcome, breach, done, running, stuck}
-use Rattle.csl.specs.Run.{step}
-use Rattle.csl.specs.Table.{Run, table_of}
-use Rattle.csl.specs.Entries.{Forecast, breach_at, forecast_of, forecast_run, no_breach, shown}
-use Rattle.csl.specs.Demand3.{AllBytes, IsBreach, run_after}
+use Rattle.csl.specs.Decode.{agreement_of}
+use Rattle.csl.specs.Run.{started, step}
+use Rattle.csl.specs.Table.{Run, run_of, table_of}
+use Rattle.csl.specs.Entries.{Forecast, begun_of, breach_at, forecast_of, forecast_run, no_breach, reading_of, shown}
+use Rattle.csl.specs.Entries.{answered, start_of, told_of}
+use Rattle.csl.specs.Demand3.{AllBytes, Bytes, IsBreach, run_after}
 use Rattle.csl.specs.Marks.{Breached, ForecastFits, breach_table, time_in}
-use Rattle.soundness.proofs.Runs.{run_at, step_inv}
-use Rattle.soundness.proofs.Demand3.{after_inv}
+use Rattle.soundness.proofs.Runs.{run_at, start_is, step_inv, written_number, written_zero}
+use Rattle.soundness.proofs.Demand3.{after_inv, start_inv}
 use Rattle.soundness.proofs.Marks.{AtOnce, Marks, Stays, at_once_lem, breach_state, fits, forecast_shows, frozen, given}
 use Rattle.soundness.proofs.Marks.{never, none_breach, not_yet, run_ok, table_state, until}
-use Rattle.monitor.specs.Answers.{forecast_answer}
-use Rattle.monitor.specs.Calls.{Call, Calls, last_table, readings_in}
-use Rattle.monitor.specs.Forecasts.{AcceptedMarks, ForecastClaim, Foretells}
+use Rattle.monitor.specs.Answers.{Started, start_answer, taken_answer}
+use Rattle.monitor.specs.Calls.{Call, Calls, forecast_in, last_table, number_in, readings_in}
+use Rattle.monitor.specs.Forecasts.{AcceptedMarks, ForecastClaim, Foretells, Told, by_reading, by_start, last_forecast}
+use Rattle.monitor.proofs.Joined.{begun_table, part_of, table_in}
+use Rattle.monitor.proofs.Opens.{by_run, by_table}
 use Rattle.monitor.proofs.Calls.{Sound, called, found, runs, shown as shows_run}
 
 last_++ : (us : List ℤ) (before later : List Call)
@@ -170,10 +176,91 @@ module _ (s : List ℕ) (a : Agreement) (mains : List ℕ) (ck : checked s ≡ a
             k.among,
           )
 
--- the forecast entry foretells what the reading entry does with every list of accepted marks, cell for cell
+-- ---- what an accepted call tells is the forecast of the table that it leaves
+told_as : (s : List ℕ) {n : ℕ} {left us : List ℤ} → n ≡ 0 → left ≡ us → told_of s n left ≡ forecast_of s us
+unfolding told_of
+told_as s e f = rw (e, f) refl
+
+reading_tells : (s : List ℕ) (lent : List ℤ) (one : Call)
+    → taken_answer one.answer one.left ≡ reading_of s lent one.bytes → number_in one ≡ 0
+    → forecast_in one ≡ forecast_of s one.left
+unfolding forecast_in number_in reading_of
+reading_tells s lent one e z = ap (λ x. x.forecast) e ∙ told_as s (sym (ap (λ x. x.number) e) ∙ z)
+    (sym (ap (λ x. x.table) e) ∙ table_in one.answer one.left)
+
+last_tells : (s : List ℕ) (a : Agreement) (us : List ℤ) (f : Forecast) (marks : List Call) → f ≡ forecast_of s us
+    → Calls s us marks → AcceptedMarks a marks → last_forecast f marks ≡ forecast_of s (last_table us marks)
+unfolding last_forecast last_table Calls AcceptedMarks
+last_tells s a us f [] e cs m = e
+last_tells s a us f (c ∷ marks) e cs m =
+    last_tells s a c.left (forecast_in c) marks (reading_tells s us c cs.0 m.1) cs.1 m.2
+
+same_agreement : {a b : Agreement} {ps qs : List ℕ} → accepted a ps ≡ accepted b qs → (a ≡ b) × (ps ≡ qs)
+same_agreement e = (cc, cc)
+
+-- the run whose table it leaves
+record Leaving (s : List ℕ) (a : Agreement) (mains : List ℕ) (ck : checked s ≡ accepted a mains) (us : List ℤ)
+    (f : Forecast) : Type 0 where
+  run : Run
+  table : us ≡ table_of run
+  sound : Sound s a mains ck run
+  tells : f ≡ forecast_of s us
+
+module _ (s : List ℕ) (a : Agreement) (mains : List ℕ) (ck : checked s ≡ accepted a mains) (hs : Bytes s) (us : List ℤ)
+    (f : Forecast) where
+  begun_leaves : (lent : List ℤ) (r : Started) → start_answer r us ≡ start_of s lent → (start_answer r us).number ≡ 0
+      → f ≡ (start_answer r us).forecast → Leaving s a mains ck us f
+  unfolding start_of
+  begun_leaves lent r e z fe = by_table s lent
+      (λ n more few x. let zero : n ≡ 0 = sym (ap (λ y. y.number) x.start) ∙ none in absurd (omega arith))
+      (λ ps ck' l.
+      let is = start_is s a mains ck lent l in
+      let zero : (started a).number ≡ 0 = sym (written_number lent (started a)) ∙ sym (ap (λ x. x.number) is) ∙ none in
+      record {
+        run = (started a).run;
+        table = same ∙ ap (λ x. x.table) (is ∙ written_zero lent (started a) zero);
+        sound = start_inv s a mains ck hs zero;
+        tells = fe ∙ ap (λ x. x.forecast) e ∙ told_as s none (sym same);
+      })
+    where
+      none : (begun_of s lent).number ≡ 0
+      none = sym (ap (λ x. x.number) e) ∙ z
+
+      same : us ≡ (begun_of s lent).table
+      same = sym (begun_table r us) ∙ ap (λ x. x.table) e
+
+  read_leaves : (lent : List ℤ) (one : Call) → Bytes one.bytes
+      → taken_answer one.answer one.left ≡ reading_of s lent one.bytes → number_in one ≡ 0 → us ≡ one.left
+      → f ≡ forecast_in one → Leaving s a mains ck us f
+  unfolding number_in answered
+  read_leaves lent one h e z same fe = by_run s lent
+      (λ n more few reads.
+      let is = part_of s lent one.bytes e ∙ reads one.bytes in
+      let zero : n ≡ 0 = sym (ap (λ x. x.number) is) ∙ z in absurd (omega arith))
+      (λ ps q ck' l is.
+      let agree = same_agreement (sym ck' ∙ ck) in
+      let shows = subst (λ x. run_of x mains lent ≡ some q) agree.0
+      (subst (λ x. run_of (agreement_of s) x lent ≡ some q) agree.1 is) in
+      let on = shows_run s a mains ck q lent l shows in
+      let x = called s a mains ck q lent one on.0 on.1 e in
+      record {
+        run = (step a q one.bytes).run;
+        table = same ∙ x.left;
+        sound = step_inv s a mains ck q one.bytes h on.1;
+        tells = fe ∙ reading_tells s lent one e z ∙ ap (forecast_of s) (sym same);
+      })
+
+  leaving : Told s us f → Leaving s a mains ck us f
+  leaving (by_start lent r e z fe) = begun_leaves lent r e z fe
+  leaving (by_reading lent one h e z same fe) = read_leaves lent one h e z same fe
+
+-- what start and reading tell is what accepted marks then do, cell for cell
 pub forecasts : ForecastClaim
 unfolding ForecastClaim
-forecasts s a mains us q r marks r' ck l e fe h cs m fe' =
-    let on = shows_run s a mains ck q us l e in
-    foretells s a mains ck q us on.0 on.1 marks h cs m (forecast_answer r)
-    (fe ∙ ap (forecast_of s) on.0 ∙ forecast_shows s a mains ck q on.1) (forecast_answer r') fe'
+forecasts s a mains us f marks hs ck t h cs m =
+    let x = leaving s a mains ck hs us f t in (
+      x.tells,
+      foretells s a mains ck x.run us x.table x.sound marks h cs m f
+          (x.tells ∙ ap (forecast_of s) x.table ∙ forecast_shows s a mains ck x.run x.sound)
+          (last_forecast f marks) (last_tells s a us f marks x.tells cs m),
+    )

@@ -1,5 +1,7 @@
 pub mod Checks
+pub mod Joined
 pub mod Opens
+pub mod Leaves
 pub mod Begins
 pub mod Follows
 pub mod Foretells

@@ -1,4 +1,5 @@
--- Laws for what is lent: which of refusals 1 to 7 applies, or the state that the table shows.
+-- Laws for what is lent: which of refusals 1 to 7 applies, or the state that the table shows; and what the entries
+-- answer of it.
 use mathlib.Core.Path.{◌≡◌, refl, sym, subst}
 use mathlib.Core.List.{List}
 use mathlib.Core.Option.{Option, none, some}
@@ -12,53 +13,48 @@ use Rattle.std.specs.Prelude.{None, Err}
 use Rattle.csl.specs.Decode.{agreement_of}
 use Rattle.csl.specs.Check.{Accepted, accepted, checked, refused, mains_of}
 use Rattle.csl.specs.Table.{Run, run_of, table_length}
-use Rattle.csl.specs.Entries.{answered, forecast_of, reading_of, refused_forecast, start_of}
+use Rattle.csl.specs.Entries.{answered, begun_of, read_of, reading_of, start_of}
 use Rattle.laws.proofs.Bools.{by_test}
-use Rattle.bridge.proofs.Refusals.{start_refused_lem, reading_refused, forecast_refused_lem, start_six, reading_six}
-use Rattle.bridge.proofs.Refusals.{forecast_six, reading_seven, forecast_seven, answer, unread, check_few, from_check}
+use Rattle.bridge.proofs.Refusals.{start_refused_lem, reading_refused, start_six, reading_six, reading_seven}
+use Rattle.bridge.proofs.Refusals.{answer, unread, check_few, from_check}
 use Rattle.cells.specs.declared.Sight.{Sight}
 use Rattle.state.specs.Shown.{Shows, run_in}
 use Rattle.state.specs.declared.State.{State}
 use Rattle.monitor.specs.declared.Refusal.{Refusal}
 use Rattle.monitor.specs.declared.Refusal.TheVariants.{TableLength, TableContent}
-use Rattle.monitor.specs.Answers.{forecast_answer, number_of, start_answer, taken_answer}
+use Rattle.monitor.specs.Answers.{number_of, start_answer, taken_answer}
 use Rattle.monitor.specs.Steps.{Refuses, Opened}
+use Rattle.monitor.proofs.Joined.{reading_err, start_err}
 
 module _ (s : List ℕ) (us : List ℤ) where
   -- ---- 1 to 5
   module _ (r : Refusal) (w : checked s ≡ refused (number_of r)) where
     pub start_no : start_answer (Err r) us ≡ start_of s us
-    start_no = sym (start_refused_lem us s (number_of r) w)
+    start_no = start_err s us us r (sym (start_refused_lem us s (number_of r) w))
 
     pub reading_no : (bytes : List ℕ) → taken_answer (Err (record { why = r; cost = 0 })) us ≡ reading_of s us bytes
     unfolding answered
-    reading_no bytes = sym (reading_refused us s (number_of r) w bytes)
-
-    pub forecast_no : forecast_answer (Err r) ≡ forecast_of s us
-    forecast_no = sym (forecast_refused_lem us s (number_of r) w)
+    reading_no bytes = reading_err s us us bytes (record { why = r; cost = 0 })
+        (sym (reading_refused us s (number_of r) w bytes))
 
   module _ (ok : Accepted s) where
     -- ---- 6
     module _ (h : length us ≡ table_length → ⊥) where
       pub start_short : start_answer (Err TableLength) us ≡ start_of s us
-      start_short = sym (start_six us s (agreement_of s) (mains_of s) ok.is h)
+      start_short = start_err s us us TableLength (sym (start_six us s (agreement_of s) (mains_of s) ok.is h))
 
       pub reading_short : (bytes : List ℕ)
           → taken_answer (Err (record { why = TableLength; cost = 0 })) us ≡ reading_of s us bytes
       unfolding answered
-      reading_short bytes = sym (reading_six us s (agreement_of s) (mains_of s) ok.is h bytes)
-
-      pub forecast_short : forecast_answer (Err TableLength) ≡ forecast_of s us
-      forecast_short = sym (forecast_six us s (agreement_of s) (mains_of s) ok.is h)
+      reading_short bytes = reading_err s us us bytes (record { why = TableLength; cost = 0 })
+          (sym (reading_six us s (agreement_of s) (mains_of s) ok.is h bytes))
 
     -- ---- 7
     pub open_damaged : (sights : List Sight) → length us ≡ table_length → Shows (run_in s us) us sights None
         → Refuses s us TableContent
     unfolding Shows answered
-    open_damaged sights l damaged = record {
-      reading = λ bytes. sym (reading_seven us s (agreement_of s) (mains_of s) ok.is l bytes damaged);
-      forecast = sym (forecast_seven us s (agreement_of s) (mains_of s) ok.is l damaged);
-    }
+    open_damaged sights l damaged bytes = reading_err s us us bytes (record { why = TableContent; cost = 0 })
+        (sym (reading_seven us s (agreement_of s) (mains_of s) ok.is l bytes damaged))
 
 -- ---- what is opened, by its case
 module _ {s : List ℕ} {us : List ℤ} {sights : List Sight} {state : State} (o : Opened s us sights state) where
@@ -66,11 +62,10 @@ module _ {s : List ℕ} {us : List ℤ} {sights : List Sight} {state : State} (o
   opened_as e = subst (Opened s us sights) e o
 
 -- ---- whatever is lent
--- every entry refuses it with n
+-- a start and a reading refuse it with n
 pub record Unstarted (s : List ℕ) (us : List ℤ) (n : ℕ) : Type 0 where
-  pub start : start_of s us ≡ answer n us
-  pub reading : (bytes : List ℕ) → reading_of s us bytes ≡ unread n us
-  pub forecast : forecast_of s us ≡ refused_forecast n
+  pub start : begun_of s us ≡ answer n us
+  pub reading : (bytes : List ℕ) → read_of s us bytes ≡ unread n us
 
 module _ {C : Type 0} (s : List ℕ) (us : List ℤ) where
   -- refused with 1 to 6, or an accepted agreement and a table's cells
@@ -80,7 +75,6 @@ module _ {C : Type 0} (s : List ℕ) (us : List ℤ) where
       (λ n more ck _. refuse n more (omega (arith, check_few s n ck)) (record {
         start = start_refused_lem us s n ck;
         reading = reading_refused us s n ck;
-        forecast = forecast_refused_lem us s n ck;
       }))
       (λ mains ck _. by_test (eqb (length us) table_length)
       (λ e. taken mains ck (eqb-true (length us) table_length e))
@@ -88,26 +82,21 @@ module _ {C : Type 0} (s : List ℕ) (us : List ℤ) where
       refuse 6 (omega arith) (omega arith) (record {
         start = start_six us s (agreement_of s) mains ck h;
         reading = reading_six us s (agreement_of s) mains ck h;
-        forecast = forecast_six us s (agreement_of s) mains ck h;
       })))
 
-  -- a reading and a forecast are refused with 1 to 7, or the table shows a run
-  pub by_run : ((n : ℕ) → 0 < n → n ≤ 7 → ((bytes : List ℕ) → reading_of s us bytes ≡ unread n us)
-      → forecast_of s us ≡ refused_forecast n → C)
+  -- a reading is refused with 1 to 7, or the table shows a run
+  pub by_run : ((n : ℕ) → 0 < n → n ≤ 7 → ((bytes : List ℕ) → read_of s us bytes ≡ unread n us) → C)
       → ((mains : List ℕ) (q : Run) → checked s ≡ accepted (agreement_of s) mains → length us ≡ table_length
       → run_of (agreement_of s) mains us ≡ some q → C) → C
-  by_run refuse shown = by_table (λ n more few x. refuse n more (omega arith) x.reading x.forecast)
+  by_run refuse shown = by_table (λ n more few x. refuse n more (omega arith) x.reading)
       (λ mains ck l. go mains ck l (run_of (agreement_of s) mains us) refl)
     where
       go : (mains : List ℕ) → checked s ≡ accepted (agreement_of s) mains → length us ≡ table_length
           → (o : Option Run) → run_of (agreement_of s) mains us ≡ o → C
       go mains ck l none e = refuse 7 (omega arith) (omega arith)
           (λ bytes. reading_seven us s (agreement_of s) mains ck l bytes e)
-          (forecast_seven us s (agreement_of s) mains ck l e)
       go mains ck l (some q) e = shown mains q ck l e
 
 pub ruleset starting = (start_no, start_short)
 
 pub ruleset taking = (reading_no, reading_short)
-
-pub ruleset foretelling = (forecast_no, forecast_short)

@@ -1,4 +1,5 @@
--- The reviewer's checklist, "Tried and found unprovable": six wrong monitors, and that none meets the contracts.
+-- The reviewer's checklist, "Tried and found unprovable": six wrong monitors, and that none meets the contracts; and
+-- three that are wrong in the forecast that they tell.
 -- Each is any monitor that does the wrong thing with whatever it is lent; the paper's trials, computed, refute it.
 use mathlib.Core.Path.{◌≡◌, refl, sym, ap, ◌∙◌, subst}
 use mathlib.Core.List.{List, []}
@@ -8,8 +9,8 @@ use lib.IntN.{ℤ, pos, nat_abs}
 use lib.ListN.{get_or, set}
 use Rattle.csl.specs.Bytes.{le32}
 use Rattle.csl.specs.Check.{CheckAnswer, check_of}
-use Rattle.csl.specs.Entries.{Answer, ReadingAnswer, Forecast, refused_forecast, no_breach, breach_at, no_forecast}
-use Rattle.csl.specs.Entries.{start_of, reading_of, forecast_of}
+use Rattle.csl.specs.Entries.{Forecast, ReadingAnswer, StartAnswer, breach_at, forecast_of, no_breach, no_forecast}
+use Rattle.csl.specs.Entries.{reading_of, start_of, untold}
 use Rattle.csl.specs.Build.{sample, agreement, all', simply, zeros}
 use Rattle.csl.specs.Build as Build
 use Rattle.csl.specs.Trials.{computes}
@@ -24,7 +25,7 @@ p3bytes = Build.reading 160 (pos 250)
 abbrev p8bytes : List ℕ
 p8bytes = agreement [] (all' (simply 0 (pos 60)) (simply 1 (pos 60)))
 
-abbrev p1 : Answer
+abbrev p1 : StartAnswer
 p1 = start_of sample zeros
 
 abbrev p2 : ReadingAnswer
@@ -40,38 +41,25 @@ time_in table = get_or table 1 (pos 0)
 abbrev units_in : List ℤ → ℤ
 units_in table = get_or table 4 (pos 0)
 
--- ---- any monitor whose four entries answer as their contracts say: not one of the four refuses whatever it is lent
-abbrev IsRefused : Forecast → Type 0
-IsRefused (refused_forecast n) = Unit {0}
-IsRefused no_breach = ⊥
-IsRefused (breach_at t ps) = ⊥
-IsRefused no_forecast = ⊥
-
+-- ---- any monitor whose three entries answer as their contracts say: not one of the three refuses whatever it is lent
 module _ (check : List ℕ → CheckAnswer) (checks : (s : List ℕ) → check s ≡ check_of s)
-    (start : List ℕ → List ℤ → Answer) (starts : (s : List ℕ) (us : List ℤ) → start s us ≡ start_of s us)
+    (start : List ℕ → List ℤ → StartAnswer) (starts : (s : List ℕ) (us : List ℤ) → start s us ≡ start_of s us)
     (reading : List ℕ → List ℤ → List ℕ → ReadingAnswer)
-    (reads : (s : List ℕ) (us : List ℤ) (r : List ℕ) → reading s us r ≡ reading_of s us r)
-    (forecast : List ℕ → List ℤ → Forecast)
-    (foretells : (s : List ℕ) (us : List ℤ) → forecast s us ≡ forecast_of s us) where
-  -- the sample is accepted and started, P2 is taken, and P1's table has a forecast
+    (reads : (s : List ℕ) (us : List ℤ) (r : List ℕ) → reading s us r ≡ reading_of s us r) where
+  -- the sample is accepted and started, and P2 is taken
   pub refuses_all_lem :
       (((s : List ℕ) → (check s).number ≡ 0 → ⊥) → ⊥)
       × (((s : List ℕ) (us : List ℤ) → (start s us).number ≡ 0 → ⊥) → ⊥)
       × (((s : List ℕ) (us : List ℤ) (r : List ℕ) → (reading s us r).number ≡ 0 → ⊥) → ⊥)
-      × (((s : List ℕ) (us : List ℤ) → (n : ℕ) × (forecast s us ≡ refused_forecast n)) → ⊥)
   unfolding computes zeros
   refuses_all_lem = (
     λ wrong. wrong sample (ap (λ a. a.number) (checks sample)),
     λ wrong. wrong sample zeros (ap (λ a. a.number) (starts sample zeros)),
     λ wrong. wrong sample p1.table p2bytes (ap (λ a. a.number) (reads sample p1.table p2bytes)),
-    λ wrong. told (sym (foretells sample p1.table) ∙ (wrong sample p1.table).1),
   )
-    where
-      told : {n : ℕ} → breach_at 160 1 ≡ refused_forecast n → ⊥
-      told e = subst IsRefused (sym e) tt
 
 -- any monitor that starts and reads as its contracts say: it does not say 11 where 0 is right
-module _ (start : List ℕ → List ℤ → Answer) (starts : (s : List ℕ) (us : List ℤ) → start s us ≡ start_of s us)
+module _ (start : List ℕ → List ℤ → StartAnswer) (starts : (s : List ℕ) (us : List ℤ) → start s us ≡ start_of s us)
     (reading : List ℕ → List ℤ → List ℕ → ReadingAnswer)
     (reads : (s : List ℕ) (us : List ℤ) (r : List ℕ) → reading s us r ≡ reading_of s us r) where
   -- at the start, and at the first reading: the last reading time is still the start
@@ -90,7 +78,8 @@ module _ (start : List ℕ → List ℤ → Answer) (starts : (s : List ℕ) (us
       apart e = absurd (omega arith)
 
 -- any monitor that starts as its contract says
-module _ (start : List ℕ → List ℤ → Answer) (starts : (s : List ℕ) (us : List ℤ) → start s us ≡ start_of s us) where
+module _ (start : List ℕ → List ℤ → StartAnswer)
+    (starts : (s : List ℕ) (us : List ℤ) → start s us ≡ start_of s us) where
   pub invented_units : (n : ℕ) → ((s : List ℕ) (us : List ℤ) → units_in (start s us).table ≡ pos n) → ⊥
   unfolding computes zeros
   invented_units n wrong =
@@ -123,3 +112,42 @@ module _ (reading : List ℕ → List ℤ → List ℕ → ReadingAnswer)
     where
       later : time_in p2.table ≡ pos (le32 sample 4) → ⊥
       later e = let z : ◌≡◌ {A = ℕ} 110 100 = ap nat_abs e in absurd (omega arith)
+
+-- ---- paper 02, No. 2: any monitor that reads as its contract says
+module _ (reading : List ℕ → List ℤ → List ℕ → ReadingAnswer)
+    (reads : (s : List ℕ) (us : List ℤ) (r : List ℕ) → reading s us r ≡ reading_of s us r) where
+  IsNone : Forecast → Type 0
+  IsNone no_breach = Unit {0}
+  IsNone (breach_at t b) = ⊥
+  IsNone untold = ⊥
+  IsNone no_forecast = ⊥
+
+  IsTold : Forecast → Type 0
+  IsTold no_breach = Unit {0}
+  IsTold (breach_at t b) = Unit {0}
+  IsTold untold = ⊥
+  IsTold no_forecast = ⊥
+
+  -- after P2 a breach at 160 lies ahead
+  pub none_always : ((s : List ℕ) (us : List ℤ) (r : List ℕ) → (reading s us r).number ≡ 0
+      → (reading s us r).forecast ≡ no_breach) → ⊥
+  unfolding computes zeros IsNone
+  none_always wrong = subst IsNone (sym (sym (ap (λ a. a.forecast) (reads sample p1.table p2bytes))
+      ∙ wrong sample p1.table p2bytes (ap (λ a. a.number) (reads sample p1.table p2bytes)))) tt
+
+  -- and after P3 none, which the table before does not say
+  pub table_before : ((s : List ℕ) (us : List ℤ) (r : List ℕ) → (reading s us r).number ≡ 0
+      → (reading s us r).forecast ≡ forecast_of s us) → ⊥
+  unfolding computes zeros IsNone
+  table_before wrong = subst IsNone (sym (ap (λ a. a.forecast) (reads sample p2.table p3bytes))
+      ∙ wrong sample p2.table p3bytes (ap (λ a. a.number) (reads sample p2.table p3bytes))) tt
+
+  -- a reading before P2's time is refused with 10, and no forecast is told
+  pub refusals_told : ((s : List ℕ) (us : List ℤ) (r : List ℕ)
+      → (reading s us r).forecast ≡ forecast_of s (reading s us r).table) → ⊥
+  unfolding computes zeros IsTold
+  refusals_told wrong = subst IsTold (sym (sym (ap (λ a. a.forecast) (reads sample p2.table earlier))
+      ∙ wrong sample p2.table earlier ∙ ap (λ a. forecast_of sample a.table) (reads sample p2.table earlier))) tt
+    where
+      earlier : List ℕ
+      earlier = Build.reading 105 (pos 250)

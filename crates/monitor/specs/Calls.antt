@@ -1,6 +1,6 @@
 -- Calls of `reading` one after another on one lent table, as the entry's contract in src/lib.rt says them.
 use Rattle.std.specs.Prelude.{◌≡◌, List, [], ◌∷◌, ℕ, ℤ}
-use Rattle.csl.specs.Entries.{reading_of}
+use Rattle.csl.specs.Entries.{Forecast, reading_of}
 use Rattle.monitor.specs.Answers.{TakenOrRefused, taken_answer}
 
 -- one call: the reading's bytes, the answer, and the table it left
@@ -30,6 +30,14 @@ number_in c = (taken_answer c.answer c.left).number
 unfoldable pub numbers_in : List Call → List ℕ
 numbers_in [] = []
 numbers_in (c ∷ cs) = number_in c ∷ numbers_in cs
+
+-- the forecasts told
+unfoldable pub forecast_in : Call → Forecast
+forecast_in c = (taken_answer c.answer c.left).forecast
+
+unfoldable pub forecasts_in : List Call → List Forecast
+forecasts_in [] = []
+forecasts_in (c ∷ cs) = forecast_in c ∷ forecasts_in cs
 
 -- and the marks
 unfoldable pub early_in : Call → ℕ

@@ -4,7 +4,7 @@
 -- run's; 11 if and only if the residue needs more than 128 units; a breach names only parties that can be blamed,
 -- at a time from the start to the reading that showed it; after it no reading alters a cell."
 use Rattle.std.specs.Prelude.{◌≡◌, ◌≢◌, ◌↔◌, List, [], ◌∷◌, ◌++◌, ℕ, ◌*◌, ◌≤◌, ◌<◌, T, ℤ, pos, length}
-use Rattle.std.specs.Prelude.{Ok}
+use Rattle.std.specs.Prelude.{Ok, Option}
 use Rattle.std.proofs.Math.Option.{some}
 use Rattle.csl.specs.Lists.{at}
 use Rattle.csl.specs.Parties.{subset}
@@ -14,13 +14,15 @@ use Rattle.csl.specs.Outcomes.{breach}
 use Rattle.csl.specs.Rules.{Reading}
 use Rattle.csl.specs.Run.{started, step}
 use Rattle.csl.specs.Table.{Run, table_length, table_of, run_of}
-use Rattle.csl.specs.Entries.{start_of}
+use Rattle.csl.specs.Entries as entries
+use Rattle.csl.specs.Entries.{forecast_run, shown, start_of}
 use Rattle.csl.specs.Demand3.{Bytes, AllBytes, fitting, reached, needed, NotStuck, IsBreach, Unaltered, run_after}
-use Rattle.csl.specs.Demand3.{numbers_by, marks_by, costs_by}
+use Rattle.csl.specs.Demand3.{numbers_by, forecasts_by, marks_by, costs_by, told_by}
 use Rattle.csl.specs.Marks.{time_in}
+use Rattle.monitor.specs.declared.BreachAhead.{BreachAhead}
 use Rattle.monitor.specs.Answers.{Started, start_answer}
 use Rattle.monitor.specs.Calls.{Call, Calls, last_table, readings_in, number_in, numbers_in, early_in}
-use Rattle.monitor.specs.Calls.{marks_in, cost_in, costs_in}
+use Rattle.monitor.specs.Calls.{marks_in, cost_in, costs_in, forecast_in, forecasts_in}
 use Rattle.monitor.specs.Early.{TooEarly}
 
 -- "A run is fed the agreement and the readings' bytes, nothing from a table."
@@ -38,7 +40,7 @@ pub record Upheld (a : Agreement) (mains : List ℕ) (r : Started) (us : List �
   -- "the run by the rules is never stuck"
   pub never_stuck : (before later : List Call) → calls ≡ before ++ later → NotStuck (run_by a before).outcome
   -- "each answer carries the run's number": the start's, which is 0, and every reading's
-  pub begun : r ≡ Ok tt
+  pub begun : (start_answer r us).number ≡ 0
   pub numbers : numbers_in calls ≡ numbers_by a (started a).run (readings_in calls)
   -- "the table afterwards is well typed": it has its cells, and 7 does not apply
   pub cells : length (last_table us calls) ≡ table_length
@@ -63,6 +65,14 @@ pub record Upheld (a : Agreement) (mains : List ℕ) (r : Started) (us : List �
   -- and where one does it is the reading's time
   pub moves : (before : List Call) (one : Call) (later : List Call) → calls ≡ before ++ (one ∷ later)
       → (Unaltered (last_table us before) one.left → ⊥) → at one.left 5 ≡ some (pos (time_in one.bytes))
+  -- paper 02, No. 2: "Start and reading both answer with the forecast of the table they leave": the start's is that of
+  -- the run that has begun, and each reading's that of the run that it leads to; "a refusal gives zeros for it"
+  pub begun_ahead : (start_answer r us).forecast ≡ told_by a (started a)
+  pub forecasts : forecasts_in calls ≡ forecasts_by a (started a).run (readings_in calls)
+  pub ahead : (before : List Call) (one : Call) (later : List Call) → calls ≡ before ++ (one ∷ later)
+      → number_in one ≡ 0 → forecast_in one ≡ shown (forecast_run a (run_by a (before ++ (one ∷ []))))
+  pub untold : (before : List Call) (one : Call) (later : List Call) → calls ≡ before ++ (one ∷ later)
+      → number_in one ≢ 0 → forecast_in one ≡ entries.untold
   -- paper 02, No. 8: each answer carries the run's mark
   pub marks : marks_in calls ≡ marks_by a (started a).run (readings_in calls)
   -- "It is 1 if and only if the reading is accepted, the table was running and no unit or state altered, and at least
@@ -105,5 +115,6 @@ Demand3 =
 -- and a start that answers `Ok` was given such an agreement
 unfoldable pub Begins : Type 0
 Begins =
-    (s : List ℕ) (lent : List ℤ) (us : List ℤ) → start_answer (Ok tt) us ≡ start_of s lent
+    (s : List ℕ) (lent : List ℤ) (us : List ℤ) (ahead : Option BreachAhead)
+    → start_answer (Ok ahead) us ≡ start_of s lent
     → (a : Agreement) × (mains : List ℕ) × IsStarted s lent a mains

@@ -1,16 +1,15 @@
 -- The forecast, one claim about every list of accepted marks; proofs/Forecasts.antt proves it (`forecasts`).
 -- "the forecast is what would follow if only time went on": marks and nothing else come after it.
-use Rattle.std.specs.Prelude.{◌≡◌, ◌⊎◌, List, [], ◌∷◌, ◌++◌, ℕ, ◌≤◌, ◌<◌, T, ℤ, length}
-use Rattle.std.proofs.Math.Option.{some}
+-- Paper 02, No. 2: "What was said of a forecast now belongs to the joined answers."
+use Rattle.std.specs.Prelude.{◌≡◌, ◌⊎◌, List, [], ◌∷◌, ◌++◌, ℕ, ◌≤◌, ◌<◌, T, ℤ}
 use Rattle.csl.specs.Parties.{members, subset}
 use Rattle.csl.specs.Syntax.{Agreement}
 use Rattle.csl.specs.Check.{checked, accepted}
-use Rattle.csl.specs.Table.{Run, table_length, run_of}
-use Rattle.csl.specs.Entries.{Forecast, no_breach, breach_at, forecast_of}
-use Rattle.csl.specs.Demand3.{AllBytes}
+use Rattle.csl.specs.Entries.{Forecast, no_breach, breach_at, forecast_of, start_of, reading_of}
+use Rattle.csl.specs.Demand3.{AllBytes, Bytes}
 use Rattle.csl.specs.Marks.{IsMark, time_in, AllTimes, Breached, breach_table, ForecastFits}
-use Rattle.monitor.specs.Answers.{Foretold, forecast_answer}
-use Rattle.monitor.specs.Calls.{Call, Calls, last_table, readings_in, number_in}
+use Rattle.monitor.specs.Answers.{Started, start_answer, taken_answer}
+use Rattle.monitor.specs.Calls.{Call, Calls, last_table, readings_in, number_in, forecast_in}
 
 unfoldable pub AcceptedMarks : Agreement → List Call → Type 0
 AcceptedMarks a [] = Unit {0}
@@ -42,14 +41,26 @@ pub record Foretells (a : Agreement) (mains : List ℕ) (us : List ℤ) (f : For
       → (Breached (last_table us before) → ⊥) → t < time_in one.bytes
       → (last_table us marks ≡ breach_table (time_in one.bytes) (time_in one.bytes) t b) × (f' ≡ f)
 
--- for every accepted agreement and every well-typed table, reached by readings or made by hand;
--- the calls are what their contracts say of them
+-- an accepted call on agreement s left the table us and told the forecast f: a start, or a reading on whatever table,
+-- reached by readings or made by hand
+pub data Told (s : List ℕ) (us : List ℤ) (f : Forecast) : Type 0 where
+  by_start : (lent : List ℤ) (r : Started)
+      → start_answer r us ≡ start_of s lent → (start_answer r us).number ≡ 0 → f ≡ (start_answer r us).forecast
+      → Told s us f
+  by_reading : (lent : List ℤ) (one : Call) → Bytes one.bytes
+      → taken_answer one.answer one.left ≡ reading_of s lent one.bytes → number_in one ≡ 0
+      → us ≡ one.left → f ≡ forecast_in one → Told s us f
+
+-- the forecast that the last of them told
+unfoldable pub last_forecast : Forecast → List Call → Forecast
+last_forecast f [] = f
+last_forecast f (c ∷ cs) = last_forecast (forecast_in c) cs
+
+-- for every accepted agreement and every accepted call: what it told is the forecast of the table that it left, and
+-- foretells every list of accepted marks; the calls are what their contracts say of them
 unfoldable pub ForecastClaim : Type 0
 ForecastClaim =
-    (s : List ℕ) (a : Agreement) (mains : List ℕ) (us : List ℤ) (q : Run)
-    (r : Foretold) (marks : List Call) (r' : Foretold)
-    → checked s ≡ accepted a mains → length us ≡ table_length → run_of a mains us ≡ some q
-    → forecast_answer r ≡ forecast_of s us
+    (s : List ℕ) (a : Agreement) (mains : List ℕ) (us : List ℤ) (f : Forecast) (marks : List Call)
+    → Bytes s → checked s ≡ accepted a mains → Told s us f
     → AllBytes (readings_in marks) → Calls s us marks → AcceptedMarks a marks
-    → forecast_answer r' ≡ forecast_of s (last_table us marks)
-    → Foretells a mains us (forecast_answer r) marks (forecast_answer r')
+    → (f ≡ forecast_of s us) × Foretells a mains us f marks (last_forecast f marks)

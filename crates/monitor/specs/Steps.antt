@@ -1,9 +1,12 @@
 -- What the functions between the entries ask and promise.
 use Rattle.std.specs.Prelude.{◌≡◌, Bool, true, false, List, ℕ, ◌≤◌, ℤ, pos, length, get_or, drop, Some, Result, Ok, Err}
+use Rattle.std.proofs.Math.Option.{some}
 use Rattle.csl.specs.Decode as decode
 use Rattle.csl.specs.Check as check
 use Rattle.csl.specs.Check.{checked}
-use Rattle.csl.specs.Entries.{reading_of, forecast_of}
+use Rattle.csl.specs.Entries.{ReadAnswer, read_of, reading_of}
+use Rattle.csl.specs.Early.{mark_of}
+use Rattle.csl.specs.Table.{Run}
 use Rattle.readings.specs.Taking.{FittingRead}
 use Rattle.readings.specs.declared.reading.Reading.{Reading}
 use Rattle.readings.specs.declared.Misfit.{Misfit}
@@ -17,7 +20,18 @@ use Rattle.state.specs.declared.State.{State}
 use Rattle.monitor.specs.declared.Lent.{Lent}
 use Rattle.monitor.specs.declared.Refusal.{Refusal}
 use Rattle.monitor.specs.declared.Refusal.TheVariants.{ReadingForm, ReadingTyping}
-use Rattle.monitor.specs.Answers.{TakenOrRefused, number_of, taken_answer, forecast_answer}
+use Rattle.monitor.specs.declared.Refused.{Refused}
+use Rattle.monitor.specs.declared.Followed.{Followed}
+use Rattle.monitor.specs.Answers.{number_of, taken_answer}
+
+-- ---- what a reading does, without the forecast
+abbrev pub read_answer : Result Followed Refused → List ℤ → ReadAnswer
+read_answer (Ok a) table = record { number = 0; early = mark_of a.early; cost = a.cost; table = table }
+read_answer (Err r) table = record { number = number_of r.why; early = 0; cost = r.cost; table = table }
+
+-- a table shows a run
+abbrev pub Shown : List ℕ → List ℤ → Type 0
+Shown s us = (q : Run) × (run_in s us ≡ some q)
 
 -- ---- what is lent
 -- 1 and 2: the agreement in the bytes, which are sized and well formed
@@ -34,10 +48,9 @@ abbrev pub Verified : List ℕ → Result (List ℕ) Refusal → Type 0
 Verified s (Ok agreement) = (agreement ≡ s) × check.Accepted s
 Verified s (Err r) = checked s ≡ check.refused (number_of r)
 
--- a reading and a forecast are refused with r
-pub record Refuses (s : List ℕ) (us : List ℤ) (r : Refusal) : Type 0 where
-  pub reading : (bytes : List ℕ) → taken_answer (Err (record { why = r; cost = 0 })) us ≡ reading_of s us bytes
-  pub forecast : forecast_answer (Err r) ≡ forecast_of s us
+-- a reading is refused with r
+abbrev pub Refuses : List ℕ → List ℤ → Refusal → Type 0
+Refuses s us r = (bytes : List ℕ) → taken_answer (Err (record { why = r; cost = 0 })) us ≡ reading_of s us bytes
 
 -- an accepted agreement, and the state that a table's cells show
 pub record Opened (s : List ℕ) (us : List ℤ) (sights : List Sight) (state : State) : Type 0 where
@@ -65,8 +78,9 @@ abbrev pub SomeReading : List ℕ → List ℤ → Reading → Type 0
 SomeReading s us r = (bytes : List ℕ) × Fitted s bytes us r
 
 -- the answer and the table `left` answer all bytes that are the reading r
-pub record ReadAs (s : List ℕ) (us : List ℤ) (r : Reading) (answer : TakenOrRefused) (left : List ℤ) : Type 0 where
-  pub is : (bytes : List ℕ) → Fitted s bytes us r → taken_answer answer left ≡ reading_of s us bytes
+pub record ReadAs (s : List ℕ) (us : List ℤ) (r : Reading) (answer : Result Followed Refused) (left : List ℤ) : Type
+    0 where
+  pub is : (bytes : List ℕ) → Fitted s bytes us r → read_answer answer left ≡ read_of s us bytes
 
 -- some unit opens later than the reading, which it waits for
 abbrev pub some_later : List ℕ → ℕ → List Sight → List ℤ → Reading → Bool

@@ -4,19 +4,22 @@
 ghost use Rattle.std.specs.Prelude.{◌≡◌, ◌≤◌, length, take, drop, Ok};
 ghost use Rattle.csl.specs.Check.{Accepted as IsAccepted, check_of};
 ghost use Rattle.csl.specs.Entries.{start_of, reading_of, forecast_of};
-ghost use Rattle.monitor.specs.Answers.{number_of, check_answer, start_answer, taken_answer, forecast_answer};
+ghost use Rattle.monitor.specs.Answers.{number_of, check_answer, ahead_told, start_answer, taken_answer};
 ghost use Rattle.monitor.specs.Steps.{Read, Verified, Opened, Opens, why_misfit};
-ghost use Rattle.monitor.specs.Steps.{SomeReading, ReadAs, Judged, some_later};
+ghost use Rattle.monitor.specs.Steps.{SomeReading, ReadAs, Judged, some_later, Shown};
 
-use cells::{HEAD_CELLS, LAST_TIME, MOST_UNITS, Sight, TABLE_CELLS};
+use cells::{
+    BREACH_PARTIES, BREACH_TIME, HEAD_CELLS, LAST_TIME, MOST_UNITS, STATE, Sight, TABLE_CELLS,
+};
+use kinds::RunState;
 use readings::{Misfit, Reading};
 use records::Agreement;
 use reduction::{TooMany, Wrote, advance};
-use residues::Reduced;
 use state::{State, state_of};
 use waits::Event;
+use walk::Units;
+use walk::ahead::ahead;
 use walk::later::some_open_later;
-use walk::{Units, across};
 
 // The sight of a unit that is not yet read.
 const UNREAD: Sight = Sight::Waits {
@@ -61,12 +64,41 @@ impl From<Refusal> for u32 {
     }
 }
 
+// A breach ahead: when, and by whom, by bit. It is in numbers, as C takes it.
+#[derive(Clone, Copy, Debug, PartialEq, Eq)]
+pub struct BreachAhead {
+    pub time: u64,
+    pub parties: usize,
+}
+
+impl From<parties::Breach> for BreachAhead {
+    ghost use Rattle.std.specs.Prelude.{unsigned_abs};
+
+    ghost from_gives = { λ breach ahead. ahead ≡ record { time = unsigned_abs breach.time; parties = breach.parties } };
+
+    fn from(breach: parties::Breach) -> BreachAhead {
+        BreachAhead {
+            time: breach.time.unsigned_abs(),
+            parties: breach.parties.bits(),
+        }
+    }
+}
+
 // A reading that is taken: `early` says that it came too early (nothing altered, and some unit waits for it and opens
-// later), which is a fact of it and no case of its own; `cost` what it cost.
+// later), which is a fact of it and no case of its own; `cost` what it cost; `ahead` the forecast of the table that it
+// leaves.
 #[derive(Clone, Copy, Debug, PartialEq, Eq)]
 pub struct Taken {
     pub early: bool,
     pub cost: usize,
+    pub ahead: Option<BreachAhead>,
+}
+
+// A reading that is followed, without the forecast.
+#[derive(Clone, Copy, Debug, PartialEq, Eq)]
+struct Followed {
+    early: bool,
+    cost: usize,
 }
 
 // A reading that is refused. Of the refusals only `Units` has a cost.
@@ -111,26 +143,6 @@ impl From<TooMany> for Refused {
     }
 }
 
-// A breach ahead: when, and by whom, by bit. It is in numbers, as C takes it.
-#[derive(Clone, Copy, Debug, PartialEq, Eq)]
-pub struct BreachAhead {
-    pub time: u64,
-    pub parties: usize,
-}
-
-impl From<parties::Breach> for BreachAhead {
-    ghost use Rattle.std.specs.Prelude.{unsigned_abs};
-
-    ghost from_gives = { λ breach ahead. ahead ≡ record { time = unsigned_abs breach.time; parties = breach.parties } };
-
-    fn from(breach: parties::Breach) -> BreachAhead {
-        BreachAhead {
-            time: breach.time.unsigned_abs(),
-            parties: breach.parties.bits(),
-        }
-    }
-}
-
 // Refusals 1 and 2.
 #[tactic(auto, using(crate::proofs::Checks::forming))]
 fn read(bytes: &[u8]) -> Result<Agreement<'_>, Refusal>
@@ -166,22 +178,46 @@ pub fn check(agreement: &[u8]) -> Result<usize, Refusal>
     Ok(verify(agreement)?.mains().bits())
 }
 
+// The forecast of a table: what its units come to if only time goes on, or the breach that it is of.
+#[tactic(auto, using(crate::proofs::Foretells::foretelling))]
+fn foretell(agreement: &places::Accepted<'_>, table: &[i64; TABLE_CELLS]) -> Option<BreachAhead>
+    requires { IsAccepted agreement.now × Shown agreement.now table.now }
+    ensures { ahead_told result ≡ forecast_of agreement.now table.now }
+{
+    match RunState::try_from(table[STATE]) {
+        Ok(RunState::Running) => {
+            let breach = ahead(agreement.agreement(), &table[HEAD_CELLS..])?;
+            Some(breach.into())
+        }
+        Ok(RunState::Breached) => Some(BreachAhead {
+            time: table[BREACH_TIME] as u64,
+            parties: table[BREACH_PARTIES] as usize,
+        }),
+        Ok(RunState::Fulfilled) => None,
+        Err(_) => None,
+    }
+}
+
 // Start, for an accepted agreement and a table's cells. Nothing is in sight.
 #[tactic(auto, using(crate::proofs::Begins::beginning))]
-fn begin(agreement: &places::Accepted<'_>, table: &mut [i64; TABLE_CELLS]) -> Result<(), Refusal>
-    requires { IsAccepted agreement.now }
-    ensures { start_answer result table.new ≡ start_of agreement.now table.old }
+fn begin(
+    accepted: &places::Accepted<'_>,
+    table: &mut [i64; TABLE_CELLS],
+) -> Result<Option<BreachAhead>, Refusal>
+    requires { IsAccepted accepted.now }
+    ensures { start_answer result table.new ≡ start_of accepted.now table.old }
 {
-    let agreement = agreement.agreement();
+    let agreement = accepted.agreement();
     match advance(agreement, &[], table, 0, agreement.start(), Event::Activate) {
-        Ok(_) => Ok(()),
+        Ok(_) => Ok(foretell(accepted, table)),
         Err(_) => Err(Refusal::Units),
     }
 }
 
-// Starts a run of an agreement of any bytes; a refusal leaves the table.
+// Starts a run of an agreement of any bytes, and tells the forecast of the table that it leaves: the breach ahead, or
+// none. A refusal leaves the table.
 #[tactic(auto, using(crate::proofs::Opens::starting))]
-pub fn start(agreement: &[u8], table: &mut [i64]) -> Result<(), Refusal>
+pub fn start(agreement: &[u8], table: &mut [i64]) -> Result<Option<BreachAhead>, Refusal>
     ensures { start_answer result table.new ≡ start_of agreement.now table.old }
 {
     let agreement = verify(agreement)?;
@@ -245,7 +281,7 @@ impl<'a> Lent<'a> {
     // A reading that fits and is not before the last. A breached run is left as it is; of a fulfilled one the last
     // reading time moves. A time is a cell by `as`: `try_from` has a case that cannot occur.
     #[tactic(auto, using(crate::proofs::Follows::stepping))]
-    fn follow(&self, table: &mut [i64; TABLE_CELLS], reading: &Reading) -> Result<Taken, Refused>
+    fn follow(&self, table: &mut [i64; TABLE_CELLS], reading: &Reading) -> Result<Followed, Refused>
         requires opened { Opened self.now.agreement table.old self.now.sights.now self.now.state }
         requires some_reading { SomeReading self.now.agreement table.old reading.now }
         ensures { ReadAs self.now.agreement table.old reading.now result table.new }
@@ -261,19 +297,19 @@ impl<'a> Lent<'a> {
                     Event::Follow(reading),
                 )?;
                 let early = !wrote.altered && self.came_early(table, used, reading);
-                Ok(Taken {
+                Ok(Followed {
                     early,
                     cost: wrote.cost,
                 })
             }
             State::Fulfilled => {
                 table[LAST_TIME] = reading.time as i64;
-                Ok(Taken {
+                Ok(Followed {
                     early: false,
                     cost: 0,
                 })
             }
-            State::Breached(_) => Ok(Taken {
+            State::Breached(_) => Ok(Followed {
                 early: false,
                 cost: 0,
             }),
@@ -290,37 +326,18 @@ impl<'a> Lent<'a> {
         if (reading.time as i64) < table[LAST_TIME] {
             return Err(Refusal::ReadingTime.into());
         }
-        self.follow(table, &reading)
-    }
-
-    // The breach that a running run comes to without further readings. Nothing waits on, so nothing needs room.
-    #[tactic(auto, using(crate::proofs::Foretells::foreseeing))]
-    fn breach_ahead(&self, table: &[i64; TABLE_CELLS], used: usize) -> Option<BreachAhead>
-        requires { Opened self.now.agreement table.now self.now.sights.now (State.Running used) }
-        ensures { forecast_answer (Ok result) ≡ forecast_of self.now.agreement table.now }
-    {
-        let units = self.units(table, used);
-        let ahead = across(self.agreement.agreement(), Event::Forecast, units, &mut []);
-        match ahead.outcome {
-            Reduced::Breach(breach) => Some(breach.into()),
-            _ => None,
-        }
-    }
-
-    #[tactic(auto, using(crate::proofs::Foretells::foretelling))]
-    fn foretell(&self, table: &[i64; TABLE_CELLS]) -> Option<BreachAhead>
-        requires { Opened self.now.agreement table.now self.now.sights.now self.now.state }
-        ensures { forecast_answer (Ok result) ≡ forecast_of self.now.agreement table.now }
-    {
-        match self.state {
-            State::Running(used) => self.breach_ahead(table, used),
-            State::Fulfilled => None,
-            State::Breached(breach) => Some(breach.into()),
-        }
+        let followed = self.follow(table, &reading)?;
+        let ahead = foretell(&self.agreement, table);
+        Ok(Taken {
+            early: followed.early,
+            cost: followed.cost,
+            ahead,
+        })
     }
 }
 
-// Gives a run a reading, both of any bytes; a refusal leaves the table.
+// Gives a run a reading, both of any bytes, and tells the forecast of the table that it leaves. A refusal leaves the
+// table.
 #[tactic(auto, using(crate::proofs::Opens::taking))]
 pub fn reading(agreement: &[u8], table: &mut [i64], reading: &[u8]) -> Result<Taken, Refused>
     ensures { taken_answer result table.new ≡ reading_of agreement.now table.old reading.now }
@@ -330,16 +347,4 @@ pub fn reading(agreement: &[u8], table: &mut [i64], reading: &[u8]) -> Result<Ta
     let mut sights = [UNREAD; MOST_UNITS];
     let run = open_run(accepted, table, &mut sights)?;
     run.read_on(table, reading)
-}
-
-// What a run comes to without further readings: the breach ahead, or none. The table is only read.
-#[tactic(auto, using(crate::proofs::Opens::foretelling))]
-pub fn forecast(agreement: &[u8], table: &[i64]) -> Result<Option<BreachAhead>, Refusal>
-    ensures { forecast_answer result ≡ forecast_of agreement.now table.now }
-{
-    let agreement = verify(agreement)?;
-    let table = table.as_array().ok_or(Refusal::TableLength)?;
-    let mut sights = [UNREAD; MOST_UNITS];
-    let shown = open_run(agreement, table, &mut sights)?;
-    Ok(shown.foretell(table))
 }

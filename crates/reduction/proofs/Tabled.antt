@@ -36,6 +36,8 @@ use Rattle.cells.proofs.Sights.{flat-append}
 use Rattle.places.proofs.Found.{found_is}
 use Rattle.bridge.proofs.Across.{FoundIs, sight_at, sights_of}
 use Rattle.walk.specs.Tree.{Waiting, Joining, TreeOf, Tree}
+use Rattle.walk.specs.Ahead.{UnitsOf}
+use Rattle.walk.proofs.Forecasts.{sights_count, tree_units}
 
 -- ---- the place of a clause that is found lies within the agreement
 no_clause_lem : (s : List ℕ) (p : ℕ) → T (whole (clause (heads_of s) 23 p [])) → ⊥
@@ -53,17 +55,6 @@ place_within s p c e t = go (leb p (length s)) refl
         let t' : T (whole (clause (heads_of s) 23 p (take (record_end s p - p) (drop p s)))) = rw e at t in
         let t'' : T (whole (clause (heads_of s) 23 p (take 0 (drop p s)))) = rw z at t' in
         absurd (no_clause_lem s p t'')
-
--- a sight for each unit
-sights_count : (res : Residue) → length (sights_in res) ≡ units res
-unfolding sights_in units
-sights_count (unit k p a e) = refl
-sights_count (both j l r) = omega (
-  arith,
-  length-append (sights_in l) (sights_in r),
-  sights_count l,
-  sights_count r,
-)
 
 few_cells : (xs : List ℤ) → length (padded 16 xs) ≡ 16 → length xs ≤ 16
 unfolding padded
@@ -179,6 +170,14 @@ module _ (s mains : List ℕ) (ck : checked s ≡ accepted (agreement_of s) main
       (is : run_of ag mains us ≡ some (run_at now m (running res))) where
     units_there : drop 8 us ≡ with_zeros (residue_cells res)
     units_there = ap (drop 8) (sym (table_back ag mains us (run_at now m (running res)) is l)) ∙ units_behind now m res
+
+    -- its units, as a forecast takes them
+    pub has_units : UnitsOf (length s) res (drop 8 us)
+    unfolding Good
+    has_units =
+        let inv = run_of_good ag mains us (run_at now m (running res)) (is_fair s ag mains ck) is in
+        let tree = residue_tree now inv.fits res inv.good.0 [] _ inv.good.1 in
+        subst (UnitsOf (length s) res) (sym units_there) (tree_units (length s) res [] _ tree)
 
     module _ (sights : List Seen) (taken : take (units res) sights ≡ sights_in res) where
       sighted : sights ≡ sights_in res ++ drop (units res) sights

@@ -9,20 +9,18 @@ use contract.Lifetimes.{Lfts}
 use borrow.Fn.Kinds.{Dens, ended_of}
 use denote.Triple.Clauses.{AtExit}
 use Rattle.csl.specs.Check.{check_of}
-use Rattle.csl.specs.Entries.{forecast_of, reading_of, start_of}
-use Rattle.monitor.specs.Answers.{Checked, Foretold, Started, TakenOrRefused, check_answer, forecast_answer}
-use Rattle.monitor.specs.Answers.{start_answer, taken_answer}
-use Rattle.givuntha.specs.Numbers.{forecast_numbers}
-use Rattle.givuntha.proofs.Apart.{apart}
-use Rattle.monitor.proofs.Calls.{forecast_call, reading_call, start_call}
+use Rattle.csl.specs.Entries.{reading_of, start_of}
+use Rattle.monitor.specs.Answers.{Checked, Started, TakenOrRefused, check_answer, start_answer, taken_answer}
+use Rattle.csl.specs.Demand3.{Bytes}
+use Rattle.givuntha.specs.Numbers.{reading_numbers, start_numbers}
+use Rattle.givuntha.proofs.Apart.{readings_apart, starts_apart}
+use Rattle.monitor.proofs.Calls.{reading_call, start_call}
 use Rattle.monitor.proofs.check.Kinds as check-kinds
 use Rattle.monitor.proofs.check.Reads as check
 use Rattle.monitor.proofs.start.Kinds as start-kinds
 use Rattle.monitor.proofs.start.Reads as start
 use Rattle.monitor.proofs.reading.Kinds as reading-kinds
 use Rattle.monitor.proofs.reading.Reads as reading
-use Rattle.monitor.proofs.forecast.Kinds as forecast-kinds
-use Rattle.monitor.proofs.forecast.Reads as forecast
 
 checks : (κs : Lfts 1) (given : Dens {n = 1} κs check-kinds.ps) (r : Checked)
     (left : AtExit (ended_of 1 check-kinds.ps check-kinds.r) κs)
@@ -40,13 +38,12 @@ reads : (κs : Lfts 3) (given : Dens {n = 3} κs reading-kinds.ps) (r : TakenOrR
     → taken_answer r left.1.0.now ≡ reading_of given.0.now given.1.0.now given.1.1.0.now
 reads = reading_call
 
-foretells : (κs : Lfts 2) (given : Dens {n = 2} κs forecast-kinds.ps) (r : Foretold)
-    (left : AtExit (ended_of 2 forecast-kinds.ps forecast-kinds.r) κs)
-    → forecast.Post κs given r left → forecast_answer r ≡ forecast_of given.0.now given.1.0.now
-foretells = forecast_call
+-- no two answers of a start, and no two of a reading, have the same numbers for a caller in C
+starts_told_apart : (s s' : List ℕ) (us us' : List ℤ) → Bytes s → Bytes s'
+    → start_numbers (start_of s us) ≡ start_numbers (start_of s' us') → start_of s us ≡ start_of s' us'
+starts_told_apart = starts_apart
 
--- no two forecasts have the same numbers for a caller in C
-forecasts_apart : (s s' : List ℕ) (us us' : List ℤ)
-    → forecast_numbers (forecast_of s us) ≡ forecast_numbers (forecast_of s' us')
-    → forecast_of s us ≡ forecast_of s' us'
-forecasts_apart = apart
+readings_told_apart : (s s' : List ℕ) (us us' : List ℤ) (b b' : List ℕ) → Bytes b → Bytes b'
+    → reading_numbers (reading_of s us b) ≡ reading_numbers (reading_of s' us' b')
+    → reading_of s us b ≡ reading_of s' us' b'
+readings_told_apart = readings_apart

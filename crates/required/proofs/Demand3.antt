@@ -7,7 +7,7 @@ use Prim.Native.Nat.{ℕ, ◌*◌, ◌≤◌, ◌<◌}
 use lib.Dec.{T}
 use lib.IntN.{ℤ, pos}
 use lib.ListN.{length, drop}
-use Rattle.std.specs.Prelude.{Ok}
+use Rattle.std.specs.Prelude.{Ok, Option}
 use Rattle.csl.specs.Lists.{at}
 use Rattle.csl.specs.Parties.{subset}
 use Rattle.csl.specs.Syntax.{Agreement}
@@ -16,13 +16,14 @@ use Rattle.csl.specs.Outcomes.{breach, stuck}
 use Rattle.csl.specs.Rules.{Reading}
 use Rattle.csl.specs.Run.{started, step}
 use Rattle.csl.specs.Table.{Run, table_of, run_of}
-use Rattle.csl.specs.Entries.{start_of}
+use Rattle.csl.specs.Entries.{forecast_run, shown, start_of, untold}
 use Rattle.csl.specs.Demand3.{Bytes, AllBytes, fitting, reached, needed, NotStuck, IsBreach, Unaltered, run_after}
-use Rattle.csl.specs.Demand3.{costs_by, marks_by, numbers_by}
+use Rattle.csl.specs.Demand3.{costs_by, forecasts_by, marks_by, numbers_by, told_by}
 use Rattle.csl.specs.Marks.{time_in}
+use Rattle.monitor.specs.declared.BreachAhead.{BreachAhead}
 use Rattle.monitor.specs.Answers.{Started, start_answer}
 use Rattle.monitor.specs.Calls.{Call, Calls, last_table, readings_in, number_in, numbers_in, early_in, marks_in}
-use Rattle.monitor.specs.Calls.{cost_in, costs_in}
+use Rattle.monitor.specs.Calls.{cost_in, costs_in, forecast_in, forecasts_in}
 use Rattle.monitor.specs.Early.{TooEarly}
 use Rattle.monitor.specs.Demand3.{Demand3, Begins, Upheld, run_by}
 use Rattle.monitor.proofs.Demand3.{demand3, begins}
@@ -56,7 +57,7 @@ module _ (s : List ℕ) (lent : List ℤ) (a : Agreement) (mains : List ℕ) (r 
   unfolding run_by
   never_stuck = claim.never_stuck
 
-  starts : r ≡ Ok tt
+  starts : (start_answer r us).number ≡ 0
   starts = claim.begun
 
   answers : numbers_in calls ≡ numbers_by a (started a).run (readings_in calls)
@@ -99,6 +100,14 @@ module _ (s : List ℕ) (lent : List ℤ) (a : Agreement) (mains : List ℕ) (r 
     unfolding run_by
     stays_breached = claim.final before one later split
 
+    -- paper 02, No. 2
+    tells : number_in one ≡ 0 → forecast_in one ≡ shown (forecast_run a (ran a (before ++ (one ∷ []))))
+    unfolding run_by
+    tells = claim.ahead before one later split
+
+    tells_nothing : number_in one ≢ 0 → forecast_in one ≡ untold
+    tells_nothing = claim.untold before one later split
+
     -- paper 02, No. 1
     moved_stays : (at (last_table us before) 0 ≡ at one.left 0)
         × (drop 8 (last_table us before) ≡ drop 8 one.left) → at one.left 5 ≡ at (last_table us before) 5
@@ -124,6 +133,12 @@ module _ (s : List ℕ) (lent : List ℤ) (a : Agreement) (mains : List ℕ) (r 
     at_most_lem : cost_in one ≤ 8_421_376
     at_most_lem = claim.at_most before one later split
 
+  forecasts : forecasts_in calls ≡ forecasts_by a (started a).run (readings_in calls)
+  forecasts = claim.forecasts
+
+  begins_ahead : (start_answer r us).forecast ≡ told_by a (started a)
+  begins_ahead = claim.begun_ahead
+
   costs : costs_in calls ≡ costs_by a (started a).run (readings_in calls)
   costs = claim.costs
 
@@ -136,9 +151,10 @@ module _ (s : List ℕ) (lent : List ℤ) (a : Agreement) (mains : List ℕ) (r 
   begins_unbreached : IsBreach (started a).run.outcome → ⊥
   begins_unbreached = claim.unbreached
 
-begun_was_started : (s : List ℕ) (lent us : List ℤ) → start_answer (Ok tt) us ≡ start_of s lent
+begun_was_started : (s : List ℕ) (lent us : List ℤ) (ahead : Option BreachAhead)
+    → start_answer (Ok ahead) us ≡ start_of s lent
     → (a : Agreement) × (mains : List ℕ) × (checked s ≡ accepted a mains) × (length lent ≡ 3080)
     × ((started a).number ≡ 0)
 unfolding Begins
-begun_was_started s lent us e = let b = begins s lent us e in
+begun_was_started s lent us ahead e = let b = begins s lent us ahead e in
     (b.0, b.1, b.2.is_accepted, b.2.not_six, b.2.not_eleven)

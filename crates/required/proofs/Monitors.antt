@@ -1,5 +1,5 @@
--- The checklist's six wrong monitors, each shown to break the contracts, and that no two answers of an entry mean the
--- same.
+-- The checklist's six wrong monitors, and three that are wrong in the forecast that they tell, each shown to break the
+-- contracts; and that no two answers of an entry mean the same.
 use mathlib.Core.Path.{◌≡◌}
 use mathlib.Core.List.{List}
 use Prim.Native.Nat.{ℕ}
@@ -7,28 +7,26 @@ use lib.IntN.{ℤ, pos}
 use lib.ListN.{get_or, set}
 use Rattle.csl.specs.Bytes.{le32}
 use Rattle.csl.specs.Check.{CheckAnswer, check_of}
-use Rattle.csl.specs.Entries.{Answer, ReadingAnswer, Forecast, forecast_of, reading_of, refused_forecast, start_of}
-use Rattle.monitor.specs.Answers.{Checked, Foretold, Started, TakenOrRefused, check_answer, forecast_answer}
-use Rattle.monitor.specs.Answers.{start_answer, taken_answer}
-use Rattle.monitor.proofs.Apart.{checked_by, started_by, taken_by, foretold_by, check_told, start_told, reading_told}
-use Rattle.monitor.proofs.Apart.{forecast_told}
+use Rattle.csl.specs.Entries.{ReadingAnswer, StartAnswer, forecast_of, no_breach, no_forecast, reading_of, start_of}
+use Rattle.csl.specs.Demand3.{Bytes}
+use Rattle.monitor.specs.Answers.{Checked, Started, TakenOrRefused, check_answer, start_answer, taken_answer}
+use Rattle.monitor.proofs.Apart.{checked_by, started_by, taken_by, check_told, start_told, reading_told}
+use Rattle.monitor.proofs.Apart.{Plain, reading_plain, start_plain}
 use Rattle.monitor.proofs.WrongMonitors.{refuses_all_lem, eleven_at_once, invented_units}
 use Rattle.monitor.proofs.WrongMonitors.{live_always, table_left_alone, works_at_the_first_reading}
+use Rattle.monitor.proofs.WrongMonitors.{none_always, refusals_told, table_before}
 
 module _ (check : List ℕ → CheckAnswer) (checks : (s : List ℕ) → check s ≡ check_of s)
-    (start : List ℕ → List ℤ → Answer) (starts : (s : List ℕ) (us : List ℤ) → start s us ≡ start_of s us)
+    (start : List ℕ → List ℤ → StartAnswer) (starts : (s : List ℕ) (us : List ℤ) → start s us ≡ start_of s us)
     (reading : List ℕ → List ℤ → List ℕ → ReadingAnswer)
-    (reads : (s : List ℕ) (us : List ℤ) (r : List ℕ) → reading s us r ≡ reading_of s us r)
-    (forecast : List ℕ → List ℤ → Forecast)
-    (foretells : (s : List ℕ) (us : List ℤ) → forecast s us ≡ forecast_of s us) where
+    (reads : (s : List ℕ) (us : List ℤ) (r : List ℕ) → reading s us r ≡ reading_of s us r) where
   refusing_all :
       (((s : List ℕ) → (check s).number ≡ 0 → ⊥) → ⊥)
       × (((s : List ℕ) (us : List ℤ) → (start s us).number ≡ 0 → ⊥) → ⊥)
       × (((s : List ℕ) (us : List ℤ) (r : List ℕ) → (reading s us r).number ≡ 0 → ⊥) → ⊥)
-      × (((s : List ℕ) (us : List ℤ) → (n : ℕ) × (forecast s us ≡ refused_forecast n)) → ⊥)
-  refusing_all = refuses_all_lem check checks start starts reading reads forecast foretells
+  refusing_all = refuses_all_lem check checks start starts reading reads
 
-module _ (start : List ℕ → List ℤ → Answer) (starts : (s : List ℕ) (us : List ℤ) → start s us ≡ start_of s us)
+module _ (start : List ℕ → List ℤ → StartAnswer) (starts : (s : List ℕ) (us : List ℤ) → start s us ≡ start_of s us)
     (reading : List ℕ → List ℤ → List ℕ → ReadingAnswer)
     (reads : (s : List ℕ) (us : List ℤ) (r : List ℕ) → reading s us r ≡ reading_of s us r) where
   saying_eleven :
@@ -37,7 +35,8 @@ module _ (start : List ℕ → List ℤ → Answer) (starts : (s : List ℕ) (us
       → (reading_of s us r).number ≡ 0 → (reading s us r).number ≡ 11) → ⊥)
   saying_eleven = eleven_at_once start starts reading reads
 
-module _ (start : List ℕ → List ℤ → Answer) (starts : (s : List ℕ) (us : List ℤ) → start s us ≡ start_of s us) where
+module _ (start : List ℕ → List ℤ → StartAnswer)
+    (starts : (s : List ℕ) (us : List ℤ) → start s us ≡ start_of s us) where
   inventing : (n : ℕ) → ((s : List ℕ) (us : List ℤ) → get_or (start s us).table 4 (pos 0) ≡ pos n) → ⊥
   inventing = invented_units start starts
 
@@ -53,6 +52,19 @@ module _ (reading : List ℕ → List ℤ → List ℕ → ReadingAnswer)
       → (reading s us r).table ≡ set us 1 (pos (le32 r 4))) → ⊥
   once_only = works_at_the_first_reading reading reads
 
+  -- paper 02, No. 2
+  telling_none : ((s : List ℕ) (us : List ℤ) (r : List ℕ) → (reading s us r).number ≡ 0
+      → (reading s us r).forecast ≡ no_breach) → ⊥
+  telling_none = none_always reading reads
+
+  telling_of_before : ((s : List ℕ) (us : List ℤ) (r : List ℕ) → (reading s us r).number ≡ 0
+      → (reading s us r).forecast ≡ forecast_of s us) → ⊥
+  telling_of_before = table_before reading reads
+
+  telling_refused : ((s : List ℕ) (us : List ℤ) (r : List ℕ)
+      → (reading s us r).forecast ≡ forecast_of s (reading s us r).table) → ⊥
+  telling_refused = refusals_told reading reads
+
 checks_apart : (r : Checked) → checked_by (check_answer r) ≡ r
 checks_apart = check_told
 
@@ -62,5 +74,13 @@ starts_apart = start_told
 readings_apart : (r : TakenOrRefused) (table : List ℤ) → taken_by (taken_answer r table) ≡ r
 readings_apart = reading_told
 
-forecasts_apart : (r : Foretold) → foretold_by (forecast_answer r) ≡ r
-forecasts_apart = forecast_told
+-- and whatever is lent, none or a breach by some party is told with 0, nothing with a refusal
+start_tells : (s : List ℕ) (us : List ℤ) → Bytes s → Plain (start_of s us).number (start_of s us).forecast
+start_tells = start_plain
+
+reading_tells : (s : List ℕ) (us : List ℤ) (r : List ℕ) → Bytes r
+    → Plain (reading_of s us r).number (reading_of s us r).forecast
+reading_tells = reading_plain
+
+no_forecast_never : (n : ℕ) → Plain n no_forecast → ⊥
+no_forecast_never n h = h

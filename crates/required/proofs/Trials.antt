@@ -1,15 +1,17 @@
--- The trials that must be there: P1 to P15 by name, those of paper 02, Nos. 8 and 9 by name, the second list, and that
--- all pass.
+-- The trials that must be there: P1 to P15 by name, those of paper 02, Nos. 2, 8 and 9 by name, the second list, and
+-- that all pass.
 use mathlib.Core.Path.{◌≡◌, refl}
 use mathlib.Core.List.{List, [], ◌∷◌, map}
 use Prim.Native.String.{String}
 use Rattle.csl.proofs.Trials.{trials_pass}
 use Rattle.csl.proofs.Further.{further_pass}
+use Rattle.csl.proofs.Joined.{joined_pass}
 use Rattle.csl.proofs.TooEarly.{too_early_pass}
 use Rattle.csl.proofs.Costs.{costs_pass}
 use Rattle.csl.specs.Trials.{Trial, trials, p1to4, p5and6, p7, p8, p9, p10, p11, p12a, p12b, p13, p14}
-use Rattle.csl.specs.Trials.{p15, follows, grows}
+use Rattle.csl.specs.Trials.{p15, follows}
 use Rattle.csl.specs.Further.{further, obeys, shows}
+use Rattle.csl.specs.Joined.{joined_trials}
 use Rattle.csl.specs.TooEarly.{too_earlies, tells}
 use Rattle.csl.specs.Costs.{costing, costs, takes, lapses}
 
@@ -19,11 +21,28 @@ names ts = map (λ t. t.name) ts
 trial_names : names trials ≡ "P1 to P4 and the transcript's refused reading" ∷ "P5 and P6" ∷ "P7" ∷ "P8" ∷ "P9"
     ∷ "P10" ∷ "P11"
     ∷ "P12, a reading" ∷ "P12, a mark" ∷ "P13" ∷ "P14" ∷ "P15" ∷ []
-unfolding trials p1to4 p5and6 p7 p8 p9 p10 p11 p12a p12b p13 p14 p15 follows grows
+unfolding trials p1to4 p5and6 p7 p8 p9 p10 p11 p12a p12b p13 p14 p15 follows
 trial_names = refl
 
 trials_hold : map (λ t. t.shown) trials ≡ map (λ t. t.expected) trials
 trials_hold = trials_pass
+
+joined_names : names joined_trials
+    ≡ "a start, whatever the table was" ∷ "a start that leaves nothing to wait for"
+    ∷ "a start that is refused: 1, 6, 11, whatever lies ahead in the table"
+    ∷ "a reading that waits on, and a mark: the same as before"
+    ∷ "a reading that alters: what lies ahead now, not before" ∷ "a reading that fulfils, and a mark after it"
+    ∷ "a reading that breaches, a mark after it: the verdict"
+    ∷ "a breach in its own minute: by those that are late, of all that lay ahead"
+    ∷ "a choice's else, and the else that waits"
+    ∷ "a reading that is refused: 1, 6, 7, 8, 9, 10, whatever lies ahead in the table"
+    ∷ "a reading that is refused on a breached and on a fulfilled table"
+    ∷ "11: neither what lies ahead nor what would" ∷ "by the words of demand 3" ∷ []
+unfolding joined_trials shows
+joined_names = refl
+
+joined_hold : map (λ t. t.shown) joined_trials ≡ map (λ t. t.expected) joined_trials
+joined_hold = joined_pass
 
 too_early_names : names too_earlies
     ≡ "too early, `where` false, a mark, refused with 10, the last minute before, the first, fulfilled"

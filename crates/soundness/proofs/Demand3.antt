@@ -7,7 +7,7 @@ use mathlib.Core.List.{List, [], ◌∷◌}
 use mathlib.Core.Logic.{inl, inr, ◌↔◌, ◌≢◌, ◌⊎◌}
 use mathlib.Core.Option.{Option, none, some}
 use mathlib.Core.Path.{ap, refl, subst, sym, ◌∙◌, ◌≡◌}
-use Prim.Native.Nat.{◌<◌, suc, zero, ℕ, ◌≤◌}
+use Prim.Native.Nat.{◌<◌, ◌^◌, suc, zero, ℕ, ◌≤◌}
 use native.Mathlib.Omega.{arith}
 use lib.Dec.{T, nltb→le}
 use lib.IntN.{pos}
@@ -269,19 +269,22 @@ module _ (bytes : List ℕ) (a : Agreement) (mains : List ℕ) (ck : checked byt
   choose : Bool → Stepped
   choose b = elim b [ true ↦ stepped 11 begun | false ↦ stepped 0 begun ]
 
-  pub start_inv : Bytes bytes → (started a).number ≡ 0 → Sound (started a).run
+  pub start_inv_soon : a.start < 2 ^ 32 → (started a).number ≡ 0 → Sound (started a).run
   unfolding started kept first begun choose
-  start_inv hb h = go (too_many first) refl h
+  start_inv_soon soon h = go (too_many first) refl h
     where
       go : (b : Bool) → too_many first ≡ b → (choose b).number ≡ 0 → Sound (choose b).run
       go true e q = absurd (omega arith)
       go false e q = record {
         from = omega arith;
         to = omega arith;
-        fits = start_lt bytes a hb (is_passed bytes a mains ck).decodes;
+        fits = soon;
         good = first_good;
         small = nltb→le 128 (needed first) (subst (λ b. T (not b)) (sym e ∙ too_many_is first) tt);
       }
+
+  pub start_inv : Bytes bytes → (started a).number ≡ 0 → Sound (started a).run
+  start_inv hb = start_inv_soon (start_lt bytes a hb (is_passed bytes a mains ck).decodes)
 
   first_unbreached : Unbreached first
   unfolding first activate during

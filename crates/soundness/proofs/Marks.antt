@@ -1,27 +1,25 @@
 -- What an accepted mark makes of a run and its forecast (`mark_next`), and every list of them: paper 01, "Following a
 -- reading".
 -- Main theorems: `never`, `not_yet`, `at_once_lem`, `until`, `given`, `frozen`.
-use mathlib.Core.Bool.{false, true}
 use mathlib.Core.List.{List, [], ◌∷◌}
-use mathlib.Core.Logic.{inl, inr, ◌⊎◌}
+use mathlib.Core.Logic.{inl, inr, ◌≢◌, ◌⊎◌}
 use mathlib.Core.Option.{none, some}
 use mathlib.Core.Path.{ap, ap₂, refl, subst, sym, ◌∙◌, ◌≡◌}
-use Prim.Native.Nat.{◌<◌, ℕ, ◌≤◌}
+use Prim.Native.Nat.{◌<◌, suc, zero, ℕ, ◌≤◌}
 use native.Mathlib.Omega.{arith}
 use lib.Dec.{T}
 use lib.IntN.{ℤ}
-use lib.ListN.{length}
 use Rattle.csl.specs.Lists.{at}
 use Rattle.csl.specs.Parties.{bits_of, members, subset}
 use Rattle.csl.specs.Syntax.{Agreement}
 use Rattle.csl.specs.Check.{accepted, checked, refused}
 use Rattle.csl.specs.Outcomes.{Outcome, Residue, breach, done, running, stuck}
 use Rattle.csl.specs.Rules.{Reading, follow, forecast}
-use Rattle.csl.specs.Run.{step}
+use Rattle.csl.specs.Run.{Stepped, step}
 use Rattle.csl.specs.Table.{Run, head_cells, nat_cells, padded, run_of, table_of}
-use Rattle.csl.specs.Entries.{Forecast, breach_at, forecast_of, forecast_run, is_table, no_breach, refused_forecast}
-use Rattle.csl.specs.Entries.{shown}
-use Rattle.csl.specs.Demand3.{AllBytes, Bytes, IsBreach, reached, run_after}
+use Rattle.csl.specs.Entries.{Forecast, breach_at, forecast_of, forecast_run, no_breach, no_forecast}
+use Rattle.csl.specs.Entries.{shown, told_of, untold}
+use Rattle.csl.specs.Demand3.{AllBytes, Bytes, IsBreach, reached, run_after, told_by}
 use Rattle.csl.specs.Marks.{AllTimes, Breached, ForecastFits, IsMark, time_in}
 use Rattle.laws.proofs.Options.{some_inj}
 use Rattle.laws.proofs.Clash.{impossible}
@@ -31,8 +29,8 @@ use Rattle.soundness.proofs.Bits.{bits_back, bits_pos, in_members, members_in, s
 use Rattle.soundness.proofs.Readings.{fitting_time}
 use Rattle.soundness.proofs.Following.{ReadingOk}
 use Rattle.soundness.proofs.Runs.{Alike, CaseOf, Inv, InvOf, Since, taken, breached, case_of, backward}
-use Rattle.soundness.proofs.Runs.{few_mains, final, is_fair, is_table_is, many, misfit, not_stuck}
-use Rattle.soundness.proofs.Runs.{moved_to, reached_good, read_to, reads, run_at, same, step_inv, table_len}
+use Rattle.soundness.proofs.Runs.{few_mains, final, is_fair, many, misfit, not_stuck}
+use Rattle.soundness.proofs.Runs.{moved_to, reached_good, read_to, reads, run_at, same, step_inv}
 use Rattle.soundness.proofs.Moved.{moved_breach}
 use Rattle.soundness.proofs.Demand3.{step_final}
 use Rattle.soundness.proofs.Forecasts.{ForecastOk, NotBefore, forecast_ok}
@@ -253,24 +251,15 @@ module _ (bytes : List ℕ) (a : Agreement) (mains : List ℕ) (ck : checked byt
         all (omega (arith, same.0)) ∙ sym same.1,
       )
 
-  pub forecast_is : (cells : List ℤ) (q : Run) → length cells ≡ 3080 → run_of a mains cells ≡ some q
+  pub forecast_is : (cells : List ℤ) (q : Run) → run_of a mains cells ≡ some q
       → forecast_of bytes cells ≡ shown (forecast_run a q)
   unfolding forecast_of
-  forecast_is cells q h e =
+  forecast_is cells q e =
       ap (λ c. elim c [
-        | refused n ↦ refused_forecast n
-        | accepted a ps ↦ elim (is_table cells) [
-          | false ↦ refused_forecast 6
-          | true ↦ elim (run_of a ps cells)
-              [ none ↦ refused_forecast 7 | some x ↦ shown (forecast_run a x) ]
-        ]
+        | refused n ↦ no_forecast
+        | accepted a ps ↦ elim (run_of a ps cells) [ none ↦ no_forecast | some x ↦ shown (forecast_run a x) ]
       ]) ck
-      ∙ ap (λ b. elim b [
-        | false ↦ refused_forecast 6
-        | true ↦ elim (run_of a mains cells) [ none ↦ refused_forecast 7 | some x ↦ shown (forecast_run a x) ]
-      ])
-      (is_table_is bytes a mains ck cells h)
-      ∙ ap (λ o. elim o [ none ↦ refused_forecast 7 | some x ↦ shown (forecast_run a x) ]) e
+      ∙ ap (λ o. elim o [ none ↦ no_forecast | some x ↦ shown (forecast_run a x) ]) e
 
   pub run_ok : (now m : ℕ) (o : Outcome) → Inv a mains now m o
       → ForecastOk a mains (forecast_run a (run_at now m o))
@@ -296,12 +285,11 @@ module _ (bytes : List ℕ) (a : Agreement) (mains : List ℕ) (ck : checked byt
   fits (running r) k = k
   fits stuck k = k
 
-  -- what the forecast entry answers on a run's table
+  -- the forecast of a run's table
   pub forecast_shows : (q : Run) → Sound q → forecast_of bytes (table_of q) ≡ shown (forecast_run a q)
   forecast_shows q i =
       let x = reads a mains (few_mains bytes a mains ck) q.last_time q.last_moved q.outcome i in
-      forecast_is (table_of q) (run_at q.last_time q.last_moved x.0)
-      (table_len a mains q.last_time q.last_moved q.outcome i) x.1
+      forecast_is (table_of q) (run_at q.last_time q.last_moved x.0) x.1
       ∙ alike x.0 q.outcome x.2
     where
       alike : (x o : Outcome) → Alike x o
@@ -309,3 +297,27 @@ module _ (bytes : List ℕ) (a : Agreement) (mains : List ℕ) (ck : checked byt
           (forecast_run a (run_at q.last_time q.last_moved o))
       alike x o (same o') = refl
       alike x o (breached t ps) = unfold forecast_run shown bits_of members in ap (breach_at t) (bits_back 16 0 ps)
+
+  -- what a call tells of the table that a step leaves is what the step tells of its run
+  pub told_shows : (x : Stepped) → Sound x.run → told_of bytes x.number (table_of x.run) ≡ told_by a x
+  unfolding told_of told_by
+  told_shows x i = go x.number
+    where
+      go : (n : ℕ) → told_of bytes n (table_of x.run)
+          ≡ elim n [ zero ↦ shown (forecast_run a x.run) | suc k ↦ untold ]
+      go zero = forecast_shows x.run i
+      go (suc n) = refl
+
+-- what a step tells: of 0 the forecast of its run, of a refusal nothing
+module _ (a : Agreement) (x : Stepped) where
+  pub told_zero : x.number ≡ 0 → told_by a x ≡ shown (forecast_run a x.run)
+  unfolding told_by
+  told_zero z = rw z refl
+
+  pub told_more : x.number ≢ 0 → told_by a x ≡ untold
+  unfolding told_by
+  told_more nz = go x.number refl
+    where
+      go : (n : ℕ) → x.number ≡ n → (elim n [ zero ↦ shown (forecast_run a x.run) | suc k ↦ untold ]) ≡ untold
+      go zero e = absurd (nz e)
+      go (suc n) e = refl

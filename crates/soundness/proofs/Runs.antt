@@ -24,7 +24,7 @@ use Rattle.csl.specs.Table.{Run, head_cells, join_cells, nat_cells, padded, resi
 use Rattle.csl.specs.Table.{table_of}
 use Rattle.csl.specs.Early.{came_early, mark_of}
 use Rattle.csl.specs.Cost.{cost_from, cost_of}
-use Rattle.csl.specs.Entries.{Answer, ReadingAnswer, answered, is_table, reading_of, refusal, start_of, written}
+use Rattle.csl.specs.Entries.{Answer, ReadAnswer, answered, is_table, read_of, refusal, begun_of, written}
 use Rattle.csl.specs.Demand3.{Bytes, IsBreach, NotStuck, fitting, needed, reached}
 use Rattle.laws.proofs.Bools.{T-left, T-or, T-right}
 use Rattle.laws.proofs.Options.{some_bind}
@@ -37,7 +37,8 @@ use Rattle.soundness.proofs.Following.{ReadingOk, follow_good}
 use Rattle.soundness.proofs.Bits.{bits_back}
 use Rattle.soundness.proofs.RoundTrip.{breach_reads, done_reads, running_reads, units_length}
 use Rattle.soundness.proofs.Checked.{Passed, fair, passed}
-use Rattle.soundness.proofs.Readings.{raw_time, reading_ok}
+use Rattle.csl.specs.Marks.{time_in}
+use Rattle.soundness.proofs.Readings.{fitting_time, raw_time, reading_ok, time_below}
 
 -- a run by its last reading time, when it last moved, and its outcome
 abbrev pub run_at : ℕ → ℕ → Outcome → Run
@@ -326,7 +327,7 @@ unfolding cost_of cost_from
 alike_cost a now m q o r (same o') = refl
 alike_cost a now m q o r (breached t ps) = refl
 
-abbrev FineReading : Agreement → Run → List ℕ → ReadingAnswer → Type 0
+abbrev FineReading : Agreement → Run → List ℕ → ReadAnswer → Type 0
 FineReading a q r x = (x.number ≡ (step a q r).number) × (x.table ≡ table_of (step a q r).run)
     × (x.early ≡ mark_of (came_early a q r)) × (x.cost ≡ cost_of a q r)
 
@@ -344,9 +345,9 @@ module _ (bytes : List ℕ) (a : Agreement) (mains : List ℕ) (ck : checked byt
   is_table_is cells h = rw h refl
 
   pub reading_is : (cells : List ℤ) (q : Run) (r : List ℕ) → length cells ≡ 3080 → run_of a mains cells ≡ some q
-      → reading_of bytes cells r ≡ answered (mark_of (came_early a q r)) (cost_of a q r)
+      → read_of bytes cells r ≡ answered (mark_of (came_early a q r)) (cost_of a q r)
       (written cells (step a q r))
-  unfolding reading_of
+  unfolding read_of
   reading_is cells q r h e =
       ap (λ c. elim c [
         | refused n ↦ answered 0 0 (refusal n cells)
@@ -371,8 +372,8 @@ module _ (bytes : List ℕ) (a : Agreement) (mains : List ℕ) (ck : checked byt
         | some x ↦ answered (mark_of (came_early a x r)) (cost_of a x r) (written cells (step a x r))
       ]) e
 
-  pub start_is : (cells : List ℤ) → length cells ≡ 3080 → start_of bytes cells ≡ written cells (started a)
-  unfolding start_of
+  pub start_is : (cells : List ℤ) → length cells ≡ 3080 → begun_of bytes cells ≡ written cells (started a)
+  unfolding begun_of
   start_is cells h =
       ap (λ c. elim c [
         | refused n ↦ refusal n cells
@@ -393,7 +394,7 @@ module _ (bytes : List ℕ) (a : Agreement) (mains : List ℕ) (ck : checked byt
   InvOf q = Inv a mains q.last_time q.last_moved q.outcome
 
   -- on a run's table the entry answers with the run's number, mark and cost, and leaves the run's table
-  pub reading_fine : (q : Run) (r : List ℕ) → InvOf q → FineReading a q r (reading_of bytes (table_of q) r)
+  pub reading_fine : (q : Run) (r : List ℕ) → InvOf q → FineReading a q r (read_of bytes (table_of q) r)
   unfolding answered
   reading_fine q r i =
       let now = q.last_time in
@@ -420,8 +421,8 @@ module _ (bytes : List ℕ) (a : Agreement) (mains : List ℕ) (ck : checked byt
 
   -- every reading keeps the invariant: typed residue, parties within the main clause's, times from the start to the
   -- last reading
-  pub step_inv : (q : Run) (r : List ℕ) → Bytes r → InvOf q → InvOf (step a q r).run
-  step_inv q r hr i = go (case_of a q r (not_stuck a mains q.last_time q.outcome i.good))
+  pub step_inv_soon : (q : Run) (r : List ℕ) → time_in r < 2 ^ 32 → InvOf q → InvOf (step a q r).run
+  step_inv_soon q r soon i = go (case_of a q r (not_stuck a mains q.last_time q.outcome i.good))
     where
       since : (d : Reading) {k : ℕ} → q.last_time ≤ d.time → (k ≡ d.time) ⊎ (k ≡ q.last_moved) → Since a d.time k
       since d le (inl e) = (omega (arith, i.from, i.to), omega arith)
@@ -437,11 +438,16 @@ module _ (bytes : List ℕ) (a : Agreement) (mains : List ℕ) (ck : checked byt
           subst (λ s. InvOf s.run) (sym e) (record {
             from = moved.0;
             to = moved.1;
-            fits = lt hr;
+            fits = subst (λ t. t < 2 ^ 32) (sym (fitting_time a r d f)) soon;
             good = reached_good q.last_time q.last_moved q.outcome d le ok nb i;
             small = nd;
           })
       go (final d f le ib nd e) = subst (λ s. InvOf s.run) (sym e) i
+
+  -- whatever the reading's bytes
+  pub step_inv : (q : Run) (r : List ℕ) → Bytes r → InvOf q → InvOf (step a q r).run
+  unfolding time_in
+  step_inv q r h = step_inv_soon q r (time_below r 4 h)
 
   -- 7 does not apply to its table
   pub table_typed : (q : Run) → InvOf q → (length (table_of q) ≡ 3080)

@@ -17,7 +17,7 @@ use Rattle.kinds.specs.Kinds.{NamesState}
 use Rattle.kinds.specs.declared.Unknown.{Unknown}
 use Rattle.csl.specs.Numbers.{eq_z}
 use Rattle.csl.specs.Bytes.{le32}
-use Rattle.csl.specs.Entries.{forecast_of}
+use Rattle.csl.specs.Entries.{Forecast}
 use Rattle.monitor.specs.declared.Refusal.{Refusal}
 use Rattle.monitor.specs.declared.Refusal.TheVariants.{AgreementLength, AgreementForm, AgreementTyping}
 use Rattle.monitor.specs.declared.Refusal.TheVariants.{AgreementGuards, AgreementWidth, TableLength, TableContent}
@@ -56,17 +56,17 @@ pub told : (z : ℤ) (r : Result RunState Unknown) → NamesState z r → {s t :
 told z r names e is = subst (λ s. Told s z) (sym e ∙ is) (told_by z r names)
 
 -- ---- the verdict, by the state
-module _ (s : List ℕ) (cells : List ℤ) {z : ℤ} (is : z ≡ get_or cells 0 (pos 0)) where
-  pub verdict_done : Told Fulfilled z → fields (done ∷ []) ≡ fields (verdict_fields s cells)
+module _ (f : Forecast) (cells : List ℤ) {z : ℤ} (is : z ≡ get_or cells 0 (pos 0)) where
+  pub verdict_done : Told Fulfilled z → fields (done ∷ []) ≡ fields (verdict_fields f cells)
   unfolding verdict_fields state_fields state_by
   verdict_done e = rw (sym is, e) refl
 
-  module _ (ahead : List ℕ) (shown : ahead ++ (newline ∷ []) ≡ fields (forecast_fields (forecast_of s cells))) where
-    pub verdict_live : Told Running z → fields ((live ++ ahead) ∷ []) ≡ fields (verdict_fields s cells)
+  module _ (ahead : List ℕ) (shown : ahead ++ (newline ∷ []) ≡ fields (forecast_fields f)) where
+    pub verdict_live : Told Running z → fields ((live ++ ahead) ∷ []) ≡ fields (verdict_fields f cells)
     unfolding verdict_fields state_fields state_by fields
     verdict_live e = rw (sym is, e.0, e.1) (ap (λ l. space ∷ (live ++ l)) shown)
 
-    pub verdict_breach : Told Breached z → fields ((breach ++ ahead) ∷ []) ≡ fields (verdict_fields s cells)
+    pub verdict_breach : Told Breached z → fields ((breach ++ ahead) ∷ []) ≡ fields (verdict_fields f cells)
     unfolding verdict_fields state_fields state_by fields
     verdict_breach e = rw (sym is, e.0, e.1) (ap (λ l. space ∷ (breach ++ l)) shown)
 
@@ -98,13 +98,13 @@ not_eight ReadingTime f = refl
 not_eight Units f = refl
 
 -- so that the fields of an answer are the refusal's
-pub answer_refused : (s : List ℕ) (why : Refusal) (cells : List ℤ)
-    → refusal_fields (number_of why) ≡ answer_fields s (number_of why) cells
+pub answer_refused : (why : Refusal) (f : Forecast) (cells : List ℤ)
+    → refusal_fields (number_of why) ≡ answer_fields (number_of why) f cells
 unfolding answer_fields
-answer_refused s why cells = go (number_of why) (not_zero why)
+answer_refused why f cells = go (number_of why) (not_zero why)
   where
     go : (n : ℕ) → eqb n 0 ≡ false → refusal_fields n ≡ elim n
-        [ zero ↦ verdict_fields s cells | suc k ↦ refusal_fields (suc k) ]
+        [ zero ↦ verdict_fields f cells | suc k ↦ refusal_fields (suc k) ]
     go zero e = cc
     go (suc k) e = refl
 

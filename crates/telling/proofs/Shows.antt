@@ -4,10 +4,9 @@ use mathlib.Core.List.{List, [], ◌∷◌, ◌++◌, append_assoc}
 use Prim.Native.Nat.{ℕ, ◌^◌, ◌≤◌, ◌<◌}
 use native.Mathlib.Omega.{arith}
 use lib.ListN.{length, length-append}
-use Rattle.std.proofs.Common.{Option, Some, None, Result, Ok, Err}
-use Rattle.monitor.specs.Answers.{forecast_answer}
+use Rattle.std.proofs.Common.{Option, Some, None, Err}
+use Rattle.monitor.specs.Answers.{ahead_told}
 use Rattle.monitor.specs.declared.BreachAhead.{BreachAhead}
-use Rattle.monitor.specs.declared.Refusal.{Refusal}
 use Rattle.lines.specs.Text.{decimal, fields, line, space, newline}
 use Rattle.lines.specs.Lines.{forecast_fields, refusal_fields}
 use Rattle.lines.specs.Shown.{shown_says}
@@ -15,23 +14,21 @@ use Rattle.lines.proofs.Decimal.{few}
 use Rattle.telling.specs.Verdicts.{shown_ahead, shown_verdict}
 
 -- ---- a forecast, and the line's end
-pub ahead_shown : (r : Result (Option BreachAhead) Refusal)
-    → shown_ahead r ++ (newline ∷ []) ≡ fields (forecast_fields (forecast_answer r))
+pub ahead_shown : (o : Option BreachAhead)
+    → shown_ahead o ++ (newline ∷ []) ≡ fields (forecast_fields (ahead_told o))
 unfolding fields forecast_fields
-ahead_shown (Ok (Some b)) = append_assoc (space ∷ decimal b.time) (space ∷ decimal b.parties) (newline ∷ [])
-ahead_shown (Ok None) = refl
-ahead_shown (Err why) = refl
+ahead_shown (Some b) = append_assoc (space ∷ decimal b.time) (space ∷ decimal b.parties) (newline ∷ [])
+ahead_shown None = refl
 
-abbrev pub Fits : Result (Option BreachAhead) Refusal → Type 0
-Fits r = (b : BreachAhead) → r ≡ Ok (Some b) → (b.time < 2 ^ 64) × (b.parties < 2 ^ 64)
+abbrev pub Fits : Option BreachAhead → Type 0
+Fits o = (b : BreachAhead) → o ≡ Some b → (b.time < 2 ^ 64) × (b.parties < 2 ^ 64)
 
-pub ahead_short : (r : Result (Option BreachAhead) Refusal) → Fits r → length (shown_ahead r) ≤ 42
-ahead_short (Ok (Some b)) h =
+pub ahead_short : (o : Option BreachAhead) → Fits o → length (shown_ahead o) ≤ 42
+ahead_short (Some b) h =
     let fits = h b refl in
     let both = length-append (space ∷ decimal b.time) (space ∷ decimal b.parties) in
     omega (arith, few b.time fits.0, few b.parties fits.1)
-ahead_short (Ok None) h = omega arith
-ahead_short (Err why) h = omega arith
+ahead_short None h = omega arith
 
 -- ---- a refusal
 pub refusal_shown : (number : ℕ)

@@ -19,7 +19,7 @@ pub record Begins (s : List ℕ) (cells cells₂ : List ℤ) (l : Line Verdict) 
 
 -- ---- a reading b at line n: only one refused with 8 has no time
 pub record Follows (s : List ℕ) (cells cells₂ : List ℤ) (n : ℕ) (b : List ℕ) (l : Line Verdict) : Type 0 where
-  pub line : text_of l ≡ reading_line s n b (reading_of s cells b)
+  pub line : text_of l ≡ reading_line n b (reading_of s cells b)
   pub table : cells₂ ≡ (reading_of s cells b).table
   pub goes : is_some l.time ≡ not (eqb (reading_of s cells b).number 8)
   pub room : length (text_of l) ≤ line_room

@@ -1,15 +1,14 @@
 // The line that a start or a reading tells.
 #![tactic(auto)]
 
-ghost use Rattle.std.specs.Prelude.{◌≡◌, [], ◌∷◌, ◌++◌, ◌≤◌, eqb, not, is_some, length};
-ghost use Rattle.csl.specs.Entries.{forecast_of};
-ghost use Rattle.lines.specs.Text.{fields, newline};
-ghost use Rattle.lines.specs.Lines.{forecast_fields, verdict_fields, reading_time};
+ghost use Rattle.std.specs.Prelude.{◌≡◌, [], ◌∷◌, ◌+◌, ◌≤◌, eqb, not, is_some, length};
+ghost use Rattle.lines.specs.Text.{fields};
+ghost use Rattle.lines.specs.Lines.{verdict_fields, reading_time};
 ghost use Rattle.lines.specs.Put.{put};
 ghost use Rattle.lines.specs.Shown.{shown_time};
-ghost use Rattle.monitor.specs.Answers.{number_of};
+ghost use Rattle.monitor.specs.Answers.{ahead_told, number_of};
 ghost use Rattle.telling.specs.Told.{Begins, Follows};
-ghost use Rattle.telling.specs.Verdicts.{shown_breach, shown_forecast, shown_verdict};
+ghost use Rattle.telling.specs.Verdicts.{shown_ahead, shown_verdict};
 
 use kinds::RunState;
 use lines::{Line, Page, Put};
@@ -20,37 +19,12 @@ use records::START_AT;
 // No line is longer.
 pub const LINE_ROOM: usize = 96;
 
-// What the entry `forecast` answers. A table that start or a reading left has a forecast, so that no refusal occurs
-// here, and nothing is shown for it.
-#[derive(Clone, Copy, Debug, PartialEq, Eq)]
-pub struct Forecast(pub Result<Option<BreachAhead>, Refusal>);
-
-impl Put for Forecast {
-    ghost text = { shown_forecast };
-
-    fn put_on(&self, page: &mut Page<'_>) {
-        match self.0 {
-            Ok(Some(breach)) => put_breach(breach, page),
-            Ok(None) => page.put_bytes(b" NONE"),
-            Err(_) => {}
-        }
-    }
-}
-
-// The time, and the parties by bit.
-fn put_breach(breach: BreachAhead, page: &mut Page<'_>)
-    ensures { page.new ≡ put page.old (shown_breach breach) }
-{
-    page.put_next(breach.time);
-    page.put_next(breach.parties as u64);
-}
-
 // What a table says: it runs or is breached, with its forecast, or it is fulfilled.
 #[derive(Clone, Copy, Debug, PartialEq, Eq)]
 pub enum Verdict {
-    Live(Forecast),
+    Live(Option<BreachAhead>),
     Done,
-    Breach(Forecast),
+    Breach(Option<BreachAhead>),
 }
 
 impl Put for Verdict {
@@ -58,36 +32,42 @@ impl Put for Verdict {
 
     fn put_on(&self, page: &mut Page<'_>) {
         match *self {
-            Verdict::Live(forecast) => {
+            Verdict::Live(ahead) => {
                 page.put_bytes(b"LIVE");
-                forecast.put_on(page);
+                put_ahead(ahead, page);
             }
             Verdict::Done => page.put_bytes(b"DONE"),
-            Verdict::Breach(forecast) => {
+            Verdict::Breach(ahead) => {
                 page.put_bytes(b"BREACH");
-                forecast.put_on(page);
+                put_ahead(ahead, page);
             }
         }
     }
 }
 
-fn forecast_on(agreement: &[u8], table: &[i64]) -> Forecast
-    ensures shows { shown_forecast result ++ (newline ∷ []) ≡ fields (forecast_fields (forecast_of agreement.now table.now)) }
-    ensures room { length (shown_forecast result) ≤ 42 }
+// The breach ahead, its time and its parties by bit, or that there is none.
+fn put_ahead(ahead: Option<BreachAhead>, page: &mut Page<'_>)
+    ensures { page.new ≡ put page.old (shown_ahead ahead) }
 {
-    Forecast(monitor::forecast(agreement, table))
+    match ahead {
+        Some(breach) => {
+            page.put_next(breach.time);
+            page.put_next(breach.parties as u64);
+        }
+        None => page.put_bytes(b" NONE"),
+    }
 }
 
-// The verdict on a table, by its state; a cell that names none is taken for a breach's.
-fn verdict_on(agreement: &[u8], table: &[i64]) -> Verdict
-    ensures shows { fields (shown_verdict result ∷ []) ≡ fields (verdict_fields agreement.now table.now) }
-    ensures room { length (shown_verdict result) ≤ 48 }
+// The verdict on a table, by its state, with its forecast; a cell that names no state is taken for a breach's.
+fn verdict_on(table: &[i64], ahead: Option<BreachAhead>) -> Verdict
+    ensures shows { fields (shown_verdict result ∷ []) ≡ fields (verdict_fields (ahead_told ahead) table.now) }
+    ensures room { length (shown_verdict result) ≤ 6 + length (shown_ahead ahead) }
 {
     let cell = table.first().copied().unwrap_or(0);
     match RunState::try_from(cell).unwrap_or(RunState::Breached) {
-        RunState::Running => Verdict::Live(forecast_on(agreement, table)),
+        RunState::Running => Verdict::Live(ahead),
         RunState::Fulfilled => Verdict::Done,
-        RunState::Breached => Verdict::Breach(forecast_on(agreement, table)),
+        RunState::Breached => Verdict::Breach(ahead),
     }
 }
 
@@ -96,10 +76,10 @@ pub fn begin(agreement: &[u8], table: &mut [i64]) -> Line<Verdict>
     ensures { Begins agreement.now table.old table.new result }
 {
     match monitor::start(agreement, table) {
-        Ok(()) => Line {
+        Ok(ahead) => Line {
             number: 0,
             time: Some(unsigned32(agreement, START_AT)),
-            says: Ok(verdict_on(agreement, table)),
+            says: Ok(verdict_on(table, ahead)),
         },
         Err(why) => Line {
             number: 0,
@@ -114,10 +94,10 @@ pub fn follow(agreement: &[u8], table: &mut [i64], reading: &[u8], number: u64) 
     ensures { Follows agreement.now table.old table.new number reading.now result }
 {
     match monitor::reading(agreement, table, reading) {
-        Ok(_) => Line {
+        Ok(taken) => Line {
             number,
             time: Some(unsigned32(reading, 4)),
-            says: Ok(verdict_on(agreement, table)),
+            says: Ok(verdict_on(table, taken.ahead)),
         },
         Err(Refused { why, cost: _ }) => Line {
             number,

@@ -67,9 +67,6 @@ impl<W: Write> Lines<W> {
                     given.table.as_mut_slice(),
                     given.reading.as_slice(),
                 )?,
-                Entry::Forecast => {
-                    self.put_forecast(given.agreement.as_slice(), given.table.as_slice())?
-                }
             }
         }
         self.text.write_all(b"\n")
@@ -83,14 +80,16 @@ impl<W: Write> Lines<W> {
         write!(self.text, "check {number} {parties}")
     }
 
-    // The number, and the cells.
+    // The number, the forecast, and the cells.
     fn put_start(&mut self, agreement: &[u8], table: &mut [i64]) -> io::Result<()> {
-        let number = number_of(&monitor::start(agreement, table));
+        let started = monitor::start(agreement, table);
+        let number = number_of(&started);
         write!(self.text, "start {number}")?;
+        self.put_ahead(started.unwrap_or(None))?;
         self.put_cells(table)
     }
 
-    // The number, the mark `early`, the cost, and the cells.
+    // The number, the forecast, the mark `early`, the cost, and the cells.
     fn put_reading(
         &mut self,
         agreement: &[u8],
@@ -98,28 +97,27 @@ impl<W: Write> Lines<W> {
         reading: &[u8],
     ) -> io::Result<()> {
         match monitor::reading(agreement, table, reading) {
-            Ok(Taken { early, cost }) => {
+            Ok(Taken { early, cost, ahead }) => {
                 let early = u8::from(early);
-                write!(self.text, "reading 0 {early} {cost}")?;
+                self.text.write_all(b"reading 0")?;
+                self.put_ahead(ahead)?;
+                write!(self.text, " {early} {cost}")?;
             }
             Err(Refused { why, cost }) => {
                 let number = u32::from(why);
-                write!(self.text, "reading {number} 0 {cost}")?;
+                write!(self.text, "reading {number}")?;
+                self.put_ahead(None)?;
+                write!(self.text, " 0 {cost}")?;
             }
         }
         self.put_cells(table)
     }
 
-    // The number, and the time and the parties by bit, or `none`.
-    fn put_forecast(&mut self, agreement: &[u8], table: &[i64]) -> io::Result<()> {
-        let foretold = monitor::forecast(agreement, table);
-        let number = number_of(&foretold);
-        match foretold {
-            Ok(Some(BreachAhead { time, parties })) => write!(
-                self.text,
-                "forecast {number} {time} {parties}"
-            ),
-            _ => write!(self.text, "forecast {number} none"),
+    // The time of the breach ahead and its parties by bit, or zeros where there is none.
+    fn put_ahead(&mut self, ahead: Option<BreachAhead>) -> io::Result<()> {
+        match ahead {
+            Some(BreachAhead { time, parties }) => write!(self.text, " {time} {parties}"),
+            None => self.text.write_all(b" 0 0"),
         }
     }
 

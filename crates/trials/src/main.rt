@@ -1,9 +1,9 @@
-// Runs the calls on standard input through the four entries, and writes a line for each: its number and what came back.
-// Standard input is a list of steps, a byte each and what follows it (integers little-endian):
+// Runs the calls on standard input through the three entries, and writes a line for each: its number and what came
+// back. Standard input is a list of steps, a byte each and what follows it (integers little-endian):
 // 1, an agreement, and 2, a reading: length (2 bytes) and bytes; 3, a table of zeros: length (2 bytes);
-// 4, a cell of it: place (2 bytes) and value (8 bytes); 5 to 8, a call of check, start, reading or forecast on what was
-// given last; 9, a name: length (2 bytes) and bytes. It takes the reading's place until the next. Any other byte calls
-// forecast. What the input cuts short is empty. There is no heap, so that memory cannot run out.
+// 4, a cell of it: place (2 bytes) and value (8 bytes); 5 to 7, a call of check, start or reading on what was given
+// last; 8, or any other byte, a name: length (2 bytes) and bytes. It takes the reading's place until the next.
+// What the input cuts short is empty. There is no heap, so that memory cannot run out.
 #![tactic(auto)]
 
 mod given;
@@ -30,7 +30,6 @@ enum Entry {
     Check,
     Start,
     Reading,
-    Forecast,
 }
 
 impl From<u8> for Step {
@@ -43,8 +42,7 @@ impl From<u8> for Step {
             5 => Step::Call(Entry::Check),
             6 => Step::Call(Entry::Start),
             7 => Step::Call(Entry::Reading),
-            9 => Step::Name,
-            _ => Step::Call(Entry::Forecast),
+            _ => Step::Name,
         }
     }
 }

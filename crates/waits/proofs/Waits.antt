@@ -161,10 +161,10 @@ module _ (vs : List ℤ) (a : ℕ) (w : Wait) where
   unfolding FateIs fate
   becomes_waiting = refl
 
-  pub becomes_late : {r : Window} → WindowIs vs a w r → mag r.last < 2 ^ 63
-      → FateIs forecasting vs a w (Late (seen r.last))
+  pub becomes_late : {l : ℤ} → l ≡ last_of vs a w → Near (a + 2_000_000_000) l → mag l < 2 ^ 63
+      → FateIs forecasting vs a w (Late (seen l))
   unfolding FateIs fate
-  becomes_late x f = (refl, read! f ∙ x.last, rw (read! f) x.near)
+  becomes_late e n f = (refl, read! f ∙ e, rw (read! f) n)
 
 -- ---- the condition
 pub clamped : (s : List ℕ) (i : ℕ) {a b : ℕ} → a ≡ min i (length s) → b ≡ record_end s i

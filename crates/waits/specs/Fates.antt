@@ -1,9 +1,10 @@
 -- What becomes of a wait; what the code says of a wait in the record s holds whatever the place of s is.
-use Rattle.std.specs.Prelude.{◌≡◌, List, ℕ, ◌+◌, ℤ, Bool}
+use Rattle.std.specs.Prelude.{◌≡◌, List, ℕ, ◌+◌, ◌≤◌, ℤ, Bool, length}
 use Rattle.cells.specs.Reduce.{Mode, activating, forecasting, following, fate, waits, late, taken, first_of, last_of}
 use Rattle.readings.specs.declared.reading.Reading.{Reading}
 use Rattle.waits.specs.declared.Event.TheVariants.{Activate, Forecast, Follow}
 use Rattle.csl.specs.Syntax.{Wait}
+use Rattle.csl.specs.Bytes.{record_end}
 use Rattle.csl.specs.Decode.{expr, wait_at}
 use Rattle.csl.specs.Rules as rules
 use Rattle.cells.specs.Evaluate.{is_true_cell, eval_cells}
@@ -37,6 +38,13 @@ wait_in w p = wait_at (expr w.depth) p w.bytes.now w.at
 
 unfoldable pub condition_of : List ℕ → ℕ → ℕ → List ℤ → Bool
 condition_of s i d vs = is_true_cell (eval_cells vs (wait_at (expr d) 0 s i).condition)
+
+-- a wait's `after` stands from b to c in the record s, the reading type standing at i
+pub record AfterAt (s : List ℕ) (i b c : ℕ) : Type 0 where
+  pub begins : b ≡ record_end s (i + 1)
+  pub ends : c ≡ record_end s b
+  pub order : b ≤ c
+  pub inside : c ≤ length s
 
 pub record WindowIs (vs : List ℤ) (a : ℕ) (w : Wait) (r : Window) : Type 0 where
   pub first : r.first ≡ first_of vs a w

@@ -8,9 +8,9 @@ ghost use Rattle.csl.specs.Decode.{expr};
 ghost use Rattle.arith.specs.Near.{Near};
 ghost use Rattle.csl.specs.Rules.{timing};
 ghost use Rattle.cells.specs.Evaluate.{eval_cells};
-ghost use Rattle.cells.specs.Reduce.{first_of, following, opens_later, then_values};
+ghost use Rattle.cells.specs.Reduce.{first_of, last_of, following, opens_later, then_values};
 ghost use Rattle.residues.specs.Reduces.{farthest};
-ghost use Rattle.waits.specs.Fates.{mode_of, mode_at, FateIs, WindowIs, timing_is, condition_of, wait_in};
+ghost use Rattle.waits.specs.Fates.{mode_of, mode_at, FateIs, WindowIs, timing_is, condition_of, wait_in, AfterAt};
 
 use arrayvec::ArrayVec;
 use cells::Values;
@@ -91,30 +91,49 @@ impl Window {
 }
 
 impl Wait<'_> {
-    // Its first minute.
-    fn first(&self) -> i64
+    // Where its `after` begins and ends.
+    fn after(&self) -> (usize, usize)
+        ensures { AfterAt self.now.bytes.now self.now.at result.0 result.1 }
+    {
+        let b = record_end(self.bytes, self.at + 1);
+        (b, record_end(self.bytes, b))
+    }
+
+    // Its first minute, by its `after`. (Inline here and below: a wait of literals then makes no call.)
+    #[inline(always)]
+    fn first(&self, after: (usize, usize)) -> i64
+        requires { AfterAt self.now.bytes.now self.now.at after.0 after.1 }
         ensures is { (p : ℕ) → result ≡ first_of self.now.values.cells.now self.now.a (wait_in self.now p) }
         ensures near { Near (self.now.a + 1_000_000_000) result }
     {
-        let s = self.bytes;
-        let b = record_end(s, self.at + 1);
-        let c = record_end(s, b);
-        minutes_after(self.a as i64, &s[b..c], self.values.cells, self.depth)
+        let span = &self.bytes[after.0..after.1];
+        minutes_after(self.a as i64, span, self.values.cells, self.depth)
     }
 
-    // Its window.
+    // Its window: `within` begins where `after` ends.
+    #[inline(always)]
     fn window(&self) -> Window
         ensures { (p : ℕ) → WindowIs self.now.values.cells.now self.now.a (wait_in self.now p) result }
     {
         let s = self.bytes;
-        let first = self.first();
-        let c = record_end(s, record_end(s, self.at + 1));
-        let e = record_end(s, c);
-        let last = minutes_after(first, &s[c..e], self.values.cells, self.depth);
+        let after = self.after();
+        let first = self.first(after);
+        let e = record_end(s, after.1);
+        let last = minutes_after(first, &s[after.1..e], self.values.cells, self.depth);
         Window { first, last }
     }
 
+    // Its last minute.
+    #[inline(always)]
+    pub fn last(&self) -> i64
+        ensures is { (p : ℕ) → result ≡ last_of self.now.values.cells.now self.now.a (wait_in self.now p) }
+        ensures near { Near (self.now.a + 2_000_000_000) result }
+    {
+        self.window().last
+    }
+
     // Its `where`.
+    #[inline(always)]
     fn holds(&self, reading: &Reading) -> bool
         ensures { let w = self.now in
             result ≡ condition_of w.bytes.now w.at w.depth (w.values.cells.now ++ reading.now.values.items) }
@@ -147,7 +166,7 @@ impl Wait<'_> {
             reading.now.time reading.now.tag reading.now.values.items }
     {
         byte(self.bytes, self.at) == reading.tag
-            && (reading.time as i64) < self.first()
+            && (reading.time as i64) < self.first(self.after())
             && self.holds(reading)
     }
 
@@ -157,7 +176,7 @@ impl Wait<'_> {
     {
         match event {
             Event::Activate => Fate::Waits,
-            Event::Forecast => Fate::Late(self.window().last),
+            Event::Forecast => Fate::Late(self.last()),
             Event::Follow(reading) => self.follow(reading),
         }
     }

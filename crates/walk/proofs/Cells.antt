@@ -1,19 +1,16 @@
 -- A cell's natural number, as the code finds it.
 use mathlib.Core.Path.{◌≡◌, refl}
-use Prim.Native.Nat.{ℕ, ◌^◌, ◌<◌}
+use mathlib.Core.Bool.{cond}
 use native.Mathlib.Omega.{arith}
+use borrow.Author.Tests.{ltb-false}
+use lib.Dec.{ltb}
 use lib.IntN.{ℤ, pos, negsuc, nat_abs}
-use lib.Signed.{mag}
-use Rattle.std.specs.Prelude.{Result, Ok, Err}
-use Rattle.std.specs.Result.{OkIff, result_unwrap_or}
-use Rattle.std.specs.Int.{FitsUnsignedBits}
+use Rattle.std.specs.Int.{int_max}
+use Rattle.laws.proofs.Bools.{by}
 use Rattle.cells.specs.Across.{nat_of}
 
--- what is read of a cell, as `try_from` says it, 0 where it says none
-pub natural_is : {E : Type 0} (z : ℤ) (t : Result ℕ E) → mag z < 2 ^ 63 → OkIff t (FitsUnsignedBits 64 z) (nat_abs z)
-    → result_unwrap_or t 0 ≡ nat_of z
+pub natural_is : (z : ℤ) → nat_abs (int_max z (pos 0)) ≡ nat_of z
 unfolding nat_of
-natural_is (pos n) (Ok x) f h = h.1
-natural_is (pos n) (Err e) f h = absurd (h (omega arith))
-natural_is (negsuc n) (Ok x) f h = absurd h.0
-natural_is (negsuc n) (Err e) f h = refl
+natural_is (pos n) = by (λ t. nat_abs (cond t (pos n) (pos 0)) ≡ n) (ltb 0 n) (λ e. refl)
+    (λ e. omega (arith, ltb-false 0 n e))
+natural_is (negsuc n) = refl

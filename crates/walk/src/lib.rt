@@ -1,6 +1,7 @@
 // The rules at every unit of a table.
 #![tactic(auto)]
 
+pub mod ahead;
 pub mod later;
 mod tree;
 

@@ -31,5 +31,5 @@ pub(crate) fn natural(unit: &[i64], i: usize) -> usize
     requires { i < length unit.now }
     ensures { result ≡ nat_of (get_or unit.now i (pos 0)) }
 {
-    usize::try_from(unit[i]).unwrap_or(0)
+    unit[i].max(0) as usize
 }

@@ -61,7 +61,7 @@ module _ (run : Run) {r : Next} (found : r ≡ next_of run.hand.bytes run.hand.e
       a = reading_of run.agreement.now run.table b
 
       abbrev put_line : List ℕ
-      put_line = reading_line run.agreement.now run.line b a
+      put_line = reading_line run.line b a
 
       record_same : run₂.page.text ≡ run.page.text ++ put_line → (more : List ℕ) → Comes run.hand.ended more
           → run.page.text ++ left Ready run.agreement.now run.table run.line (run.hand.bytes ++ more)

@@ -1,8 +1,9 @@
 //! The paper's program `brinewatch`: reads the agreement, then readings, from standard input, and
-//! writes one line for the start and one for each reading.
+//! writes one line for the start and one for each reading. Paper 02, No. 2: "the program calls the
+//! joined ones", one call for each line.
 
 use reference::table::{BREACHED, FULFILLED, STATE};
-use reference::{forecast, reading, start, CELLS};
+use reference::{reading, start, Forecast, CELLS};
 use std::io::{self, BufRead, BufReader, Read, Write};
 
 fn main() -> io::Result<()> {
@@ -13,23 +14,24 @@ fn watch(input: &mut impl BufRead, output: &mut impl Write) -> io::Result<()> {
     // "begins with a table of 3,080 zeros"
     let mut table = [0; CELLS];
     let agreement = record(input)?;
-    let refusal = start(&agreement, &mut table);
-    if refusal != 0 {
-        return writeln!(output, "0 - REFUSED {refusal}");
+    let started = start(&agreement, &mut table);
+    if started.number != 0 {
+        return writeln!(output, "0 - REFUSED {}", started.number);
     }
-    writeln!(output, "0 {} {}", time(&agreement), verdict(&agreement, &table))?;
+    writeln!(output, "0 {} {}", time(&agreement), verdict(&table, started.forecast))?;
     for line in 1.. {
-        let taken = record(input)?;
+        let bytes = record(input)?;
         // "Input that ends after a whole record ends the run without a line."
-        if taken.is_empty() {
+        if bytes.is_empty() {
             break;
         }
         // The mark and the cost of paper 02, No. 8 and No. 9, are the entry's; the program's fields are paper 01's.
-        match reading(&agreement, &mut table, &taken).number {
-            0 => writeln!(output, "{line} {} {}", time(&taken), verdict(&agreement, &table))?,
+        let taken = reading(&agreement, &mut table, &bytes);
+        match taken.number {
+            0 => writeln!(output, "{line} {} {}", time(&bytes), verdict(&table, taken.forecast))?,
             // "a reading refused with 8, print `-` as time and end the run"
             8 => return writeln!(output, "{line} - REFUSED 8"),
-            refusal => writeln!(output, "{line} {} REFUSED {refusal}", time(&taken))?,
+            refusal => writeln!(output, "{line} {} REFUSED {refusal}", time(&bytes))?,
         }
     }
     Ok(())
@@ -53,13 +55,13 @@ fn time(record: &[u8]) -> u32 {
 }
 
 /// The word, "and for LIVE and BREACH the forecast time and party bits in decimal, or NONE".
-fn verdict(agreement: &[u8], table: &[i64]) -> String {
+fn verdict(table: &[i64], forecast: Forecast) -> String {
     let word = match table[STATE] {
         FULFILLED => return "DONE".to_string(),
         BREACHED => "BREACH",
         _ => "LIVE",
     };
-    match forecast(agreement, table).breach {
+    match forecast {
         Some((time, parties)) => format!("{word} {time} {parties}"),
         None => format!("{word} NONE"),
     }

@@ -122,7 +122,7 @@ fn reading_case((before, after, became): (i64, i64, &str)) -> String {
     format!("{} to {}: {became}", state_name(before), state_name(after))
 }
 
-fn state_name(state: i64) -> &'static str {
+pub(super) fn state_name(state: i64) -> &'static str {
     match state {
         RUNNING => "running",
         FULFILLED => "fulfilled",
@@ -186,11 +186,11 @@ pub fn lies(bytes: &[u8], table: &[i64]) -> Option<Lies> {
     Some(Lies::of(table[MOVED], start, table[LAST]))
 }
 
-pub fn places(entries: &[&str]) -> Vec<String> {
-    let states = entries.iter().flat_map(|entry| [RUNNING, FULFILLED, BREACHED].map(|state| (entry, state)));
-    states.flat_map(|(entry, state)| Lies::ALL.map(|lies| place_case(entry, state, lies))).collect()
+pub fn places() -> Vec<String> {
+    let states = [RUNNING, FULFILLED, BREACHED];
+    states.into_iter().flat_map(|state| Lies::ALL.map(|lies| place_case(state, lies))).collect()
 }
 
-pub fn place_case(entry: &str, state: i64, lies: Lies) -> String {
-    format!("{entry} {}: {lies:?}", state_name(state))
+pub fn place_case(state: i64, lies: Lies) -> String {
+    format!("{}: {lies:?}", state_name(state))
 }

@@ -21,7 +21,7 @@ impl Run {
         let agreement = agreement(START, 2, &readings, templates, main);
         // "Start ignores the table's earlier contents."
         let mut table = vec![7; CELLS];
-        assert_eq!(start(&agreement, &mut table), 0);
+        assert_eq!(start(&agreement, &mut table).number, 0);
         Run { agreement, table }
     }
 

@@ -21,7 +21,7 @@ fn main() -> ExitCode {
 
 fn run(input: &mut impl Read, output: &mut impl Write) -> Result<(), Box<dyn Error>> {
     let agreement = record::next(input)?.unwrap_or_default();
-    let mut table = Table::start(&agreement).map_err(|refusal| told("the agreement is", refusal))?;
+    let (mut table, _) = Table::start(&agreement).map_err(|refusal| told("the agreement is", refusal))?;
     for n in 1u64.. {
         let Some(reading) = record::next(input)? else { break };
         if let Err(refused) = table.reading(&agreement, &reading) {

@@ -9,7 +9,7 @@ pub struct Run {
 
 impl Run {
     pub fn of(agreement: Vec<u8>) -> Run {
-        let table = Table::start(&agreement).expect("a start");
+        let (table, _) = Table::start(&agreement).expect("a start");
         Run { agreement, table }
     }
 

@@ -5,11 +5,10 @@ use Rattle.activation.proofs.Walks.{is_waits, is_late, is_taken, obligation_wait
 use Rattle.activation.proofs.Walks.{obligation_taken}
 use Rattle.arith.proofs.Numbers.{sizes}
 use native.Mathlib.Omega.{arith}
-use mathlib.Core.Path.{refl, ap, ◌∙◌}
+use mathlib.Core.Path.{refl, ◌∙◌}
 use Prim.Native.Nat.{◌-◌}
 use Rattle.arith.proofs.Ints.{read! }
 use Rattle.csl.specs.Decode.{wait_at, expr}
-use Rattle.cells.specs.Reduce.{blame_bits}
 use Rattle.waits.specs.Fates.{mode_at}
 use Rattle.activation.proofs.leads.obligation.Goals as goal
 
@@ -22,8 +21,8 @@ returns-in-Waits c =
     obligation_waits c.args.event h.agreement.now h.site.below h.bytes.now h.site.place h.params.now
     h.values.cells.now h.site.a h.site.depth c.requires.1 f
 
-pub moved-requires : goal.moved-requires
-moved-requires c =
+pub breach-requires : goal.breach-requires
+breach-requires c =
     let h = c.args.clause.now in
     let f = is_late (mode_at c.args.event) h.values.cells.now h.site.a
     (wait_at (expr (h.site.depth - 1)) h.site.place h.bytes.now 5) (c.becomes.ensures h.site.place)
@@ -39,9 +38,8 @@ returns-in-Late c =
     c.in-Late.is in
     let m = read! {z = c.in-Late.last} (search rules) in
     obligation_late c.args.event h.agreement.now h.site.below h.bytes.now h.site.place h.params.now
-    h.values.cells.now h.site.a h.site.depth c.requires.1 f.0 f.1 _
-    (read! c.moved.type_inv ∙ (rw m at c.moved.ensures.0))
-    (c.blame_bits.ensures ∙ ap (blame_bits h.params.now) c.byte.ensures.0)
+    h.values.cells.now h.site.a h.site.depth c.requires.1 f.0 f.1 c.breach.result (rw m at c.breach.ensures.0)
+    c.breach.ensures.1
 
 pub returns-in-Taken : goal.returns-in-Taken
 returns-in-Taken c =

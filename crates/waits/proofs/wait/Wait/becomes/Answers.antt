@@ -10,7 +10,8 @@ returns-in-Activate c = λ p. let h = c.args.self.now in
 
 pub returns-in-Forecast : goal.returns-in-Forecast
 returns-in-Forecast c = λ p. let h = c.args.self.now in
-    rw c.in-Forecast.is (becomes_late h.values.cells.now h.a (wait_in h p) (c.window.ensures p) (search rules))
+    rw c.in-Forecast.is
+    (becomes_late h.values.cells.now h.a (wait_in h p) (c.last.ensures.is p) c.last.ensures.near (search rules))
 
 pub returns-in-Follow : goal.returns-in-Follow
 returns-in-Follow c = λ p. rw c.in-Follow.is (c.follow.ensures p)

@@ -13,8 +13,8 @@ minutes_after-requires c =
 pub returns-clause-is : goal.returns-clause-is
 returns-clause-is c =
     let h = c.args.self.now in
-    first_is h.values.cells.now h.bytes.now h.at h.a h.depth (omega (arith, h.soon)) c.record_end-b.ensures.0
-    c.record_end-c.ensures.0 c.minutes_after.type_inv c.minutes_after.ensures.0
+    first_is h.values.cells.now h.bytes.now h.at h.a h.depth (omega (arith, h.soon)) c.requires.begins
+    c.requires.ends c.minutes_after.type_inv c.minutes_after.ensures.0
 
 pub returns-clause-near : goal.returns-clause-near
 returns-clause-near c =

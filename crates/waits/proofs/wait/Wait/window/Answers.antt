@@ -15,6 +15,6 @@ pub returns : goal.returns
 returns c = λ p.
     let h = c.args.self.now in
     let f = c.first-first in
-    window_is h.values.cells.now h.bytes.now h.at h.a h.depth (omega (arith, h.soon)) c.record_end.ensures.0
-    c.record_end-c.ensures.0 c.record_end-e.ensures.0 p f.type_inv (f.ensures.is p) f.ensures.near
+    window_is h.values.cells.now h.bytes.now h.at h.a h.depth (omega (arith, h.soon)) c.after-after.ensures.begins
+    c.after-after.ensures.ends c.record_end-e.ensures.0 p f.type_inv (f.ensures.is p) f.ensures.near
     c.minutes_after-last.type_inv c.minutes_after-last.ensures
