@@ -1,6 +1,7 @@
 /*
- * The calls that bench/calls counts, each in a function of its own: the start of a stream's agreement, and its last
- * reading, after all readings before it. Prints what the last one answered.
+ * The calls that bench/calls counts, each in a function of its own: the start of a stream's agreement, its last
+ * reading, after all readings before it, and the preview of that reading on the same table. Prints what the last one
+ * answered.
  *     calls STREAM
  */
 #include "givuntha.h"
@@ -8,7 +9,7 @@
 #include <stdio.h>
 
 static uint8_t bytes[1 << 20];
-static int64_t table[GIVUNTHA_TABLE_CELLS];
+static int64_t table[GIVUNTHA_TABLE_CELLS], second[GIVUNTHA_TABLE_CELLS];
 static uint64_t time, parties, early, cost;
 static uint32_t number;
 
@@ -40,6 +41,12 @@ __attribute__((noinline)) void counted_reading(size_t agreement, size_t from, si
     reading(agreement, from, to);
 }
 
+__attribute__((noinline)) void counted_preview(size_t agreement, size_t from, size_t to)
+{
+    number = givuntha_preview(bytes, agreement, table, GIVUNTHA_TABLE_CELLS, bytes + from, to - from, second,
+                              GIVUNTHA_TABLE_CELLS, &time, &parties, &early, &cost);
+}
+
 int main(int count, char **arguments)
 {
     FILE *stream = count == 2 ? fopen(arguments[1], "rb") : NULL;
@@ -54,6 +61,7 @@ int main(int count, char **arguments)
         reading(agreement, from, to);
         from = to;
     }
+    counted_preview(agreement, from, to);
     counted_reading(agreement, from, to);
     printf("%u, forecast %llu %llu, cost %llu, %lld units", (unsigned)number, (unsigned long long)time,
            (unsigned long long)parties, (unsigned long long)cost, (long long)table[GIVUNTHA_HEAD_UNITS]);

@@ -1,27 +1,30 @@
 /*
  * Givuntha: a monitor of timed agreements between parties. C99, and C++ by the guards below.
  *
- * An agreement is bytes; so is a reading. The state of a run is a table of 64-bit cells that the caller lends. Three
- * functions: check an agreement, start it, take a reading. The last two tell the forecast too, of the table that they
- * leave. Times are in minutes. A set of parties is a number in which bit n stands for party n; parties count from 0 and
- * there are at most 16.
+ * An agreement is bytes; so is a reading. The state of a run is a table of 64-bit cells that the caller lends. Four
+ * functions: check an agreement, start it, take a reading, preview one, that is, tell what it would do before it is
+ * entered. The last three tell the forecast too, of the table that they write. Times are in minutes. A set of parties
+ * is a number in which bit n stands for party n; parties count from 0 and there are at most 16.
  *
  * Answers. Every function answers GIVUNTHA_ACCEPTED (0) or the number of a refusal, the lowest that applies. A
- * refusal leaves the table as it was and sets the other results to 0, all but one: the cost of a reading that is
- * refused with GIVUNTHA_UNITS (11). No call relies on an earlier one: whatever bytes and cells are lent, each is judged
- * anew.
+ * refusal leaves every table as it was and sets the other results to 0, all but one: the cost of a reading that is
+ * refused with GIVUNTHA_UNITS (11), in a preview too. No call relies on an earlier one: whatever bytes and cells are
+ * lent, each is judged anew.
  *
  * What the caller owes:
  * - No pointer is null, not even one of length 0: lend any aligned address.
  * - Each run of memory is as long as its length says; lengths are in bytes for bytes, in cells for cells.
- * - The table and the single results are aligned to 8 bytes.
- * - What is written (table, time, parties, early, cost) overlaps nothing else that is lent, and during the call nobody
- *   else reads or writes it. What is only read may be shared, but nobody writes it during the call.
+ * - Tables and the single results are aligned to 8 bytes.
+ * - What is written (the table of a start or a reading, the second of a preview, time, parties, early, cost) overlaps
+ *   nothing else that is lent, and during the call nobody else reads or writes it. What is only read (agreement,
+ *   reading, the first table of a preview) may be shared, but nobody writes it during the call.
  * - The thread has GIVUNTHA_STACK_BYTES of stack left. Less is enough for most agreements; an overflow meets the
  *   guard page, since each page of stack is touched as it is taken.
  *
  * There is no global state and nothing is allocated or kept: calls on different tables may run in parallel threads, and
- * may share an agreement. Every call that is lent a table may write it, so two on one table come one after the other.
+ * may share an agreement. A start or a reading writes its table, so any other call on that table comes before or after
+ * it. A preview only reads its first table: previews of one table may run beside each other, each with a second of its
+ * own.
  */
 #ifndef GIVUNTHA_H
 #define GIVUNTHA_H
@@ -40,7 +43,7 @@ extern "C" {
 #define GIVUNTHA_VERSION (GIVUNTHA_VERSION_MAJOR * 10000 + GIVUNTHA_VERSION_MINOR * 100 + GIVUNTHA_VERSION_PATCH)
 uint32_t givuntha_version(void);
 
-/* The answers. check gives 0 to 5; start 0 to 6 and 11; reading all. */
+/* The answers. check gives 0 to 5; start 0 to 6 and 11; reading and preview all. */
 enum givuntha_answer {
     GIVUNTHA_ACCEPTED = 0,
     /* agreement under 4 or over 16,384 bytes, or not as long as its length says */
@@ -54,7 +57,7 @@ enum givuntha_answer {
     GIVUNTHA_AGREEMENT_GUARDS = 4,
     /* main clause, template body or `then` of width over 256 */
     GIVUNTHA_AGREEMENT_WIDTH = 5,
-    /* table not GIVUNTHA_TABLE_CELLS long */
+    /* table not GIVUNTHA_TABLE_CELLS long; of a preview's two, either */
     GIVUNTHA_TABLE_LENGTH = 6,
     /* table breaks its layout or typing, the time it last moved or a waiting unit was activated outside start to last
      * reading time, running without units, or a breach without party, with one that the agreement cannot blame, or
@@ -142,7 +145,7 @@ enum givuntha_unit {
 
 /*
  * Stack for a call on x86-64. bench/stack derives from the compiled code that no call takes more; the deepest that we
- * built, a reading, runs in 307,968 bytes.
+ * built, a preview, runs in 357,248 bytes.
  */
 #define GIVUNTHA_STACK_BYTES 524288
 
@@ -185,6 +188,22 @@ uint32_t givuntha_start(const uint8_t *agreement, size_t agreement_bytes, int64_
 uint32_t givuntha_reading(const uint8_t *agreement, size_t agreement_bytes, int64_t *table, size_t table_cells,
                           const uint8_t *reading, size_t reading_bytes, uint64_t *time, uint64_t *parties,
                           uint64_t *early, uint64_t *cost);
+
+/*
+ * Tells what a reading would do, without giving it to the run: the second table becomes that of the run after the
+ * reading. The answer, *time, *parties, *early and *cost are what givuntha_reading would give on a copy of the first
+ * table, refusals included, and so is the cost on GIVUNTHA_UNITS.
+ *
+ * The first table is only read, and may be shared with others that only read it. The second overlaps nothing that is
+ * lent, not the first table either. What it held before does not matter, and a refusal leaves it. Where either is not
+ * GIVUNTHA_TABLE_CELLS long, the answer is GIVUNTHA_TABLE_LENGTH, unless the agreement is refused.
+ *
+ * After an accepted preview the second table is what givuntha_reading would make of the first: to enter the reading,
+ * give it to the run on the first table, or go on with the second in its place.
+ */
+uint32_t givuntha_preview(const uint8_t *agreement, size_t agreement_bytes, const int64_t *table, size_t table_cells,
+                          const uint8_t *reading, size_t reading_bytes, int64_t *second, size_t second_cells,
+                          uint64_t *time, uint64_t *parties, uint64_t *early, uint64_t *cost);
 
 #ifdef __cplusplus
 }

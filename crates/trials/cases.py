@@ -2,7 +2,8 @@
 from records import *
 
 # a cause, or (entry, agreement, table, reading, number, parties or table after); behind it a reading's mark, if not 0,
-# from No. 9 on its cost, which cost.py says of the others, and of No. 2 the forecast, which ahead.py says of the others
+# from No. 9 on its cost, which cost.py says of the others, and of No. 2 the forecast, which ahead.py says of the others;
+# a preview has both its tables, and the second one afterwards
 CALLS = []
 
 
@@ -1784,3 +1785,95 @@ tells_nothing(10, 0, GROWING, AWAITING, event(99))
 tells_nothing(11, 1 + (64 + 65 * 2), GROWING, AWAITING, event(110, 1, [0]))
 call("start", GROWING, AWAITING[:3079], b"", 6, AWAITING[:3079], NOTHING)
 call("start", owing(many(65)), AWAITING, b"", 11, AWAITING, NOTHING)
+
+# paper 02, No. 6. Each outcome is written out: what the second table becomes, or that it is as it was
+# second tables: zeros, one that is damaged at both ends, another run's, a breached one
+SECONDS = ZEROS, altered(3079, -1, altered(0, 7, ZEROS)), doubled(4, 300), shown(400, 300, 3)
+# of a wrong length: a cell too few, one too many, none
+MISFITS = altered(3078, -1, ZEROS[:3079]), altered(0, 1, [*ZEROS, 9]), []
+
+
+def previews(data, table, r, number, left, early, cost, ahead, seconds):
+    for given in seconds:
+        call("preview", data, (table, given), r, number, given if number else left, early, cost, ahead)
+
+
+def foresees(ahead, cost, data, table, r, outcome, early=0, seconds=SECONDS):
+    previews(data, table, r, 0, outcome, early, cost, ahead, seconds)
+
+
+def foresees_nothing(number, data, table, r, cost=0, seconds=SECONDS):
+    previews(data, table, r, number, None, 0, cost, NOTHING, seconds)
+
+
+cause("preview: a mark, and a reading that nothing wants: the time moves alone; in the minute of the last not even that")
+data, table = alone(OWES)
+foresees((160, 1), 1, data, table, event(110), altered(1, 110, table))
+foresees((160, 1), 1, data, table, bell(160), altered(1, 160, table))
+foresees((160, 1), 1, data, table, event(100), table)
+cause("preview: a reading that alters: by a `then`, by a unit that is fulfilled; with the last unit")
+data, table = alone(then_is(OWES))
+foresees((170, 1), 2, data, table, level(110, 7), running(110, [unit(data, OWES, 110, sees=[7, 50])], 110))
+data = pond(both(HASTY, OPENING))
+foresees((160, 1), 3 + 1, data, both_wait, bell(110), one_waits)
+foresees(NOTHING, 1 + 1, data, one_waits, level(120), fulfilled(120, 120))
+cause("preview: more units than before, as many as a table has, fewer")
+foresees((163, 1), 7 + 20, TWICE, doubled(2, 102), level(103), doubled(3, 103))
+foresees((166, 1), 63 + 160, TWICE, doubled(5, 105), level(106), doubled(6, 106))
+foresees((160, 1), 3, EITHER, of_pair(21, 110, 100, 21, 52), event(155), of_pair(21, 155, 155, 52))
+cause("preview: a reading that comes too early; from its window on it does not")
+foresees((160, 1), 1, OWED, OPENS, level(119), altered(1, 119, OPENS), early=1)
+foresees(NOTHING, 1 + 1, OWED, OPENS, level(120), fulfilled(120, 120))
+cause("preview: a choice that is late, and its else waits")
+foresees((405, 1), 2, *alone(lapsing(BELL)), MARK, comes_to(alone(lapsing(BELL))[0], 106, 105, [BELL]))
+cause("preview: a breach, by the one that is late; its own minute is not late")
+foresees((150, 2), 3, PAIR, BOTH_WAIT, event(150), altered(1, 150, BOTH_WAIT))
+foresees((150, 2), 3, PAIR, BOTH_WAIT, event(151), shown(151, 150, 2))
+cause("preview: of a fulfilled table the time moves alone; a breached one is copied, cell for cell")
+for r in (event(120), level(120), bell(120)):
+    foresees(NOTHING, 0, OWED, fulfilled(110, 105), r, fulfilled(120, 105))
+    foresees((105, 1), 0, OWED, shown(110, 105, 1), r, shown(110, 105, 1))
+cause("preview: whatever the second table held: in each cell another number; the first table itself")
+for given in ([i - 1540 for i in range(3080)], OPENS, fulfilled(120, 120)):
+    foresees(NOTHING, 1 + 1, OWED, OPENS, level(120), fulfilled(120, 120), seconds=[given])
+    foresees_nothing(10, OWED, OPENS, level(99), seconds=[given])
+cause("preview: refused with 1 to 5, whatever the tables are")
+for number, data in enumerate((cat(OWED, [0]), pond(OPENING + NIL), pond(both(OPENING, asking(ONE))),
+                               pond(OPENING, inst(0)), pond(both(OPENING, nothings(129)))), 1):
+    for table in (running(100, [unit(data, OPENING)]), ZEROS, ZEROS[:3079]):
+        foresees_nothing(number, data, table, level(120), seconds=SECONDS + MISFITS)
+cause("preview: refused with 6: by the first table, by the second, by both")
+for table in (OPENS[:3079], [*OPENS, 0], []):
+    foresees_nothing(6, OWED, table, level(120), seconds=SECONDS + MISFITS)
+foresees_nothing(6, OWED, OPENS, level(120), seconds=MISFITS)
+cause("preview: refused with 7, 8, 9 and 10, whatever would be next")
+foresees_nothing(7, OWED, altered(5, 99, OPENS), [])
+foresees_nothing(7, OWED, altered(3079, 1, shown(110, 105, 1)), event(110))
+foresees_nothing(8, OWED, OPENS, level(99)[:12])
+foresees_nothing(9, OWED, OPENS, event(99, 1))
+foresees_nothing(10, OWED, altered(1, 121, OPENS), level(120))
+cause("preview: refused with 8, 9 and 10 on a fulfilled table and on a breached one")
+for table in (fulfilled(110), shown(110, 105, 1)):
+    foresees_nothing(8, OWED, table, level(110)[:12])
+    foresees_nothing(9, OWED, table, event(110, 1))
+    foresees_nothing(10, OWED, table, level(109))
+cause("preview: refused with 11, at the reading's cost; before it 10")
+foresees_nothing(11, TWICE, doubled(6, 106), level(107), 127 + 320)
+foresees_nothing(11, GROWING, AWAITING, event(110, 1, [0]), 1 + (64 + 65 * 2))
+foresees_nothing(10, TWICE, doubled(6, 106), level(105))
+cause("preview: 6 by the second table comes before 7 to 11, and where the reading would be accepted")
+for data, table, r in ((OWED, ZEROS, level(120)), (OWED, OPENS, []), (OWED, OPENS, event(120, 1)),
+                       (OWED, OPENS, level(99)), (TWICE, doubled(6, 106), level(107)), (OWED, OPENS, level(119)),
+                       (OWED, fulfilled(110), event(120)), (OWED, shown(110, 105, 1), event(120))):
+    foresees_nothing(6, data, table, r, seconds=MISFITS)
+cause("preview: a second table that the agreement shows later, breached or fulfilled: it is not asked")
+for given in (altered(1, 200, OPENS), shown(200, 160, 1), fulfilled(200)):
+    foresees((160, 1), 1, OWED, OPENS, event(110), altered(1, 110, OPENS), seconds=[given])
+    foresees_nothing(10, OWED, altered(1, 121, OPENS), event(120), seconds=[given])
+cause("preview: the reading itself afterwards, on the first table; and the one after it, on what the second became")
+data, table = alone(then_is(OWES))
+outcome = running(110, [unit(data, OWES, 110, sees=[7, 50])], 110)
+foresees((170, 1), 2, data, table, level(110, 7), outcome, seconds=[ZEROS])
+tells((170, 1), 2, data, table, level(110, 7), outcome)
+foresees((170, 1), 1, data, outcome, event(171), shown(171, 170, 1), seconds=[outcome])
+tells((170, 1), 1, data, outcome, event(171), shown(171, 170, 1))

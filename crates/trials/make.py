@@ -1,10 +1,10 @@
 #!/usr/bin/env python3
-"""Writes stdin and stdout of the program `trials`: calls of the three entries, and what must come back.
+"""Writes stdin and stdout of the program `trials`: calls of the four entries, and what must come back.
 
 make.py [CALLS]: the cases of cases.py, and behind them the calls of a file with one JSON object to a line: entry,
 agreement and reading in hexadecimal, the table's cells that are not zero, and what came back from a monitor that was
-written from paper 01 alone, but for what rounded.py, moved.py, early.py, cost.py and ahead.py say. src/main.rt says how
-stdin is laid out. `reference/tests/trials.rs` gives the same calls to the separately written monitor.
+written from paper 01 alone, but for what rounded.py, moved.py, early.py, cost.py and ahead.py say; each of its readings
+is previewed first, as previews.py says. src/main.rt says how stdin is laid out. `reference/tests/trials.rs` gives the same calls to the separately written monitor.
 """
 import json
 import os
@@ -18,11 +18,12 @@ from cases import CALLS  # noqa: E402
 from cost import cost_at, costed  # noqa: E402
 from early import mark  # noqa: E402
 from moved import left_moved, lent_moved, moved, start_of  # noqa: E402
+from previews import previewed  # noqa: E402
 from records import event, u2  # noqa: E402
 from rounded import rounded  # noqa: E402
 
-AGREEMENT, READING, TABLE, CELL, NAME = 1, 2, 3, 4, 8
-ENTRIES = {"check": 5, "start": 6, "reading": 7}
+AGREEMENT, READING, TABLE, CELL, SECOND, NAME = 1, 2, 3, 4, 9, 10
+ENTRIES = {"check": 5, "start": 6, "reading": 7, "preview": 8}
 
 
 def told(z): return f"~{-1 - z}" if z < 0 else str(z)
@@ -39,14 +40,21 @@ def line(entry, number, answer, *more):
 def named(step, data): return bytes([step]) + u2(len(data)) + data
 
 
+def table_steps(table):
+    out = bytes([TABLE]) + u2(len(table))
+    return out + b"".join(bytes([CELL]) + u2(i) + struct.pack("<q", z) for i, z in enumerate(table) if z)
+
+
 def steps(entry, data, table, reading, given):
-    """The steps of a call: an agreement that was given last is not given again."""
+    """The steps of a call: an agreement that was given last is not given again. A preview has both its tables."""
     out = b"" if given == data else named(AGREEMENT, data)
-    if entry == "reading":
+    if entry in ("reading", "preview"):
         out += named(READING, reading)
+    if entry == "preview":
+        table, second = table
+        out += table_steps(second) + bytes([SECOND])
     if entry != "check":
-        out += bytes([TABLE]) + u2(len(table))
-        out += b"".join(bytes([CELL]) + u2(i) + struct.pack("<q", z) for i, z in enumerate(table) if z)
+        out += table_steps(table)
     return out + bytes([ENTRIES[entry]])
 
 
@@ -80,6 +88,7 @@ def vectors(path):
         given = bytes.fromhex(d["reading"])
         left = lent if number else left_moved(lent, rounded(place, laid(d["cells"], d["after"])), given)
         told = mark(place), cost_at(place, number, lent), ahead_at(place, number, left)
+        yield previewed(place, data, lent, given, number, left, *told)
         yield entry, data, lent, given, number, left, *told
 
 

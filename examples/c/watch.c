@@ -8,10 +8,11 @@
  *
  * Each line of standard input is a reading: TIME TYPE VALUE.. in decimal. A line is written for the start and for each
  * reading: its number, its time, and LIVE, DONE, BREACH or REFUSED. LIVE and BREACH are followed by the time of the
- * breach, ahead or come, and its parties by bit, or by NONE; REFUSED by the number of the refusal. Standard error tells
- * what each reading cost, and of one that came too early: a window that wants it opens later, and until then it does
- * not count. At the end it tells when the agreement last moved, which an idle reading does not alter, and which clauses
- * still wait.
+ * breach, ahead or come, and its parties by bit, or by NONE; REFUSED by the number of the refusal. A line that begins
+ * with ? asks what its reading would do: the same is written with ? for the number, and the run goes on as if nobody
+ * had asked. Standard error tells what each reading cost, and of one that came too early: a window that wants it opens
+ * later, and until then it does not count. At the end it tells when the agreement last moved, which an idle reading
+ * does not alter, and which clauses still wait.
  *
  * The status is 0 where the readings were followed to their end, 1 where the agreement was refused, and 2 where a file
  * or a line could not be read.
@@ -49,14 +50,14 @@ struct forecast {
     uint64_t time, parties;
 };
 
-/* The word for the run's state, and the breach that came or is ahead. */
-static void print_state(const struct run *run, const struct forecast *ahead)
+/* The word for a table's state, and the breach that came or is ahead. */
+static void print_state(const int64_t table[GIVUNTHA_TABLE_CELLS], const struct forecast *ahead)
 {
-    if (run->table[GIVUNTHA_HEAD_STATE] == GIVUNTHA_FULFILLED) {
+    if (table[GIVUNTHA_HEAD_STATE] == GIVUNTHA_FULFILLED) {
         puts("DONE");
         return;
     }
-    fputs(run->table[GIVUNTHA_HEAD_STATE] == GIVUNTHA_BREACHED ? "BREACH" : "LIVE", stdout);
+    fputs(table[GIVUNTHA_HEAD_STATE] == GIVUNTHA_BREACHED ? "BREACH" : "LIVE", stdout);
     if (ahead->parties == 0)
         puts(" NONE");
     else
@@ -77,7 +78,7 @@ static int start(struct run *run)
         return 0;
     }
     printf("0 %" PRId64 " ", run->table[GIVUNTHA_HEAD_LAST_READING]);
-    print_state(run, &ahead);
+    print_state(run->table, &ahead);
     return 1;
 }
 
@@ -100,6 +101,12 @@ static int take(char **line, long long low, long long high, long long *number)
     return *end == '\0' || isspace((unsigned char)*end);
 }
 
+/* Whether a line was longer than there was room for. */
+static int is_cut(const char *line)
+{
+    return strchr(line, '\n') == NULL && !feof(stdin);
+}
+
 /* Makes the record of the reading in a line; answers its length, or 0 where the line is no reading. */
 static size_t make_reading(char *line, uint8_t record[GIVUNTHA_READING_BYTES], long long *time)
 {
@@ -107,7 +114,7 @@ static size_t make_reading(char *line, uint8_t record[GIVUNTHA_READING_BYTES], l
     int32_t values[GIVUNTHA_READING_VALUES];
     size_t count = 0;
 
-    if (!take(&line, 0, UINT32_MAX, time) || !take(&line, 0, UINT8_MAX, &type))
+    if (is_cut(line) || !take(&line, 0, UINT32_MAX, time) || !take(&line, 0, UINT8_MAX, &type))
         return 0;
     while (!is_spent(line)) {
         if (count == GIVUNTHA_READING_VALUES || !take(&line, INT32_MIN, INT32_MAX, &value))
@@ -117,10 +124,13 @@ static size_t make_reading(char *line, uint8_t record[GIVUNTHA_READING_BYTES], l
     return put_reading(record, (uint32_t)*time, (uint8_t)type, values, count);
 }
 
-/* Whether a line was longer than there was room for. */
-static int is_cut(const char *line)
+/* The end of a reading's line: the state of the table after it, or the refusal. */
+static void print_answer(uint32_t answer, const int64_t table[GIVUNTHA_TABLE_CELLS], const struct forecast *ahead)
 {
-    return strchr(line, '\n') == NULL && !feof(stdin);
+    if (answer == GIVUNTHA_ACCEPTED)
+        print_state(table, ahead);
+    else
+        printf("REFUSED %" PRIu32 "\n", answer);
 }
 
 /* Gives the run the reading in a line, and writes its line. */
@@ -133,20 +143,36 @@ static int follow(struct run *run, unsigned long n, char *line)
     uint32_t answer;
     uint64_t early, cost;
 
-    if (length == 0 || is_cut(line)) {
-        fprintf(stderr, "watch: line %lu is not TIME TYPE VALUE.. with at most 4 values\n", n);
+    if (length == 0)
         return 0;
-    }
     answer = givuntha_reading(run->agreement, run->bytes, run->table, GIVUNTHA_TABLE_CELLS, record, length, &ahead.time,
                               &ahead.parties, &early, &cost);
     fprintf(stderr, "watch: reading %lu cost %" PRIu64 "\n", n, cost);
     if (early != 0)
         fprintf(stderr, "watch: reading %lu came too early: a window that wants it opens later\n", n);
     printf("%lu %lld ", n, time);
-    if (answer == GIVUNTHA_ACCEPTED)
-        print_state(run, &ahead);
-    else
-        printf("REFUSED %" PRIu32 "\n", answer);
+    print_answer(answer, run->table, &ahead);
+    return 1;
+}
+
+/* Writes what the reading in a line would do. The run's table is only read; the table that it would have is another. */
+static int preview(const struct run *run, char *line)
+{
+    static int64_t after[GIVUNTHA_TABLE_CELLS];
+    uint8_t record[GIVUNTHA_READING_BYTES];
+    long long time;
+    size_t length = make_reading(line, record, &time);
+    struct forecast ahead;
+    uint32_t answer;
+    uint64_t early, cost;
+
+    if (length == 0)
+        return 0;
+    answer = givuntha_preview(run->agreement, run->bytes, run->table, GIVUNTHA_TABLE_CELLS, record, length, after,
+                              GIVUNTHA_TABLE_CELLS, &ahead.time, &ahead.parties, &early, &cost);
+    fprintf(stderr, "watch: that would cost %" PRIu64 "%s\n", cost, early != 0 ? " and be too early" : "");
+    printf("? %lld ", time);
+    print_answer(answer, after, &ahead);
     return 1;
 }
 
@@ -186,15 +212,17 @@ int main(int count, char **words)
 {
     static struct run run = {sample, sizeof sample, {0}};
     char line[256];
-    unsigned long n;
+    unsigned long lines, readings = 0;
 
     if (count > 1 && !load(&run, words[1]))
         return 2;
     if (!start(&run))
         return 1;
-    for (n = 1; fgets(line, sizeof line, stdin) != NULL; n++)
-        if (!follow(&run, n, line))
+    for (lines = 1; fgets(line, sizeof line, stdin) != NULL; lines++)
+        if (!(line[0] == '?' ? preview(&run, line + 1) : follow(&run, ++readings, line))) {
+            fprintf(stderr, "watch: line %lu is not TIME TYPE VALUE.. with at most 4 values\n", lines);
             return 2;
+        }
     print_end(&run);
     return ferror(stdin) ? 2 : 0;
 }

@@ -6,6 +6,7 @@ pub mod early;
 pub mod forecast;
 pub mod members;
 pub mod moved;
+pub mod preview;
 pub mod quotients;
 
 use crate::agreement::{self, Agreement, Clause, Late};
@@ -21,6 +22,7 @@ use early::Marked;
 use forecast::Told;
 use members::Judged;
 use moved::Effect;
+use preview::Previewed;
 use quotients::Quotient;
 use std::collections::BTreeMap;
 use std::fmt;
@@ -49,6 +51,11 @@ const TOLD_BESIDE: &str = "forecast told, beside that of the table before";
 const TOLD_IDLE: &str = "forecast told, nothing altered, running still";
 const TOLD_CORNERS: &str = "corner of the forecast told";
 const ZEROS: &str = "zeros told for a forecast";
+const PREVIEWS: &str = "what a preview answers, and cell 5";
+const PREVIEW_LENGTHS: &str = "lengths of a preview's tables, refused with 6";
+const PREVIEW_ORDER: &str = "number of a preview, were its second not of wrong length";
+const SECONDS: &str = "what a preview's second table holds before";
+const PREVIEW_CORNERS: &str = "corner of a preview";
 const CAUSES: &str = "cause of 7";
 const CHANGES: &str = "changed table, whatever the number";
 const DAMAGES: &str = "damaged agreement refused";
@@ -68,39 +75,9 @@ impl Default for Coverage {
 
 impl Coverage {
     pub fn new() -> Coverage {
-        let groups = [
-            (NUMBERS, numbers()),
-            (CLAUSES, (16..=22).map(|kind| kind.to_string()).collect()),
-            (EXPRESSIONS, (32..=43).map(|kind| kind.to_string()).collect()),
-            (ACTIVATED, joins(&["fulfilled", "running"])),
-            (FOLLOWED, joins(&["fulfilled", "breached", "running"])),
-            (FORECAST, forecast_joins()),
-            (UNITS, DEEDS.map(str::to_string).to_vec()),
-            (QUOTIENTS, quotients::cases()),
-            (MEMBERS, members::cases()),
-            (LAST_MOVED, moved::cases()),
-            (ALTERATIONS, moved::alterations()),
-            (REPLACED, REPLACEMENTS.map(str::to_string).to_vec()),
-            (CELL_5, moved::places()),
-            (EARLY, early::cases()),
-            (NEAR_EARLY, early::near_misses()),
-            (EARLY_CORNERS, early::corners()),
-            (COSTS, cost::cases()),
-            (COST_CLAUSES, cost::activations()),
-            (COST_CORNERS, cost::corners()),
-            (TOLD, forecast::cases()),
-            (TOLD_BESIDE, forecast::beside_cases()),
-            (TOLD_IDLE, forecast::idle_cases()),
-            (TOLD_CORNERS, forecast::corners()),
-            (ZEROS, forecast::zeros()),
-            (CAUSES, tables::Damage::CAUSES.iter().map(|cause| format!("{cause:?}")).collect()),
-            (CHANGES, tables::Damage::CHANGES.iter().map(|change| format!("{change:?}")).collect()),
-            (DAMAGES, damage::Damage::ALL.iter().map(|damage| format!("{damage:?}")).collect()),
-            (EXTREMES, extremes()),
-        ];
         let zeros = |names: Vec<String>| names.into_iter().map(|name| (name, 0)).collect();
         Coverage {
-            groups: groups.into_iter().map(|(title, names)| (title, zeros(names))).collect(),
+            groups: groups().into_iter().map(|(title, names)| (title, zeros(names))).collect(),
             faults: Vec::new(),
         }
     }
@@ -129,11 +106,16 @@ impl Coverage {
         self.observe_aim(call, number);
         self.refused(call, answer);
         self.observe_refused_reading(call, answer);
+        self.observe_preview(call, answer);
         self.observe_members(call, number);
         self.observe_cell_5(call, number);
-        if number > 0 && number < 8 {
-            return;
+        if !(1..=7).contains(&number) && !matches!(call.entry, Entry::Preview { .. }) {
+            self.observe_followed(call, answer, number);
         }
+    }
+
+    /// A call whose agreement and table are not refused; a preview is not among them.
+    fn observe_followed(&mut self, call: &Call, answer: &Answer, number: u32) {
         let agreement = agreement::parse(&call.agreement).expect("an accepted agreement");
         let accepted = accept(&agreement).expect("an accepted agreement");
         match (&call.entry, answer) {
@@ -189,12 +171,33 @@ impl Coverage {
     /// A refusal leaves the table untouched, and "gives zeros" for a forecast.
     fn refused(&mut self, call: &Call, answer: &Answer) {
         match (&call.entry, answer) {
-            (Entry::Start { table }, Answer::Start { number, forecast, table: after })
-            | (Entry::Reading { table, .. }, Answer::Reading { number, forecast, table: after, .. }) => {
-                self.fault(*number != 0 && table != after, "a refusal touched the table", call);
+            (Entry::Start { table: lent }, Answer::Start { number, forecast, table: after })
+            | (Entry::Reading { table: lent, .. }, Answer::Reading { number, forecast, table: after, .. })
+            | (Entry::Preview { second: lent, .. }, Answer::Preview { number, forecast, second: after, .. }) => {
+                self.fault(*number != 0 && lent != after, "a refusal touched the table", call);
                 self.fault(*number != 0 && forecast.is_some(), "a refusal with a forecast", call);
             }
             _ => {}
+        }
+    }
+
+    /// A preview, whatever its number. "It answers as the reading itself would on a copy": what is impossible of that
+    /// reading is a fault of the preview.
+    fn observe_preview(&mut self, call: &Call, answer: &Answer) {
+        let Some(previewed) = Previewed::of(call, answer) else { return };
+        if let Some(fault) = previewed.fault() {
+            return self.fault(true, fault, call);
+        }
+        previewed.lengths().into_iter().for_each(|lengths| self.count(PREVIEW_LENGTHS, lengths));
+        previewed.otherwise().into_iter().for_each(|otherwise| self.count(PREVIEW_ORDER, otherwise));
+        previewed.case().into_iter().for_each(|case| self.count(PREVIEWS, case));
+        let contents = previewed.written_over().into_iter().chain(previewed.kept());
+        contents.for_each(|contents| self.count(SECONDS, contents));
+        previewed.corners().into_iter().for_each(|corner| self.count(PREVIEW_CORNERS, corner.to_string()));
+        if let Some((call, answer)) = previewed.as_reading() {
+            let mut of_reading = Coverage::new();
+            of_reading.observe(&call, &answer);
+            self.faults.extend(of_reading.faults);
         }
     }
 
@@ -203,7 +206,7 @@ impl Coverage {
     fn observe_members(&mut self, call: &Call, number: u32) {
         let (judged, refusal) = match &call.entry {
             Entry::Check => (members::at_check(&call.agreement), Refusal::Typing),
-            Entry::Start { .. } => return,
+            Entry::Start { .. } | Entry::Preview { .. } => return,
             Entry::Reading { table, .. } => (members::in_table(&call.agreement, table), Refusal::Table),
         };
         let Some(judged) = judged else { return };
@@ -473,12 +476,52 @@ impl fmt::Display for Coverage {
     }
 }
 
-/// "Check uses 1 to 5, start 1 to 6 and 11, ..., a reading all."
+/// Everything that should be reached, by group.
+fn groups() -> Vec<(&'static str, Vec<String>)> {
+    vec![
+        (NUMBERS, numbers()),
+        (CLAUSES, (16..=22).map(|kind| kind.to_string()).collect()),
+        (EXPRESSIONS, (32..=43).map(|kind| kind.to_string()).collect()),
+        (ACTIVATED, joins(&["fulfilled", "running"])),
+        (FOLLOWED, joins(&["fulfilled", "breached", "running"])),
+        (FORECAST, forecast_joins()),
+        (UNITS, DEEDS.map(str::to_string).to_vec()),
+        (QUOTIENTS, quotients::cases()),
+        (MEMBERS, members::cases()),
+        (LAST_MOVED, moved::cases()),
+        (ALTERATIONS, moved::alterations()),
+        (REPLACED, REPLACEMENTS.map(str::to_string).to_vec()),
+        (CELL_5, moved::places()),
+        (EARLY, early::cases()),
+        (NEAR_EARLY, early::near_misses()),
+        (EARLY_CORNERS, early::corners()),
+        (COSTS, cost::cases()),
+        (COST_CLAUSES, cost::activations()),
+        (COST_CORNERS, cost::corners()),
+        (TOLD, forecast::cases()),
+        (TOLD_BESIDE, forecast::beside_cases()),
+        (TOLD_IDLE, forecast::idle_cases()),
+        (TOLD_CORNERS, forecast::corners()),
+        (ZEROS, forecast::zeros()),
+        (PREVIEWS, preview::cases()),
+        (PREVIEW_LENGTHS, preview::lengths()),
+        (PREVIEW_ORDER, preview::otherwise()),
+        (SECONDS, preview::contents()),
+        (PREVIEW_CORNERS, preview::corners()),
+        (CAUSES, tables::Damage::CAUSES.iter().map(|cause| format!("{cause:?}")).collect()),
+        (CHANGES, tables::Damage::CHANGES.iter().map(|change| format!("{change:?}")).collect()),
+        (DAMAGES, damage::Damage::ALL.iter().map(|damage| format!("{damage:?}")).collect()),
+        (EXTREMES, extremes()),
+    ]
+}
+
+/// "Check uses 1 to 5, start 1 to 6 and 11, ..., a reading all." A preview answers as the reading.
 fn numbers() -> Vec<String> {
     let entry = |name, numbers: Vec<u32>| numbers.into_iter().map(move |number| format!("{name} {number:2}"));
     entry("check", (0..=5).collect())
         .chain(entry("start", (0..=6).chain([11]).collect()))
         .chain(entry("reading", (0..=11).collect()))
+        .chain(entry("preview", (0..=11).collect()))
         .collect()
 }
 
@@ -523,6 +566,7 @@ fn entry_name(entry: &Entry) -> &'static str {
         Entry::Check => "check",
         Entry::Start { .. } => "start",
         Entry::Reading { .. } => "reading",
+        Entry::Preview { .. } => "preview",
     }
 }
 

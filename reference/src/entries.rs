@@ -1,13 +1,13 @@
-//! The three entries: check an agreement, start it, take a reading. Each returns the lowest refusal
-//! number that applies, or 0; a refusal leaves the table untouched. Paper 02, No. 2: "Start and
-//! reading both answer with the forecast of the table they leave; a refusal gives zeros for it. The
-//! separate forecast entry goes".
+//! The four entries: check an agreement, start it, take a reading, preview one. Each returns the
+//! lowest refusal number that applies, or 0; a refusal leaves the table untouched. Paper 02, No. 2:
+//! "Start and reading both answer with the forecast of the table they leave; a refusal gives zeros
+//! for it. The separate forecast entry goes".
 
 use crate::agreement::{self, Agreement};
 use crate::check::{accept, Accepted};
 use crate::reading::{self as readings, Reading};
 use crate::rules::{self, Outcome, Residue, Scope};
-use crate::table::{self, State, CELLS, UNITS};
+use crate::table::{self, State, UNITS};
 use crate::Refusal;
 
 /// What check answers: 0 and the main clause's parties by bit, or a refusal number and no party.
@@ -28,9 +28,9 @@ pub struct Started {
     pub forecast: Forecast,
 }
 
-/// What a reading answers: 0 or a refusal number; paper 02, No. 8: "a mark 'early', 1 or 0"; No. 9:
-/// "a figure for each reading", what it costs; No. 2: the forecast of the table that it leaves. A
-/// refusal is not early and has no forecast, and only 11 has a cost.
+/// What a reading or its preview answers: 0 or a refusal number; paper 02, No. 8: "a mark 'early',
+/// 1 or 0"; No. 9: "a figure for each reading", what it costs; No. 2: the forecast of the table
+/// that it leaves. A refusal is not early and has no forecast, and only 11 has a cost.
 #[derive(Clone, Copy, Debug, PartialEq, Eq)]
 pub struct Taken {
     pub number: u32,
@@ -57,9 +57,7 @@ pub fn check(agreement: &[u8]) -> Checked {
 /// "start 1 to 6 and 11". "Start ignores the table's earlier contents."
 pub fn start(agreement: &[u8], table: &mut [i64]) -> Started {
     let left = with(agreement, |accepted| {
-        if table.len() != CELLS {
-            return Err(Refusal::Cells);
-        }
+        table::right_length(table)?;
         let state = started(accepted.agreement)?;
         state.write(table);
         Ok(forecast(accepted.agreement, &state.outcome))
@@ -79,6 +77,22 @@ pub fn reading(agreement: &[u8], table: &mut [i64], reading: &[u8]) -> Taken {
     });
     // "on a refusal other than 11, the count is 0"
     taken.unwrap_or_else(|refusal| Taken::refused(refusal, 0))
+}
+
+/// Paper 02, No. 6: "A preview takes agreement, table and reading, and writes the outcome into a
+/// second table of the same length. It answers as the reading itself would on a copy, refusals
+/// included, and the first table is only read. On a refusal the second table is untouched. A second
+/// table of wrong length counts under 6", so that 1 to 5 come before it, and 7 to 11 after it.
+pub fn preview(agreement: &[u8], table: &[i64], reading: &[u8], second: &mut [i64]) -> Taken {
+    if let Err(refusal) = with(agreement, |_| table::right_length(second)) {
+        return Taken::refused(refusal, 0);
+    }
+    let mut copy = table.to_vec();
+    let taken = self::reading(agreement, &mut copy, reading);
+    if taken.number == 0 {
+        second.copy_from_slice(&copy);
+    }
+    taken
 }
 
 /// The forecast of what a start or a reading leaves: "A breached table gives its verdict."

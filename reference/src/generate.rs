@@ -7,6 +7,7 @@ mod eventful;
 pub mod random;
 pub mod readings;
 pub mod records;
+mod seconds;
 pub mod tables;
 
 use crate::agreement;
@@ -14,6 +15,7 @@ use crate::check::{accept, Accepted};
 use crate::table::{self, CELLS, RUNNING, STATE};
 use crate::{entries, Checked, Forecast, Started, Taken};
 use random::Random;
+use seconds::Seen;
 use std::collections::VecDeque;
 use std::rc::Rc;
 
@@ -31,6 +33,7 @@ pub enum Entry {
     Check,
     Start { table: Vec<i64> },
     Reading { table: Vec<i64>, reading: Vec<u8> },
+    Preview { table: Vec<i64>, reading: Vec<u8>, second: Vec<i64> },
 }
 
 /// What a call was made for.
@@ -42,22 +45,24 @@ pub enum Aim {
     Made,
     Agreement(damage::Damage),
     Table(tables::Damage),
+    /// A table of wrong length; of a preview the first, the second or both.
     TableLength,
 }
 
-/// What an entry answers, and the table that it leaves.
+/// What an entry answers, and the table that it leaves: of a preview the second, for "the first table is only read".
 #[derive(Clone, Debug, PartialEq, Eq)]
 pub enum Answer {
     Check(Checked),
     Start { number: u32, forecast: Forecast, table: Vec<i64> },
     Reading { number: u32, early: u32, cost: u64, forecast: Forecast, table: Vec<i64> },
+    Preview { number: u32, early: u32, cost: u64, forecast: Forecast, second: Vec<i64> },
 }
 
 impl Answer {
     pub fn number(&self) -> u32 {
         match self {
             Answer::Check(checked) => checked.number,
-            Answer::Start { number, .. } | Answer::Reading { number, .. } => *number,
+            Answer::Start { number, .. } | Answer::Reading { number, .. } | Answer::Preview { number, .. } => *number,
         }
     }
 }
@@ -77,6 +82,12 @@ impl Call {
                 let Taken { number, early, cost, forecast } = entries::reading(&self.agreement, &mut table, reading);
                 Answer::Reading { number, early, cost, forecast, table }
             }
+            Entry::Preview { table, reading, second } => {
+                let mut second = second.clone();
+                let taken = entries::preview(&self.agreement, table, reading, &mut second);
+                let Taken { number, early, cost, forecast } = taken;
+                Answer::Preview { number, early, cost, forecast, second }
+            }
         }
     }
 }
@@ -85,11 +96,12 @@ impl Call {
 pub struct Calls {
     random: Random,
     ready: VecDeque<Call>,
+    seen: Seen,
 }
 
 /// The calls of a seed.
 pub fn calls(seed: u64) -> Calls {
-    Calls { random: Random::new(seed), ready: VecDeque::new() }
+    Calls { random: Random::new(seed), ready: VecDeque::new(), seen: Seen::default() }
 }
 
 impl Iterator for Calls {
@@ -111,7 +123,7 @@ impl Calls {
             return self.damaged_agreement(&bytes);
         }
         let shared: Rc<[u8]> = bytes.as_slice().into();
-        let mut batch = Batch { random: &mut self.random, bytes: shared, ready: &mut self.ready };
+        let mut batch = self.batch_for(shared);
         batch.add(Aim::Run, Entry::Check);
         let Ok(agreement) = agreement::parse(&bytes) else { return };
         if let Ok(accepted) = accept(&agreement) {
@@ -119,10 +131,15 @@ impl Calls {
         }
     }
 
+    /// The calls for an agreement, none of them made yet.
+    fn batch_for(&mut self, bytes: Rc<[u8]>) -> Batch<'_> {
+        Batch { random: &mut self.random, bytes, ready: &mut self.ready, seen: &mut self.seen }
+    }
+
     fn damaged_agreement(&mut self, bytes: &[u8]) {
         let damage = self.random.pick(&damage::Damage::ALL);
         let Some(damaged) = damage.of(&mut self.random, bytes) else { return };
-        let mut batch = Batch { random: &mut self.random, bytes: damaged.into(), ready: &mut self.ready };
+        let mut batch = self.batch_for(damaged.into());
         batch.all_entries(Aim::Agreement(damage));
     }
 }
@@ -132,11 +149,31 @@ struct Batch<'r> {
     random: &'r mut Random,
     bytes: Rc<[u8]>,
     ready: &'r mut VecDeque<Call>,
+    seen: &'r mut Seen,
 }
 
 impl Batch<'_> {
     fn add(&mut self, aim: Aim, entry: Entry) {
         self.ready.push_back(Call { agreement: self.bytes.clone(), entry, aim });
+    }
+
+    /// A reading, now and then with its preview before it.
+    fn reading(&mut self, aim: Aim, table: &[i64], reading: Vec<u8>) {
+        if self.random.chance(30) {
+            let second = self.seen.second(self.random, &self.bytes, table, &reading);
+            self.preview(aim, table, &reading, second);
+        }
+        self.add(aim, Entry::Reading { table: table.to_vec(), reading });
+    }
+
+    /// A preview. Where the second's length is wrong the number is 6, but for 1 to 5.
+    fn preview(&mut self, aim: Aim, table: &[i64], reading: &[u8], second: Vec<i64>) {
+        let aim = match aim {
+            Aim::Agreement(_) => aim,
+            _ if second.len() == CELLS => aim,
+            _ => Aim::TableLength,
+        };
+        self.add(aim, Entry::Preview { table: table.to_vec(), reading: reading.to_vec(), second });
     }
 
     /// Every entry, with a table that may be anything.
@@ -145,7 +182,10 @@ impl Batch<'_> {
         entries::start(&self.bytes, &mut table);
         self.add(aim, Entry::Check);
         self.add(aim, Entry::Start { table: table.clone() });
-        self.add(aim, Entry::Reading { table, reading: crate::build::reading(100, 0, &[]) });
+        let reading = crate::build::reading(100, 0, &[]);
+        let second = seconds::of_wrong_length(self.random, table.clone());
+        self.preview(aim, &table, &reading, second);
+        self.reading(aim, &table, reading);
     }
 
     /// A run with its readings, and damaged tables on the way.
@@ -159,6 +199,7 @@ impl Batch<'_> {
         if entries::start(&self.bytes, &mut table).number != 0 {
             return;
         }
+        self.seen.keep(&table);
         let mut left = self.random.pick(&[3, 8, 16, 30]);
         while left > 0 {
             self.step(accepted, &mut table);
@@ -167,6 +208,7 @@ impl Batch<'_> {
             // What is decided stays so: a few more readings will do.
             left = if table[STATE] == RUNNING { left - 1 } else { left.min(4) - 1 };
         }
+        self.seen.keep(&table);
         for _ in 0..4 {
             self.made(accepted);
         }
@@ -175,7 +217,7 @@ impl Batch<'_> {
     /// One reading.
     fn step(&mut self, accepted: &Accepted, table: &mut [i64]) {
         let reading = self.reading_for(accepted, table);
-        self.add(Aim::Run, Entry::Reading { table: table.to_vec(), reading: reading.clone() });
+        self.reading(Aim::Run, table, reading.clone());
         entries::reading(&self.bytes, table, &reading);
     }
 
@@ -189,14 +231,16 @@ impl Batch<'_> {
             _ if self.random.chance(20) => self.reading_for(accepted, &other),
             _ => return,
         };
-        self.add(Aim::Made, Entry::Reading { table: other, reading });
+        self.reading(Aim::Made, &other, reading);
     }
 
     fn wrong_length(&mut self) {
         let table = vec![0; self.random.pick(&[0, 8, CELLS - 1, CELLS + 1])];
         let reading = crate::build::reading(100, 0, &[]);
         self.add(Aim::TableLength, Entry::Start { table: table.clone() });
-        self.add(Aim::TableLength, Entry::Reading { table, reading });
+        self.reading(Aim::TableLength, &table, reading.clone());
+        let second = seconds::of_wrong_length(self.random, table.clone());
+        self.preview(Aim::TableLength, &table, &reading, second);
     }
 
     /// A few damages to a table, each tried by a reading.
@@ -208,7 +252,7 @@ impl Batch<'_> {
             let damaged = (0..6).find_map(|_| damage.of(self.random, accepted, table));
             if let Some(damaged) = damaged {
                 let reading = self.reading_for(accepted, &damaged);
-                self.add(Aim::Table(damage), Entry::Reading { table: damaged, reading });
+                self.reading(Aim::Table(damage), &damaged, reading);
             }
         }
     }
@@ -228,7 +272,7 @@ impl Batch<'_> {
     fn made(&mut self, accepted: &Accepted) {
         let Some(table) = tables::made(self.random, accepted) else { return };
         let reading = self.reading_for(accepted, &table);
-        self.add(Aim::Made, Entry::Reading { table: table.clone(), reading });
+        self.reading(Aim::Made, &table, reading);
         self.damages(accepted, &table);
     }
 }

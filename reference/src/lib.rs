@@ -2,7 +2,7 @@
 //!
 //! An agreement is parsed into a tree ([`agreement`]), checked ([`check`](mod@check)), and
 //! followed by rules on trees ([`rules`]); the lent table is read into such a tree and written
-//! from it ([`table`]). The three entries of the paper stand in [`entries`] and are exported here.
+//! from it ([`table`]). The four entries of the papers stand in [`entries`] and are exported here.
 //! [`build`] and [`generate`] make trial material, [`coverage`] counts what it reaches.
 
 pub mod agreement;
@@ -15,7 +15,7 @@ pub mod reading;
 pub mod rules;
 pub mod table;
 
-pub use entries::{check, reading, start, Checked, Forecast, Started, Taken};
+pub use entries::{check, preview, reading, start, Checked, Forecast, Started, Taken};
 pub use table::CELLS;
 
 /// The conditions of the paper's refusal table, under their numbers.

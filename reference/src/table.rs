@@ -103,11 +103,18 @@ fn write_waiting(waiting: &Waiting, unit: &mut [i64]) {
     unit[VALUES..].copy_from_slice(&waiting.scope.values);
 }
 
+/// Refusal 6: "table not 3,080 cells".
+pub fn right_length(table: &[i64]) -> Result<(), Refusal> {
+    if table.len() == CELLS {
+        Ok(())
+    } else {
+        Err(Refusal::Cells)
+    }
+}
+
 /// Reads a table, or refuses it with 6 or 7.
 pub fn read<'a>(accepted: &Accepted<'a>, table: &[i64]) -> Result<State<'a>, Refusal> {
-    if table.len() != CELLS {
-        return Err(Refusal::Cells);
-    }
+    right_length(table)?;
     let (head, units) = table.split_at(HEAD);
     let start = i64::from(accepted.agreement.start);
     let (last, moved) = (head[LAST], head[MOVED]);

@@ -14,6 +14,7 @@ use reference::coverage::early::Marked;
 use reference::coverage::forecast::{self, Told};
 use reference::coverage::members::{self, Judged, Resolved};
 use reference::coverage::moved::{self, Effect, Lies};
+use reference::coverage::preview::Previewed;
 use reference::coverage::{quotients, Coverage};
 use reference::entries::started;
 use reference::generate::damage::Damage;
@@ -21,15 +22,15 @@ use reference::generate::{agreements, calls, input, random::Random, Aim, Answer,
 use reference::reading::Reading;
 use reference::rules::Outcome;
 use reference::table::{
-    self, State, ACTIVATED, BREACHED, CELLS, FULFILLED, HEAD, LAST, MOVED, OR, PARAMETERS, PLACE, RUNNING, SORT, STATE,
-    UNIT, USED, VALUES,
+    self, State, ACTIVATED, BLAMED, BREACHED, CELLS, FULFILLED, HEAD, LAST, MOVED, OR, PARAMETERS, PLACE, RUNNING,
+    SORT, STATE, UNIT, USED, VALUES,
 };
-use reference::{check, reading, start, Checked, Forecast, Started, Taken};
+use reference::{check, preview, reading, start, Checked, Forecast, Started, Taken};
 
 #[test]
 fn everything_is_reached_and_no_answer_is_impossible() {
     let mut coverage = Coverage::new();
-    for call in calls(2024).take(60_000) {
+    for call in calls(2024).take(80_000) {
         coverage.observe(&call, &call.answer());
     }
     assert!(coverage.faults.is_empty(), "{} faults, one: {}", coverage.faults.len(), coverage.faults[0]);
@@ -553,6 +554,209 @@ fn corners_of_the_mark_are_found() {
     let choice = simple(-1).choice(&and(&dropped, &again(&named(0))));
     let expected = vec!["first is the reading's time", "only a unit of an else finds it early"];
     assert_eq!(judged(&[plain(&choice)], &named(0)), ("0: no first is later", expected, vec![]));
+}
+
+/// A preview, the answer to it, and the second table that it leaves.
+fn previewed(bytes: &[u8], tables: (&[i64], &[i64]), taken: Vec<u8>) -> (Call, Taken, Vec<i64>) {
+    let mut left = tables.1.to_vec();
+    let answer = preview(bytes, tables.0, &taken, &mut left);
+    let entry = Entry::Preview { table: tables.0.to_vec(), reading: taken, second: tables.1.to_vec() };
+    (Call { agreement: bytes.into(), entry, aim: Aim::Agreement(Damage::OrOfSeveral) }, answer, left)
+}
+
+fn preview_answer(Taken { number, early, cost, forecast }: Taken, second: &[i64]) -> Answer {
+    Answer::Preview { number, early, cost, forecast, second: second.to_vec() }
+}
+
+/// Whether faults are found in such an answer.
+fn is_fault(call: &Call, taken: Taken, left: &[i64]) -> bool {
+    let mut coverage = Coverage::new();
+    coverage.observe(call, &preview_answer(taken, left));
+    !coverage.faults.is_empty()
+}
+
+/// A monitor that answers otherwise than the reading on a copy gives such answers.
+#[test]
+fn a_preview_answered_wrong_is_a_fault() {
+    let (bytes, table) = owed_twice();
+    let second = vec![7; CELLS];
+    let early = begun(&[], &opening(20, 40).obligation(0));
+    let crowd = begun(&[], &Wait { then: balanced(65, &simple(60).obligation(0)), ..simple(60) }.obligation(0));
+    let level = |time| build::reading(time, 1, &[0]);
+    let cases = [
+        previewed(&bytes, (&table, &second), build::reading(120, 0, &[])),
+        previewed(&bytes, (&table, &second), build::reading(120, 1, &[])),
+        previewed(&bytes, (&table, &second), build::reading(161, 0, &[])),
+        previewed(&bytes, (&table, &second), build::reading(109, 0, &[])),
+        previewed(&bytes, (&table, &second[1..]), build::reading(120, 0, &[])),
+        previewed(&early.0, (&early.1, &second), level(110)),
+        previewed(&crowd.0, (&crowd.1, &second), level(110)),
+    ];
+    let numbers = cases.each_ref().map(|(_, taken, _)| (taken.number, taken.early, taken.cost));
+    assert_eq!(numbers, [(0, 0, 1), (0, 0, 2), (0, 0, 1), (10, 0, 0), (6, 0, 0), (0, 1, 1), (11, 0, 130)]);
+    for (call, taken, left) in cases {
+        assert!(!is_fault(&call, taken, &left), "{taken:?}");
+        let told = if taken.forecast.is_none() { Some((160, 1)) } else { None };
+        let wrong = [
+            Taken { early: 1 - taken.early, ..taken },
+            Taken { cost: taken.cost + 1, ..taken },
+            Taken { cost: 130 - taken.cost, ..taken },
+            Taken { forecast: told, ..taken },
+            Taken { number: if taken.number == 0 { 10 } else { 9 }, ..taken },
+        ];
+        for wrong in wrong {
+            assert!(is_fault(&call, wrong, &left), "{wrong:?} for {taken:?}");
+        }
+    }
+}
+
+/// A monitor that leaves something of what the second held, or writes on a refusal, leaves such seconds.
+#[test]
+fn a_second_written_wrong_is_a_fault() {
+    let (bytes, table) = owed_twice();
+    let mut breached = table.clone();
+    assert_eq!(reading(&bytes, &mut breached, &build::reading(161, 0, &[])).number, 0);
+    let second = vec![7; CELLS];
+    for (first, taken) in [
+        (&table, build::reading(120, 0, &[])),
+        (&table, build::reading(120, 1, &[])),
+        (&table, build::reading(161, 0, &[])),
+        (&breached, build::reading(170, 0, &[])),
+    ] {
+        let (call, taken, left) = previewed(&bytes, (first, &second), taken);
+        assert_eq!((taken.number, is_fault(&call, taken, &left)), (0, false));
+        let kept_cells = [STATE, LAST, MOVED, HEAD, HEAD + UNIT, CELLS - 1].map(|cell| with(&left, &[(cell, 7)]));
+        for wrong in kept_cells.iter().chain([&second, &vec![0; CELLS]]) {
+            assert!(is_fault(&call, taken, wrong));
+        }
+    }
+    for (first, taken) in [(&table, build::reading(109, 0, &[])), (&table[1..].to_vec(), build::reading(120, 0, &[]))] {
+        let (call, taken, left) = previewed(&bytes, (first, &second), taken);
+        assert_eq!((left, is_fault(&call, taken, &second)), (second.clone(), false));
+        for wrong in [table.clone(), vec![0; CELLS], with(&second, &[(LAST, 109)]), with(&second, &[(CELLS - 1, 0)])] {
+            assert!(is_fault(&call, taken, &wrong));
+        }
+    }
+}
+
+/// A monitor that asks for the second's length too soon or too late gives such numbers.
+#[test]
+fn a_second_s_length_asked_at_the_wrong_time_is_a_fault() {
+    let (bytes, table) = owed_twice();
+    let numbers = |bytes: &[u8], table: &[i64], second: &[i64], taken: Vec<u8>| {
+        let (call, taken, left) = previewed(bytes, (table, second), taken);
+        let right = |number: &u32| !is_fault(&call, Taken { number: *number, ..taken }, &left);
+        (0..=11).filter(right).collect::<Vec<u32>>()
+    };
+    let mark = |time| build::reading(time, 0, &[]);
+    let damaged = with(&table, &[(STATE, 9)]);
+    for length in [0, CELLS - 1, CELLS + 1] {
+        let second = vec![0; length];
+        assert_eq!(numbers(&[], &table, &second, mark(120)), [1]);
+        assert_eq!(numbers(&two_ors(2, 0, &fulfilled()), &table, &second, mark(120)), [3]);
+        for (table, taken) in [(&table, mark(120)), (&damaged, mark(120)), (&table, Vec::new()), (&table, mark(109))] {
+            assert_eq!(numbers(&bytes, table, &second, taken), [6]);
+        }
+        assert_eq!(numbers(&bytes, &second, &second, mark(120)), [6]);
+    }
+    assert_eq!(numbers(&bytes, &damaged, &table, Vec::new()), [7]);
+}
+
+/// What is found of a preview, all but its corners.
+fn found_of(bytes: &[u8], tables: (&[i64], &[i64]), taken: Vec<u8>) -> Vec<String> {
+    let (call, taken, left) = previewed(bytes, tables, taken);
+    let answer = preview_answer(taken, &left);
+    let previewed = Previewed::of(&call, &answer).expect("a preview");
+    assert_eq!(previewed.fault(), None);
+    let of_lengths = [previewed.lengths(), previewed.otherwise()];
+    let of_answer = [previewed.case(), previewed.written_over(), previewed.kept()];
+    of_lengths.into_iter().chain(of_answer).flatten().collect()
+}
+
+#[test]
+fn what_previews_do_is_found() {
+    let (bytes, table) = owed_twice();
+    let mark = |time| build::reading(time, 0, &[]);
+    let found = |tables: (&[i64], &[i64]), taken| found_of(&bytes, tables, taken);
+    let (zeros, sevens) = (vec![0; CELLS], vec![7; CELLS]);
+    let idle = "running to running: stayed, unaltered";
+    assert_eq!(found((&table, &zeros), mark(120)), [idle, "running over: zeros"]);
+    assert_eq!(found((&table, &sevens), mark(120)), [idle, "running over: no state"]);
+    assert_eq!(found((&table, &table), mark(120)), [idle, "running over: the first table"]);
+    assert_eq!(found((&table, &table), mark(110)), [idle, "running over: the outcome already"]);
+    let other = with(&table, &[(LAST, 111)]);
+    assert_eq!(found((&table, &other), mark(120)), [idle, "running over: another table of the agreement"]);
+    let foreign = with(&table, &[(LAST, 99)]);
+    assert_eq!(
+        found((&table, &foreign), mark(120)),
+        [idle, "running over: a table with a state, not of the agreement"]
+    );
+    let breach = ["running to breached: moved", "breached over: zeros"];
+    assert_eq!(found((&table, &zeros), mark(161)), breach);
+    assert_eq!(found((&table, &zeros), mark(109)), ["refused with 10: running", "kept on 10: zeros"]);
+    assert_eq!(found((&table, &sevens), Vec::new()), ["refused with  8: running", "kept on  8: something"]);
+    let short = ["first right, second too short", " 0", "kept on  6: something"];
+    assert_eq!(found((&table, &sevens[1..]), mark(120)), short);
+    let both = ["first empty, second empty", " 6", "kept on  6: zeros"];
+    assert_eq!(found((&[], &[]), mark(120)), both);
+    let first = ["first too short, second right", "kept on  6: zeros"];
+    assert_eq!(found((&table[1..], &zeros), mark(120)), first);
+    assert_eq!(found_of(&[], (&table, &sevens[1..]), mark(120)), [" 1", "kept on  1: something"]);
+}
+
+/// In which corners a preview is.
+fn corners_of((bytes, table): &(Vec<u8>, Vec<i64>), second: &[i64], taken: Vec<u8>) -> Vec<&'static str> {
+    let (call, taken, left) = previewed(bytes, (table, second), taken);
+    Previewed::of(&call, &preview_answer(taken, &left)).expect("a preview").corners()
+}
+
+#[test]
+fn corners_of_what_the_second_held_are_found() {
+    let (bytes, table) = owed_twice();
+    let twice = (bytes, table.clone());
+    let mark = |time| build::reading(time, 0, &[]);
+    let idle = ["running: a breach told", "a time mark"];
+    assert_eq!(corners_of(&twice, &table, mark(120)), idle);
+    let otherwise = [
+        "nothing altered, the second's units or state otherwise before",
+        "nothing altered, the second's cell 5 otherwise before",
+    ];
+    assert_eq!(corners_of(&twice, &vec![0; CELLS], mark(120)), [idle, otherwise].concat());
+    let later = ["the second's last reading time is later"];
+    assert_eq!(corners_of(&twice, &with(&table, &[(LAST, 130)]), mark(120)), [&idle[..], &later].concat());
+    let held = with(&table, &[(STATE, BREACHED), (BLAMED, 1), (6, 1), (HEAD + UNIT, 1)]);
+    let left = [
+        "the second holds something beyond the outcome's units",
+        "the second holds a verdict, the outcome none",
+        "the second's head cells 6 and 7 are not zero",
+        "the second's state is breached, the outcome's running",
+    ];
+    assert_eq!(corners_of(&twice, &held, mark(120)), [&idle[..], &otherwise[..1], &left].concat());
+    let running = "the second's state is running, the outcome's breached";
+    let breached = ["breached: the verdict told", "a time mark", left[0], running];
+    assert_eq!(corners_of(&twice, &table, mark(161)), breached);
+}
+
+#[test]
+fn corners_of_what_previews_answer_are_found() {
+    let level = build::reading(100, 1, &[0]);
+    let zeros = vec![0; CELLS];
+    let early = begun(&[], &opening(20, 40).obligation(0));
+    let found = corners_of(&early, &zeros, level.clone());
+    assert_eq!(found[..2], ["early", "early, the second's units or state otherwise before"]);
+    let again = "at the last reading time once more";
+    let expected = ["early", "running: a breach told", "another reading", again];
+    assert_eq!(corners_of(&early, &early.1, level.clone()), expected);
+    let owed = begun(&[], &simple(60).obligation(0));
+    let mut outcome = owed.1.clone();
+    assert_eq!(reading(&owed.0, &mut outcome, &level).number, 0);
+    let already = "altered, the second holds the outcome already";
+    let expected = ["fulfilled: none told", "another reading", already];
+    assert_eq!(corners_of(&owed, &outcome, level.clone()), expected);
+    let free = begun(&[], &simple(60).choice(&fulfilled()));
+    assert_eq!(corners_of(&free, &free.1, build::reading(110, 0, &[])), ["running: none told", "a time mark"]);
+    let crowd = begun(&[], &Wait { then: balanced(65, &simple(60).obligation(0)), ..simple(60) }.obligation(0));
+    assert_eq!(corners_of(&crowd, &zeros, level), ["11 with its cost"]);
 }
 
 /// How many faults are found if the cost of a reading is another by so much.

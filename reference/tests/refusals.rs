@@ -3,7 +3,7 @@
 use reference::agreement::{Operator, Type};
 use reference::build::*;
 use reference::table::{ACTIVATED, BLAMED, HEAD, LAST, MOVED, PLACE, STATE, TIME, USED};
-use reference::{check, reading, start, Started, Taken, CELLS};
+use reference::{check, preview, reading, start, Started, Taken, CELLS};
 
 fn pond(templates: &[Vec<u8>], main: &[u8]) -> Vec<u8> {
     agreement(100, 2, &[reading_type(&[Type::Number, Type::Truth])], templates, main)
@@ -39,6 +39,8 @@ fn refused_table(agreement: &[u8], table: &[i64]) {
     let mut lent = table.to_vec();
     for taken in [Vec::new(), reference::build::reading(200, 0, &[])] {
         assert_eq!(reading(agreement, &mut lent, &taken), refused(7));
+        assert_eq!(lent, table);
+        assert_eq!(preview(agreement, table, &taken, &mut lent), refused(7));
         assert_eq!(lent, table);
     }
 }
@@ -170,7 +172,10 @@ fn refusal_6_cells() {
         let mut table = vec![7; cells];
         assert_eq!(start(&agreement, &mut table), Started { number: 6, forecast: None });
         assert_eq!(reading(&agreement, &mut table, &[]), refused(6));
-        assert_eq!(table, vec![7; cells]);
+        let mut second = vec![7; CELLS];
+        assert_eq!(preview(&agreement, &table, &[], &mut second), refused(6));
+        assert_eq!(preview(&agreement, &second, &[], &mut table), refused(6));
+        assert_eq!((table, second), (vec![7; cells], vec![7; CELLS]));
     }
 }
 

@@ -1,7 +1,7 @@
 //! The calls of the program `trials`, `../crates/trials/stdin`, given to this monitor: it must write what the program
 //! must, `../crates/trials/stdout`, byte for byte. How the calls are laid out stands in `../crates/trials/src/main.rt`.
 
-use reference::{check, reading, start, Forecast};
+use reference::{check, preview, reading, start, Forecast, Taken};
 use std::fmt::Write;
 use std::path::PathBuf;
 
@@ -32,8 +32,18 @@ fn start_line(agreement: &[u8], table: &mut [i64]) -> String {
 
 fn reading_line(agreement: &[u8], table: &mut [i64], event: &[u8]) -> String {
     let answer = reading(agreement, table, event);
+    table_line(format!("reading {}", taken(answer)), table)
+}
+
+fn preview_line(agreement: &[u8], table: &[i64], event: &[u8], second: &mut [i64]) -> String {
+    let answer = preview(agreement, table, event, second);
+    table_line(format!("preview {}", taken(answer)), second)
+}
+
+/// The number, the forecast, the mark and the cost.
+fn taken(answer: Taken) -> String {
     let ahead = ahead(answer.forecast);
-    table_line(format!("reading {} {ahead} {} {}", answer.number, answer.early, answer.cost), table)
+    format!("{} {ahead} {} {}", answer.number, answer.early, answer.cost)
 }
 
 /// The time of the breach ahead and its parties by bit, or zeros where there is none.
@@ -61,7 +71,8 @@ fn trials() {
     let given = std::fs::read(folder.join("stdin")).expect("the calls");
     let expected = std::fs::read_to_string(folder.join("stdout")).expect("what must be written");
     let (mut steps, mut expected, mut calls) = (Steps(&given), expected.lines(), 0);
-    let (mut agreement, mut event, mut table) = (&given[..0], &given[..0], Vec::new());
+    let (mut agreement, mut event) = (&given[..0], &given[..0]);
+    let (mut table, mut second) = (Vec::new(), Vec::new());
     while let Some(&step) = steps.0.first() {
         steps.take(1);
         let line = match step {
@@ -88,13 +99,18 @@ fn trials() {
             }
             6 => start_line(agreement, &mut table),
             7 => reading_line(agreement, &mut table, event),
-            8 => {
+            8 => preview_line(agreement, &table, event, &mut second),
+            9 => {
+                second.clone_from(&table);
+                continue;
+            }
+            10 => {
                 event = &given[..0];
                 format!("# {}", String::from_utf8_lossy(steps.named()))
             }
             other => panic!("step {other}"),
         };
-        calls += usize::from(step != 8);
+        calls += usize::from(step != 10);
         assert_eq!(Some(line.as_str()), expected.next(), "call {calls}");
     }
     assert_eq!(expected.next(), None);

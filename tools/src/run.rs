@@ -39,6 +39,7 @@ pub struct Step {
 }
 
 /// An agreement that was started, its table, and the forecast that the library told of this table.
+#[derive(Clone)]
 pub struct Run {
     agreement: Vec<u8>,
     table: Table,
@@ -58,8 +59,24 @@ impl Run {
     }
 
     pub fn reading(&mut self, record: &[u8]) -> Step {
-        self.readings += 1;
         let answer = self.table.reading(&self.agreement, record);
+        self.answered(record, answer)
+    }
+
+    /// What a reading would do, and the run as it would be then; this one takes no reading by it.
+    pub fn preview(&self, record: &[u8]) -> (Step, Run) {
+        let mut after = self.clone();
+        let foreseen = self.table.preview(&self.agreement, record);
+        let answer = foreseen.map(|(taken, table)| {
+            after.table = table;
+            taken
+        });
+        (after.answered(record, answer), after)
+    }
+
+    /// Writes down what the library answered to a reading; the table is what it left.
+    fn answered(&mut self, record: &[u8], answer: Result<Taken, Refused>) -> Step {
+        self.readings += 1;
         let (time, verdict, early) = match answer {
             Ok(Taken { ahead, early, .. }) => {
                 self.ahead = ahead;

@@ -24,7 +24,7 @@ pub type Told<T> = Result<T, String>;
 pub struct Event<'a> {
     pub step: Step,
     pub time: u32,
-    /// The line of the readings; none of the start.
+    /// The line of the readings; none of the start, and of a reading that is not entered.
     pub line: Option<usize>,
     /// The reading by its name, or `start`.
     pub what: String,
@@ -92,27 +92,39 @@ impl<'a> Story<'a> {
 
     /// Gives the run a reading and tells what it did.
     pub fn reading(&mut self, line: usize, reading: &Reading) -> Event<'a> {
-        let agreement = &self.source.assembled.agreement;
         let step = self.run.reading(&reading.record());
-        let after = Tree::of_table(&self.run.table(), agreement);
+        let after = Tree::of_table(&self.run.table(), &self.source.assembled.agreement);
         let before = std::mem::replace(&mut self.waiting, after);
-        let broken = match (&step.verdict, &self.decided) {
-            (Verdict::Breached(_), Some(shown)) => shown.broken.clone(),
-            (Verdict::Breached(breach), None) => self.behind(&before, i64::from(reading.time), breach),
-            (verdict, _) => self.ahead(verdict),
-        };
-        let event = Event {
-            step,
-            time: reading.time,
-            line: Some(line),
-            what: Words::of(self.source).reading(reading),
-            last_moved: self.run.last_moved(),
-            changes: self.changes(&step.verdict, &before, reading),
-            early: early(&step, &before, reading),
-            broken,
-        };
+        let event = self.event(step, Some(line), reading, &before);
         self.note(&event);
         event
+    }
+
+    /// Tells what a reading would do, and does not give it to the run.
+    pub fn preview(&self, reading: &Reading) -> Event<'a> {
+        let (step, run) = self.run.preview(&reading.record());
+        let waiting = Tree::of_table(&run.table(), &self.source.assembled.agreement);
+        let after = Story { source: self.source, run, waiting, decided: self.decided.clone() };
+        after.event(step, None, reading, &self.waiting)
+    }
+
+    /// The event of a reading, told by what waited before it and by this story, which is the one after it.
+    fn event(&self, step: Step, line: Option<usize>, reading: &Reading, before: &Told<Tree<'a>>) -> Event<'a> {
+        let broken = match (&step.verdict, &self.decided) {
+            (Verdict::Breached(_), Some(shown)) => shown.broken.clone(),
+            (Verdict::Breached(breach), None) => self.behind(before, i64::from(reading.time), breach),
+            (verdict, _) => self.ahead(verdict),
+        };
+        Event {
+            step,
+            time: reading.time,
+            line,
+            what: Words::of(self.source).reading(reading),
+            last_moved: self.run.last_moved(),
+            changes: self.changes(&step.verdict, before, reading),
+            early: early(&step, before, reading),
+            broken,
+        }
     }
 
     /// How it stands now.

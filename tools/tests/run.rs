@@ -206,7 +206,7 @@ fn a_start_that_is_refused() {
 
 #[test]
 fn wrong_arguments_give_3() {
-    let wrong: [&[&str]; 9] = [
+    let wrong: [&[&str]; 17] = [
         &["run"],
         &["run", POND],
         &["run", POND, "a", "b"],
@@ -216,6 +216,14 @@ fn wrong_arguments_give_3() {
         &["run", "--cost", "--records", "a"],
         &["run", "--jsn", POND, "a"],
         &["run", "--costs", POND, "a"],
+        &["run", POND, "a", "--preview"],
+        &["run", "--preview", "110 mark"],
+        &["run", "--preview", "110 mark", POND],
+        &["run", "--preview", "--json", POND, "a"],
+        &["run", "--preview", "110 mark", "--preview", "120 mark", POND, "a"],
+        &["run", "--preview", "110 mark", POND, "a", "b"],
+        &["run", "--preview", "110 mark", "--follow", POND],
+        &["run", "--preview", "110 mark", "--records", "a"],
     ];
     for arguments in wrong {
         assert!(

@@ -11,13 +11,15 @@ const TEXT: &str = "examples/pond/agreement.csl";
 const READINGS: &str = "examples/pond/season.readings";
 
 /// Every command that writes a result.
-const COMMANDS: [&[&str]; 12] = [
+const COMMANDS: [&[&str]; 14] = [
     &["check", TEXT],
     &["assemble", TEXT],
     &["readings", "--for", TEXT, READINGS],
     &["run", TEXT, READINGS],
     &["run", "--json", TEXT, READINGS],
     &["run", "--cost", TEXT, READINGS],
+    &["run", "--preview", "2026-09-30 mark", TEXT, READINGS],
+    &["run", "--json", "--preview", "2026-09-30 mark", TEXT, READINGS],
     &["run", "--follow", TEXT],
     &["run", "--records", "crates/brinewatch/stdin"],
     &["timeline", TEXT, READINGS],

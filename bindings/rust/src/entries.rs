@@ -1,10 +1,10 @@
-//! The three entries on lent memory.
+//! The four entries on lent memory.
 //!
 //! Why the calls are right, for each of them alike: a slice's pointer is not null and aligned, also where the slice is
 //! empty, and the slice is as long as its length says; what is lent as `&mut` overlaps nothing else and nobody else
-//! uses it meanwhile; the library keeps no pointer and has no state. Too small a stack stops the program, since the
-//! library touches each page that it takes. This is all that `include/givuntha.h` asks of a caller: every content is
-//! allowed, the contracts require nothing of it.
+//! uses it meanwhile; nobody writes what is lent as `&`; the library keeps no pointer and has no state. Too small a
+//! stack stops the program, since the library touches each page that it takes. This is all that `include/givuntha.h`
+//! asks of a caller: every content is allowed, the contracts require nothing of it.
 
 use crate::parties::Parties;
 use crate::raw;
@@ -16,8 +16,9 @@ pub const MOST_COST: u64 = 8_421_376;
 
 /// A breach: its time in minutes, and who is to blame, at least one party.
 ///
-/// The forecast of a table is what its run comes to without further readings, a breach or none: [`start`] and
-/// [`reading`] tell it of the table that they leave. Of a breached table it is the verdict, of a fulfilled one none.
+/// The forecast of a table is what its run comes to without further readings, a breach or none: [`start`], [`reading`]
+/// and [`preview`] tell it of the table that they write. Of a breached table it is the verdict, of a fulfilled one
+/// none.
 #[derive(Clone, Copy, Debug, PartialEq, Eq, Hash)]
 pub struct Breach {
     /// A forecast time may exceed 32 bits.
@@ -25,7 +26,7 @@ pub struct Breach {
     pub parties: Parties,
 }
 
-/// What is told of a reading that was accepted.
+/// What is told of a reading that was accepted, or would be.
 ///
 /// ```
 /// use givuntha::{record, Breach, Parties, Table, Taken};
@@ -44,7 +45,7 @@ pub struct Breach {
 /// ```
 #[derive(Clone, Copy, Debug, PartialEq, Eq, Hash)]
 pub struct Taken {
-    /// The forecast of the table that the reading leaves; of a breached one the verdict.
+    /// The forecast of the table that the reading leaves, or would; of a breached one the verdict.
     pub ahead: Option<Breach>,
     /// Whether it came too early: the run was running, no unit or state altered, and at least one waiting unit wants
     /// this type, finds `where` true, and has a window that opens later than the reading. The reading does not count
@@ -138,6 +139,59 @@ pub fn reading(agreement: &[u8], table: &mut [i64], reading: &[u8]) -> Result<Ta
             &mut cost,
         )
     };
+    taken(answer, time, parties, early, cost)
+}
+
+/// Tells what a reading of any bytes would do to the run in lent cells, which are only read: it writes the cells of the
+/// run after the reading into the second ones, and answers what [`reading`] would answer on a copy of the first. To go
+/// on with the second cells is to have entered the reading. A refusal leaves them; what they held does not matter.
+/// Either is refused with 6 where it is not as long as a table.
+///
+/// ```
+/// use givuntha::{preview, reading, record, start, Refusal, Refused, State};
+///
+/// // From minute 100 on; party 0 owes the reading after 100 minutes within 60, that is from 200 to 260.
+/// let agreement = [
+///     47, 0, 1, 0, 100, 0, 0, 0, 1, 1, 0, 5, 0, 2, 0, 0, 31, 0, 17, 0, 0, 1, 5, 0, 33, 0, 1, 8, 0, 32, 0, 100, 0, 0,
+///     0, 8, 0, 32, 0, 60, 0, 0, 0, 4, 0, 16, 0,
+/// ];
+/// let mut cells = vec![0; givuntha::CELLS];
+/// start(&agreement, &mut cells)?;
+/// let mut second = vec![-1; givuntha::CELLS];
+/// assert!(preview(&agreement, &cells, &record::reading(140, 1, &[]), &mut second)?.early);
+/// let given = record::reading(200, 1, &[]);
+/// let foreseen = preview(&agreement, &cells, &given, &mut second)?;
+/// assert_eq!((State::of(&second), State::of(&cells)), (Some(State::Fulfilled), Some(State::Running)));
+/// assert_eq!(reading(&agreement, &mut cells, &given)?, foreseen);
+/// assert_eq!(cells, second);
+/// let short = preview(&agreement, &cells, &given, &mut second[1..]);
+/// assert_eq!(short, Err(Refused::Other(Refusal::TableLength)));
+/// # Ok::<(), givuntha::Refusal>(())
+/// ```
+pub fn preview(agreement: &[u8], table: &[i64], reading: &[u8], second: &mut [i64]) -> Result<Taken, Refused> {
+    let (mut time, mut parties, mut early, mut cost) = (0, 0, 0, 0);
+    // SAFETY: all eight are borrowed for the call, `second` and the four results apart from all else; see above.
+    let answer = unsafe {
+        raw::givuntha_preview(
+            agreement.as_ptr(),
+            agreement.len(),
+            table.as_ptr(),
+            table.len(),
+            reading.as_ptr(),
+            reading.len(),
+            second.as_mut_ptr(),
+            second.len(),
+            &mut time,
+            &mut parties,
+            &mut early,
+            &mut cost,
+        )
+    };
+    taken(answer, time, parties, early, cost)
+}
+
+/// What the answer to a reading or to a preview says with its four results.
+fn taken(answer: u32, time: u64, parties: u64, early: u64, cost: u64) -> Result<Taken, Refused> {
     Refused::answer(answer, cost)?;
     Ok(Taken { ahead: ahead(time, parties), early: is_set(early), cost })
 }

@@ -1,10 +1,10 @@
 //! The Givuntha monitor of timed agreements, for Rust.
 //!
-//! The three entries are the proved C functions of `include/givuntha.h`; this crate only lends them memory and gives
-//! their numbers names. An agreement is bytes, and so is a reading; the state of a run is a table of
-//! [`CELLS`] cells. [`Table`] owns one; the functions [`start`] and [`reading`] work on any cells that are lent. Both
-//! answer the forecast too: the [`Breach`] that the run comes to without further readings, or none. Times are in
-//! minutes.
+//! The four entries are the proved C functions of `include/givuntha.h`; this crate only lends them memory and gives
+//! their numbers names. An agreement is bytes, and so is a reading; the state of a run is a table of [`CELLS`] cells.
+//! [`Table`] owns one; the functions [`start`], [`reading`] and [`preview`] work on any cells that are lent. All three
+//! answer the forecast too: the [`Breach`] that the run comes to without further readings, or none. A preview tells
+//! what a reading would do before it is entered. Times are in minutes.
 //!
 //! Party 0 owes a salinity of at least 250 within 60 minutes of minute 100:
 //!
@@ -27,17 +27,20 @@
 //! assert_eq!(table.times(), Some(Times { last_reading: 110, last_moved: 100 }));
 //! let past = table.reading(&agreement, &record::reading(105, 1, &[250]));
 //! assert_eq!(past, Err(Refused::Other(Refusal::ReadingTime)));
+//! let (foreseen, after) = table.preview(&agreement, &record::reading(160, 1, &[250]))?;
+//! assert_eq!((after.state(), table.state()), (Some(State::Fulfilled), Some(State::Running)));
 //! let taken = table.reading(&agreement, &record::reading(160, 1, &[250]))?;
 //! assert_eq!(taken.ahead, None);
-//! assert_eq!(table.state(), Some(State::Fulfilled));
+//! assert_eq!((taken, &table), (foreseen, &after));
 //! assert_eq!(table.times(), Some(Times { last_reading: 160, last_moved: 160 }));
 //! # Ok::<(), Refusal>(())
 //! ```
 //!
 //! An accepted reading is answered with [`Taken`], which has the forecast and says whether the reading came too early
-//! and what it cost, a refused one with [`Refused`], which has a cost where the reading was followed: on 11.
+//! and what it cost, a refused one with [`Refused`], which has a cost where the reading was followed: on 11. A preview
+//! answers as the reading would.
 //!
-//! [`STACK`] bytes of stack are enough for every call; the deepest that we built runs in 307,968. The stacks of the
+//! [`STACK`] bytes of stack are enough for every call; the deepest that we built runs in 357,248. The stacks of the
 //! main thread and of threads that the standard library makes are larger. Where the stack is too small the program is
 //! stopped, as at any overflow.
 
@@ -51,7 +54,7 @@ mod stack;
 mod state;
 mod table;
 
-pub use entries::{check, reading, start, version, Breach, Taken, MOST_COST};
+pub use entries::{check, preview, reading, start, version, Breach, Taken, MOST_COST};
 pub use parties::Parties;
 pub use refusal::Refusal;
 pub use refused::Refused;

@@ -3,10 +3,10 @@
 use std::error::Error;
 use std::fmt;
 
-/// Why an entry refuses: the lowest number that applies. A refusal leaves the table as it was.
+/// Why an entry refuses: the lowest number that applies. A refusal leaves every table as it was.
 ///
 /// [`check`](crate::check) refuses with 1 to 5, [`start`](crate::start) with 1 to 6 and 11,
-/// [`reading`](crate::reading) with all, as a [`Refused`](crate::Refused).
+/// [`reading`](crate::reading) and [`preview`](crate::preview) with all, as a [`Refused`](crate::Refused).
 ///
 /// ```
 /// let refusal = givuntha::check(&[]).unwrap_err();

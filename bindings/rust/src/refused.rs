@@ -1,10 +1,10 @@
-//! Why a reading is refused, and at what cost.
+//! Why a reading is refused, or would be, and at what cost.
 
 use crate::refusal::Refusal;
 use std::error::Error;
 use std::fmt;
 
-/// Why a reading is refused. It leaves the table as it was.
+/// Why a reading is refused, or would be in a preview. It leaves every table as it was.
 ///
 /// Only one that is refused with 11 has a cost: it was followed, and what it left was too much. Every other refusal
 /// comes before the reading is followed. `?` turns it into a [`Refusal`], which the other entries answer.
@@ -22,7 +22,7 @@ use std::fmt;
 /// ```
 #[derive(Clone, Copy, Debug, PartialEq, Eq, Hash)]
 pub enum Refused {
-    /// [`Refusal::Units`]: what the reading leaves needs over 128 units. This is what it cost.
+    /// [`Refusal::Units`]: what the reading leaves needs over 128 units. This is what it cost, or would.
     Units { cost: u64 },
     /// Any other refusal, at no cost.
     Other(Refusal),
@@ -50,7 +50,7 @@ impl Refused {
         }
     }
 
-    /// What a reading's answer says.
+    /// What the answer to a reading or to a preview says.
     pub(crate) fn answer(number: u32, cost: u64) -> Result<(), Refused> {
         Refusal::answer(number).map_err(|refusal| match refusal {
             Refusal::Units => Refused::Units { cost },

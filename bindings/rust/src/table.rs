@@ -39,6 +39,33 @@ impl Table {
         entries::reading(agreement, self.cells_mut(), reading)
     }
 
+    /// Tells what a reading would do, and the table that the run would have after it; this one stays as it is. To go on
+    /// with the other is to have entered the reading. See [`preview`](crate::preview).
+    ///
+    /// ```
+    /// use givuntha::{record, State, Table};
+    ///
+    /// // From minute 100 on; party 0 owes the reading after 100 minutes within 60, that is from 200 to 260.
+    /// let agreement = [
+    ///     47, 0, 1, 0, 100, 0, 0, 0, 1, 1, 0, 5, 0, 2, 0, 0, 31, 0, 17, 0, 0, 1, 5, 0, 33, 0, 1, 8, 0, 32, 0, 100, 0,
+    ///     0, 0, 8, 0, 32, 0, 60, 0, 0, 0, 4, 0, 16, 0,
+    /// ];
+    /// let (mut table, _) = Table::start(&agreement)?;
+    /// let (_, late) = table.preview(&agreement, &record::mark(261))?;
+    /// assert!(matches!(late.state(), Some(State::Breached(breach)) if breach.time == 260));
+    /// let given = record::reading(200, 1, &[]);
+    /// let (foreseen, after) = table.preview(&agreement, &given)?;
+    /// assert_eq!((after.state(), table.state()), (Some(State::Fulfilled), Some(State::Running)));
+    /// assert_eq!(table.reading(&agreement, &given)?, foreseen);
+    /// assert_eq!(table, after);
+    /// # Ok::<(), givuntha::Refusal>(())
+    /// ```
+    pub fn preview(&self, agreement: &[u8], reading: &[u8]) -> Result<(Taken, Table), Refused> {
+        let mut after = Table::default();
+        let taken = entries::preview(agreement, self.cells(), reading, after.cells_mut())?;
+        Ok((taken, after))
+    }
+
     /// What the head says; see [`State::of`].
     pub fn state(&self) -> Option<State> {
         State::of(self.cells())

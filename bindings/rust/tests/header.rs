@@ -90,11 +90,24 @@ fn the_functions_are_those_of_the_header() {
     let raw = functions(include_str!("../src/raw.rs"), "pub fn ", ") -> u32;", |one| one.split(':').next());
     assert_eq!(declared, raw);
     let names: Vec<&str> = declared.iter().filter_map(|one| one.split('(').next()).collect();
-    assert_eq!(names, ["givuntha_version", "givuntha_check", "givuntha_start", "givuntha_reading"]);
+    let entries = ["version", "check", "start", "reading", "preview"].map(|name| format!("givuntha_{name}"));
+    assert_eq!(names, entries);
     assert!(declared.contains(&"givuntha_start(agreement, agreement_bytes, table, table_cells, time, parties)".into()));
     let parameters =
         "agreement, agreement_bytes, table, table_cells, reading, reading_bytes, time, parties, early, cost";
     assert!(declared.contains(&format!("givuntha_reading({parameters})")), "{declared:?}");
+    let with_second = parameters.replace(" time,", " second, second_cells, time,");
+    assert!(declared.contains(&format!("givuntha_preview({with_second})")), "{declared:?}");
+}
+
+/// What is only read is so in both: no cell of a preview's first table can be written by it.
+#[test]
+fn what_is_only_read_is_that_of_the_header() {
+    let header = header();
+    let read: Vec<&str> = header.split("const int64_t *").skip(1).filter_map(|rest| rest.split(',').next()).collect();
+    assert_eq!(read, ["table"]);
+    let preview = include_str!("../src/raw.rs").split_once("givuntha_preview(").expect("a preview").1;
+    assert!(preview.contains("table: *const i64,") && preview.contains("second: *mut i64,"));
 }
 
 /// Every answer of the header has words, and no two the same.

@@ -1,5 +1,5 @@
-//! What `givuntha_start` and `givuntha_reading` write beside the table, called as C calls them: the forecast's time and
-//! parties, and of a reading the mark `early` and the cost.
+//! What `givuntha_start`, `givuntha_reading` and `givuntha_preview` write beside the table, called as C calls them: the
+//! forecast's time and parties, and of a reading and its preview the mark `early` and the cost.
 
 #[path = "common/pond.rs"]
 mod pond;
@@ -29,6 +29,21 @@ extern "C" {
         table_cells: usize,
         reading: *const u8,
         reading_bytes: usize,
+        time: *mut u64,
+        parties: *mut u64,
+        early: *mut u64,
+        cost: *mut u64,
+    ) -> u32;
+
+    fn givuntha_preview(
+        agreement: *const u8,
+        agreement_bytes: usize,
+        table: *const i64,
+        table_cells: usize,
+        reading: *const u8,
+        reading_bytes: usize,
+        second: *mut i64,
+        second_cells: usize,
         time: *mut u64,
         parties: *mut u64,
         early: *mut u64,
@@ -70,6 +85,29 @@ fn raw_reading(agreement: &[u8], cells: &[i64], reading: &[u8], held: [u64; 4]) 
     (number, [time, parties, early, cost])
 }
 
+/// The same of a preview of the reading, with a second table of so many cells.
+fn raw_preview(agreement: &[u8], cells: &[i64], reading: &[u8], second: usize, held: [u64; 4]) -> (u32, [u64; 4]) {
+    let (mut second, [mut time, mut parties, mut early, mut cost]) = (vec![7; second], held);
+    // SAFETY: as in `raw_start`.
+    let number = unsafe {
+        givuntha_preview(
+            agreement.as_ptr(),
+            agreement.len(),
+            cells.as_ptr(),
+            cells.len(),
+            reading.as_ptr(),
+            reading.len(),
+            second.as_mut_ptr(),
+            second.len(),
+            &mut time,
+            &mut parties,
+            &mut early,
+            &mut cost,
+        )
+    };
+    (number, [time, parties, early, cost])
+}
+
 /// Whatever they held before; each result of a start is all 64 bits.
 fn assert_start_writes(agreement: &[u8], cells: &[i64], expected: (u32, [u64; 2])) {
     for held in HELD {
@@ -77,10 +115,12 @@ fn assert_start_writes(agreement: &[u8], cells: &[i64], expected: (u32, [u64; 2]
     }
 }
 
-/// Whatever they held before; each result of a reading is all 64 bits.
+/// Whatever they held before; each result of a reading is all 64 bits, and its preview writes the same.
 fn assert_reading_writes(agreement: &[u8], cells: &[i64], reading: &[u8], expected: (u32, [u64; 4])) {
     for held in HELD {
-        assert_eq!(raw_reading(agreement, cells, reading, [held, !held, !held, held]), expected, "{held}");
+        let held = [held, !held, !held, held];
+        assert_eq!(raw_reading(agreement, cells, reading, held), expected, "{held:?}");
+        assert_eq!(raw_preview(agreement, cells, reading, CELLS, held), expected, "a preview, {held:?}");
     }
 }
 
@@ -211,4 +251,16 @@ fn refusal_11_tells_the_cost_alone() {
     let grows = Wait { then: too_many(), ..simple(60) }.obligation(0);
     let Run { agreement, table } = Run::of(pond(&[], &and(&later().obligation(0), &grows)));
     assert_reading_writes(&agreement, table.cells(), &salinity(110), (11, [0, 0, 0, 258]));
+}
+
+/// The reading would be early, or refused with 11 at its cost; with a second table of another length nothing is told.
+#[test]
+fn a_preview_into_another_length_sets_all_to_0() {
+    let grows = Wait { then: too_many(), ..simple(60) }.obligation(0);
+    for run in [owed_later(), Run::of(pond(&[], &grows))] {
+        for (length, held) in [0, CELLS - 1, CELLS + 1].into_iter().flat_map(|length| HELD.map(|held| (length, held))) {
+            let told = raw_preview(&run.agreement, run.table.cells(), &salinity(110), length, [held; 4]);
+            assert_eq!(told, (6, [0; 4]), "{length}, {held}");
+        }
+    }
 }

@@ -59,16 +59,18 @@ fn waiting(count: usize) -> Vec<u8> {
     }
 }
 
-/// All entries on the worst agreement. The second reading walks 127 units, follows the chain as the choice's else, and
-/// activates the rest of it as the `then` at its end: it runs in a stack of 307,968 bytes.
+/// All entries on the worst agreement, each reading with its preview before it. The second reading walks 127 units,
+/// follows the chain as the choice's else, and activates the rest of it as the `then` at its end: its preview runs in a
+/// stack of 357,248 bytes.
 fn run_worst() {
     let agreement = worst();
     check(&agreement).unwrap();
     let (mut table, _) = Table::start(&agreement).unwrap();
-    table.reading(&agreement, &record::reading(101, 2, &[])).unwrap();
-    assert_eq!(table.cells()[4], 127);
-    table.reading(&agreement, &record::reading(102, 1, &[])).unwrap();
-    assert_eq!(table.cells()[4], 127);
+    for given in [record::reading(101, 2, &[]), record::reading(102, 1, &[])] {
+        table.preview(&agreement, &given).unwrap();
+        table.reading(&agreement, &given).unwrap();
+        assert_eq!(table.cells()[4], 127);
+    }
 }
 
 fn in_a_stack_of(bytes: usize) {
@@ -91,7 +93,7 @@ fn overflow() {
 #[cfg(target_os = "linux")]
 #[test]
 fn too_small_a_stack_stops_the_program() {
-    for bytes in [16_384, 32_768, 49_152, 65_536, 131_072, 262_144, 294_912] {
+    for bytes in [16_384, 32_768, 49_152, 65_536, 131_072, 262_144, 344_064] {
         let output = Command::new(std::env::current_exe().unwrap())
             .args(["--exact", "overflow", "--ignored", "--nocapture"])
             .env("STACK", bytes.to_string())

@@ -1,4 +1,4 @@
-//! Many threads at once: each its own table, all the same agreement.
+//! Many threads at once: each its own table, all the same agreement; and previews of one table.
 
 #[path = "common/sample.rs"]
 mod sample;
@@ -32,4 +32,21 @@ fn threads_do_not_disturb_each_other() {
             scope.spawn(move || (0..ROUNDS).for_each(|_| assert_eq!(&run(agreement, wait), expected)));
         }
     });
+}
+
+/// All only read the one table, each for a reading of its own.
+#[test]
+fn threads_preview_one_table() {
+    let agreement = sample();
+    let (table, _) = Table::start(&agreement).unwrap();
+    let readings = || (0..THREADS).map(|n| record::reading(100 + 3 * n, 1, &[240 + n as i32]));
+    let alone: Vec<_> = readings().map(|given| table.preview(&agreement, &given).unwrap()).collect();
+    thread::scope(|scope| {
+        for (given, expected) in readings().zip(&alone) {
+            let (agreement, table) = (&agreement, &table);
+            let preview = move || table.preview(agreement, &given).unwrap();
+            scope.spawn(move || (0..ROUNDS).for_each(|_| assert_eq!(&preview(), expected)));
+        }
+    });
+    assert_eq!(table, Table::start(&agreement).unwrap().0);
 }

@@ -1,11 +1,13 @@
 //! Gives generated calls to the proved library and to the reference monitor, and compares answers, with all that a
-//! start and a reading tell, and all cells: `agree [CALLS [SEED [SECONDS]]]`. Prints what the calls reached; fails if
-//! the two ever differ, if something was never reached, or if fewer calls than asked for were made in the time given.
-//! The smallest differing call is printed whole.
+//! start, a reading and a preview tell, and all cells, of a preview those of the second table; its first cannot be
+//! written: `agree [CALLS [SEED [SECONDS]]]`. Prints what the calls reached; fails if the two ever differ, if something
+//! was never reached, or if fewer calls than asked for were made in the time given. The smallest differing call is
+//! printed whole.
 
 use comparison::proved;
 use reference::coverage::Coverage;
 use reference::generate::{calls, Answer, Call, Entry};
+use reference::Forecast;
 use std::process::ExitCode;
 use std::time::{Duration, Instant};
 
@@ -54,9 +56,14 @@ fn main() -> ExitCode {
 fn size(call: &Call) -> (usize, usize) {
     let cells = match &call.entry {
         Entry::Check => 0,
-        Entry::Start { table } | Entry::Reading { table, .. } => table.iter().filter(|cell| **cell != 0).count(),
+        Entry::Start { table } | Entry::Reading { table, .. } => set_cells(table),
+        Entry::Preview { table, second, .. } => set_cells(table) + set_cells(second),
     };
     (call.agreement.len(), cells)
+}
+
+fn set_cells(table: &[i64]) -> usize {
+    table.iter().filter(|cell| **cell != 0).count()
 }
 
 fn keep_smaller(smallest: &mut Option<Difference>, found: Difference) {
@@ -84,6 +91,9 @@ fn show(difference: &Difference) {
         Entry::Reading { table, reading } => {
             println!("entry: reading {}\ntable: {}", hex(reading), cells(table));
         }
+        Entry::Preview { table, reading, second } => {
+            println!("entry: preview {}\ntable: {}\nsecond: {}", hex(reading), cells(table), cells(second));
+        }
     }
     println!("reference: {}", words(&difference.expected));
     println!("proved library: {}", words(&difference.given));
@@ -96,10 +106,16 @@ fn words(answer: &Answer) -> String {
             format!("{number}, forecast {forecast:?}, table afterwards: {}", cells(table))
         }
         Answer::Reading { number, early, cost, forecast, table } => {
-            let told = format!("{number}, forecast {forecast:?}, early {early}, cost {cost}");
-            format!("{told}, table afterwards: {}", cells(table))
+            format!("{}, table afterwards: {}", told(*number, forecast, *early, *cost), cells(table))
+        }
+        Answer::Preview { number, early, cost, forecast, second } => {
+            format!("{}, second afterwards: {}", told(*number, forecast, *early, *cost), cells(second))
         }
     }
+}
+
+fn told(number: u32, forecast: &Forecast, early: u32, cost: u64) -> String {
+    format!("{number}, forecast {forecast:?}, early {early}, cost {cost}")
 }
 
 fn hex(bytes: &[u8]) -> String {

@@ -1,5 +1,6 @@
 //! Times the proved library and the reference monitor, side by side in one run: `speed [MILLISECONDS]` for each
-//! measurement. A figure is the median of many calls, in nanoseconds; the two monitors take turns call by call.
+//! measurement. A figure is the median of many calls, in nanoseconds; the two monitors take turns call by call. A
+//! preview is that of the same reading, into a copy of the table.
 
 use comparison::cases::{self, Case};
 use comparison::proved;
@@ -33,10 +34,10 @@ fn growth() -> Vec<(&'static str, Vec<Case>)> {
     ]
 }
 
-/// The entries by name, each with the two monitors' ways to take a case.
+/// The entries by name, each with the two monitors' ways to take a case; of a preview the cells are the second table's.
 type Taker = fn(&Case, &mut [i64]) -> u32;
 
-const ENTRIES: [(&str, Taker, Taker); 3] = [
+const ENTRIES: [(&str, Taker, Taker); 4] = [
     ("check", |case, _| proved::check(&case.agreement).number, |case, _| entries::check(&case.agreement).number),
     (
         "start",
@@ -47,6 +48,11 @@ const ENTRIES: [(&str, Taker, Taker); 3] = [
         "reading",
         |case, table| proved::reading(&case.agreement, table, &case.reading).number,
         |case, table| entries::reading(&case.agreement, table, &case.reading).number,
+    ),
+    (
+        "preview",
+        |case, second| proved::preview(&case.agreement, &case.table, &case.reading, second).number,
+        |case, second| entries::preview(&case.agreement, &case.table, &case.reading, second).number,
     ),
 ];
 

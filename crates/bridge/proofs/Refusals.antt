@@ -89,11 +89,11 @@ from_check {C = C} s k₁ k₂ = go (checked s) refl (numbered s)
 -- ---- an entry asks what check says, then the table's length; A is what it answers, `on` for a table of an accepted
 -- agreement
 module _ {A : Type 0} (us : List ℤ) (refuse : ℕ → A) (on : Agreement → List ℕ → A) where
-  asked : CheckResult → A
+  unfoldable pub asked : CheckResult → A
   asked c = elim c [ refused n ↦ refuse n | accepted a ps ↦ elim (is_table us) [ false ↦ refuse 6 | true ↦ on a ps ] ]
 
   module _ (s : List ℕ) (a : Agreement) (mains : List ℕ) (ck : checked s ≡ accepted a mains) where
-    asked_six : (length us ≡ 3080 → ⊥) → asked (checked s) ≡ refuse 6
+    pub asked_six : (length us ≡ 3080 → ⊥) → asked (checked s) ≡ refuse 6
     unfolding asked is_table
     asked_six no_table = ap asked ck ∙ go (eqb (length us) 3080) (λ t. no_table (eqb→eq (length us) 3080 t))
       where
@@ -101,7 +101,7 @@ module _ {A : Type 0} (us : List ℤ) (refuse : ℕ → A) (on : Agreement → L
         go true k = absurd (k tt)
         go false k = refl
 
-    asked_on : length us ≡ 3080 → asked (checked s) ≡ on a mains
+    pub asked_on : length us ≡ 3080 → asked (checked s) ≡ on a mains
     unfolding asked
     asked_on l = ap asked ck ∙ ap (λ b. elim b [ false ↦ refuse 6 | true ↦ on a mains ]) (is_table_is s a mains ck us l)
 

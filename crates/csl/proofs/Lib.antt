@@ -3,3 +3,4 @@ pub mod Further
 pub mod TooEarly
 pub mod Costs
 pub mod Joined
+pub mod Previews

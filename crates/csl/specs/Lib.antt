@@ -19,6 +19,7 @@ pub mod Run
 pub mod Early
 pub mod Cost
 pub mod Entries
+pub mod Preview
 pub mod Demand3
 pub mod Marks
 pub mod Build
@@ -27,3 +28,4 @@ pub mod Further
 pub mod TooEarly
 pub mod Costs
 pub mod Joined
+pub mod Previews

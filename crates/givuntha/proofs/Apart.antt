@@ -1,4 +1,5 @@
--- A caller in C can tell every two answers of a start apart, and every two of a reading, whatever is lent.
+-- A caller in C can tell every two answers of a start apart, every two of a reading and every two of a preview,
+-- whatever is lent.
 use mathlib.Core.Path.{◌≡◌, refl, sym, ap, ap₂, ◌∙◌, subst}
 use mathlib.Core.List.{List}
 use Prim.Native.Nat.{ℕ}
@@ -7,7 +8,8 @@ use lib.IntN.{ℤ}
 use Rattle.csl.specs.Entries.{Forecast, no_breach, breach_at, untold, no_forecast, StartAnswer, ReadingAnswer}
 use Rattle.csl.specs.Entries.{start_of, reading_of}
 use Rattle.csl.specs.Demand3.{Bytes}
-use Rattle.monitor.proofs.Apart.{Plain, start_plain, reading_plain}
+use Rattle.csl.specs.Preview.{preview_of}
+use Rattle.monitor.proofs.Apart.{Plain, preview_plain, reading_plain, start_plain}
 use Rattle.givuntha.specs.Numbers.{forecast_numbers, start_numbers, reading_numbers}
 
 -- a breach has a party, and the number tells a refusal from no breach
@@ -62,3 +64,10 @@ pub readings_apart : (s s' : List ℕ) (us us' : List ℤ) (b b' : List ℕ) →
     → reading_of s us b ≡ reading_of s' us' b'
 readings_apart s s' us us' b b' h h' =
     reading_same (reading_of s us b) (reading_of s' us' b') (reading_plain s us b h) (reading_plain s' us' b' h')
+
+pub previews_apart : (s s' : List ℕ) (us us' vs vs' : List ℤ) (b b' : List ℕ) → Bytes b → Bytes b'
+    → reading_numbers (preview_of s us vs b) ≡ reading_numbers (preview_of s' us' vs' b')
+    → preview_of s us vs b ≡ preview_of s' us' vs' b'
+previews_apart s s' us us' vs vs' b b' h h' =
+    reading_same (preview_of s us vs b) (preview_of s' us' vs' b') (preview_plain s us vs b h)
+    (preview_plain s' us' vs' b' h')

@@ -19,6 +19,7 @@ use Rattle.csl.specs.Table.{Run, table_of}
 use Rattle.csl.specs.Entries as entries
 use Rattle.csl.specs.Entries.{Answer, Forecast, ReadingAnswer, StartAnswer, answered, forecast_of, forecast_run}
 use Rattle.csl.specs.Entries.{reading_of, refusal, start_of, told_of, written}
+use Rattle.csl.specs.Preview.{no_outcome, onto, preview_of}
 use Rattle.csl.specs.Early.{mark_of}
 use Rattle.csl.specs.Demand3.{Bytes}
 use Rattle.csl.specs.Marks.{ForecastFits}
@@ -34,6 +35,7 @@ use Rattle.monitor.specs.declared.Refusal.TheVariants.{TableContent, ReadingForm
 use Rattle.monitor.specs.declared.Refusal.TheVariants.{Units}
 use Rattle.monitor.specs.Answers.{Checked, Started, TakenOrRefused, ahead_told, number_of, check_answer, start_answer}
 use Rattle.monitor.specs.Answers.{taken_answer}
+use Rattle.monitor.proofs.Previews.{by_second}
 use Rattle.monitor.proofs.Opens.{by_run, by_table}
 
 -- in the order of their numbers
@@ -167,3 +169,9 @@ reading_plain s us bytes h = by_run s us
     let i = run_of_good a mains us q (is_fair s a mains ck) e in
     rw (reading_is s a mains ck us q bytes l e) (step_plain s a mains ck (step a q bytes) us
     (inl (step_inv s a mains ck q bytes h i))))
+
+pub preview_plain : (s : List ℕ) (us vs : List ℤ) (bytes : List ℕ) → Bytes bytes
+    → Plain (preview_of s us vs bytes).number (preview_of s us vs bytes).forecast
+unfolding no_outcome onto
+preview_plain s us vs bytes h = by_second s us vs bytes (λ n more e. rw e more)
+    (λ l e. rw e (reading_plain s us bytes h))

@@ -1,6 +1,6 @@
 -- Laws for start: it is a step that activates the main clause at the start time, and what such a step writes is what
 -- csl's start leaves.
-use mathlib.Core.Path.{◌≡◌, sym, subst, ◌∙◌}
+use mathlib.Core.Path.{◌≡◌, sym, ap, subst, ◌∙◌}
 use mathlib.Core.List.{List}
 use Prim.Native.Nat.{ℕ, ◌≤◌, ◌<◌}
 use native.Mathlib.Omega.{arith}
@@ -57,8 +57,8 @@ module _ {s : List ℕ} (ok : Accepted s) {us : List ℤ} (sights : List Sight) 
         → ahead_told ahead ≡ forecast_of s left → start_answer (Ok ahead) left ≡ start_of s us
     begun_told a ahead f = start_ok s us left ahead (begun l a e) f
 
-    pub begun_refused : {many : TooMany} → Advances s sights us 0 t Activate left (Err many)
+    pub begun_refused : {many : TooMany} → Advances s sights us 0 t Activate us (Err many) → left ≡ us
         → start_answer (Err Units) left ≡ start_of s us
-    begun_refused a = start_err s us left Units (begun l a e)
+    begun_refused a kept = ap (start_answer (Err Units)) kept ∙ start_err s us us Units (begun l a e)
 
 pub ruleset beginning = (begin_due, begun_shows, begun_told, begun_refused)

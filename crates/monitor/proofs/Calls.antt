@@ -142,6 +142,12 @@ module _ (s : List ℕ) (a : Agreement) (mains : List ℕ) (ck : checked s ≡ a
     inv_at before later e = after_inv s a mains ck q (readings_in before)
         (bytes_split before later (subst (λ cs. AllBytes (readings_in cs)) e h)).0 i
 
+    pub table_at : (before later : List Call) → calls ≡ before ++ later
+        → last_table us before ≡ table_of (run_after a q (readings_in before))
+    table_at before later e =
+        let bs = bytes_split before later (subst (λ cs. AllBytes (readings_in cs)) e h) in
+        (runs q us before is i bs.0 (calls_split s us before later (subst (Calls s us) e cs)).0).table
+
     pub found : (before : List Call) (one : Call) (later : List Call) → calls ≡ before ++ (one ∷ later)
         → Found before one later
     unfolding Calls AllBytes readings_in
@@ -150,7 +156,7 @@ module _ (s : List ℕ) (a : Agreement) (mains : List ℕ) (ck : checked s ≡ a
         let two = calls_split s us before (one ∷ later) (subst (Calls s us) e cs) in
         let bs = bytes_split before (one ∷ later) (subst (λ cs. AllBytes (readings_in cs)) e h) in
         let i' = inv_at before (one ∷ later) e in
-        let t = (runs q us before is i bs.0 two.0).table in
+        let t = table_at before (one ∷ later) e in
         let x = called run (last_table us before) one t i' two.1.0 in
         record {
           inv = i';

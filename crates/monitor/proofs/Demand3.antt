@@ -22,9 +22,10 @@ use Rattle.soundness.proofs.Runs.{CaseOf, case_of, not_stuck, start_is, table_ty
 use Rattle.soundness.proofs.Demand3.{after_inv, moved_cell_lem, start_inv, start_moved, start_unbreached, step_eleven}
 use Rattle.soundness.proofs.Demand3.{step_final, step_moves, step_refused, step_shows, step_stays, step_taken}
 use Rattle.monitor.specs.Answers.{Started, start_answer}
-use Rattle.monitor.specs.Calls.{Call, Calls, readings_in}
+use Rattle.monitor.specs.Calls.{Call, Calls, last_table, readings_in}
 use Rattle.monitor.specs.Demand3.{Begins, Demand3, IsStarted, Upheld, run_by}
-use Rattle.monitor.proofs.Calls.{Found, Sound, found, inv_at, runs}
+use Rattle.monitor.proofs.Calls.{Found, Sound, found, inv_at, runs, table_at}
+use Rattle.monitor.proofs.Copies.{foresees}
 use Rattle.monitor.proofs.Early.{early_is, unaltered_in}
 use Rattle.monitor.proofs.Joined.{begun_table}
 use Rattle.monitor.proofs.Opens.{by_table}
@@ -81,7 +82,7 @@ module _ (s : List ℕ) (lent : List ℤ) (a : Agreement) (mains : List ℕ) (st
         let f = found s a mains ck run us us_is run_inv calls hr cs before one later e in
         (f, case_of a (run_by a before) one.bytes (not_stuck a mains _ _ f.inv.good))
 
-    upheld : Upheld a mains r us calls
+    upheld : Upheld s a mains r us calls
     unfolding run_by run
     upheld =
         let whole = runs s a mains ck run us calls us_is run_inv hr cs in
@@ -128,6 +129,10 @@ module _ (s : List ℕ) (lent : List ℤ) (a : Agreement) (mains : List ℕ) (st
               omega (arith, f.cost, bound (run_by a before) one.bytes);
           at_most = λ before one later e. let f = (at_call before one later e).0 in
               omega (arith, f.cost, f.inv.small, bound (run_by a before) one.bytes);
+          foreseen = λ before later e p h meets l.
+              let i = inv_at s a mains ck run us us_is run_inv calls hr cs before later e in
+              foresees s a mains ck (run_by a before) (last_table us before) p
+              (table_at s a mains ck run us us_is run_inv calls hr cs before later e) i h meets l;
           breached = λ before one later e. step_shows s a mains ck (run_by a before) one.bytes
               (at_call before one later e).0.inv;
           unbreached = start_unbreached s a mains ck;

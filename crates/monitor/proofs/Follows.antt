@@ -26,7 +26,7 @@ use Rattle.csl.specs.Table as csl
 use Rattle.csl.specs.Table.{table_of, table_length, padded, head_cells, nat_cells, cells_of}
 use Rattle.csl.specs.Early.{mark_of}
 use Rattle.csl.specs.Cost.{total}
-use Rattle.csl.specs.Entries.{ReadAnswer, answered, read_of, reading_of}
+use Rattle.csl.specs.Entries.{ReadAnswer, answered, read_of}
 use Rattle.csl.specs.Demand3.{fitting}
 use Rattle.soundness.proofs.Checked.{passed}
 use Rattle.soundness.proofs.CostBound.{cost_of_units}
@@ -76,9 +76,8 @@ use Rattle.monitor.proofs.Begins.{short}
 use Rattle.monitor.proofs.Opens.{opened_as}
 use Rattle.reduction.proofs.Advances.{behind_head}
 use Rattle.reduction.proofs.Tabled.{founds, flat_sighted, has_tree}
-use Rattle.monitor.specs.Steps.{Opened, why_misfit, Fitted, SomeReading, ReadAs, some_later, Judged, read_answer}
-use Rattle.monitor.specs.Steps.{Shown}
-use Rattle.monitor.specs.Answers.{taken_answer}
+use Rattle.monitor.specs.Steps.{Opened, why_misfit, Fitted, SomeReading, ReadAs, ReadsOn, some_later, Judged}
+use Rattle.monitor.specs.Steps.{Shown, read_answer}
 use Rattle.monitor.proofs.Joined.{reading_err, reading_ok as told_ok}
 
 fits_as : {s bytes : List ℕ} {r : Reading} (f : FittingRead s bytes r) → fitting (agreement_of s) bytes ≡ some f.reading
@@ -162,8 +161,10 @@ module _ {s : List ℕ} {us : List ℤ} {sights : List Sight} {state : State} (o
   in_order f shown = omega (arith, f.in_order shown.now shown.cell, f.fits.time)
 
 -- ---- a running run
-module _ {s : List ℕ} {us : List ℤ} {sights : List Sight} {n : ℕ} (o : Opened s us sights (Running n))
-    (l : length us ≡ table_length) where
+module _ {s : List ℕ} {us : List ℤ} {sights : List Sight} {n : ℕ} (o : Opened s us sights (Running n)) where
+  abbrev l : length us ≡ table_length
+  l = o.cells
+
   pub runs : RunningAs (run_in s us) us sights n
   unfolding Shows
   runs = o.shows
@@ -256,12 +257,13 @@ module _ {s : List ℕ} {us : List ℤ} {sights : List Sight} {n : ℕ} (o : Ope
           follows_as (a.is ∙ ap (λ x. kept_cells rr.now.time n us x.outcome) follows_as)
           ∙ rw costs_as (sym (following f).reads)
 
-    pub follow_no : {many : TooMany} {left : List ℤ} → Advances s sights us n rr.now.time e left (Err many)
-        → ReadAs s us rr.now (Err (record { why = tooManyUnits; cost = many.cost })) left
+    pub follow_no : {many : TooMany} {lent left : List ℤ} → Advances s sights us n rr.now.time e us (Err many)
+        → left ≡ lent → ReadAs s us lent rr.now (Err (record { why = tooManyUnits; cost = many.cost })) left
     unfolding answered
-    follow_no {many} {left} a = record {
-      is = λ bytes f. ap (λ m. answered m many.cost (advanced (Err many) left))
+    follow_no {many} a kept = record {
+      is = λ bytes f. ap (λ m. answered m many.cost (advanced (Err many) us))
           (sym (early_over rr.now.time n us (reduced s sights us n e) (later rr.now) a.is)) ∙ reads_as f a;
+      untouched = kept;
     }
 
     module _ {w : Wrote} {left : List ℤ} (a : Advances s sights us n rr.now.time e left (Ok w)) where
@@ -282,40 +284,46 @@ module _ {s : List ℕ} {us : List ℤ} {sights : List Sight} {n : ℕ} (o : Ope
         marks = λ z. later_as h ∙ (following reading.1).marks z;
       }
 
-      pub follow_yes : {early : Bool} → early ≡ (not w.altered && some_later s n sights left rr.now)
-          → ReadAs s us rr.now (Ok (record { early = early; cost = w.cost })) left
+      pub follow_yes : {lent : List ℤ} {early : Bool} → early ≡ (not w.altered && some_later s n sights left rr.now)
+          → ReadAs s us lent rr.now (Ok (record { early = early; cost = w.cost })) left
       unfolding answered
-      follow_yes {early} h = record {
+      follow_yes {early = early} h = record {
         is = λ bytes f. ap (λ b. answered (mark_of b) w.cost (advanced (Ok w) left))
             (h ∙ judged_as w.altered later_as ∙ ap (λ b. not b && later rr.now) a.told
             ∙ early_within rr.now.time n us (reduced s sights us n e) (later rr.now) a.is) ∙ reads_as f a;
+        untouched = tt;
       }
 
 -- ---- a breached run, and a fulfilled one
-module _ {s : List ℕ} {us : List ℤ} {sights : List Sight} {r : Reading} where
-  pub read_breached : {b : Broken} → Opened s us sights (Breached b) → length us ≡ table_length
-      → ReadAs s us r (Ok (record { early = false; cost = 0 })) us
+module _ {s : List ℕ} {us lent : List ℤ} {sights : List Sight} {r : Reading} where
+  pub read_breached : {b : Broken} {left : List ℤ} → Opened s us sights (Breached b) → left ≡ us
+      → ReadAs s us lent r (Ok (record { early = false; cost = 0 })) left
   unfolding answered mark_of Shows
-  read_breached {b} o l =
+  read_breached {b} o kept =
       let shown : BreachedAs (run_in s us) us b.time b.parties = o.shows in
       record {
-        is = λ bytes f. sym (reading_breach s _ (ck o) us l _ _ bytes f.fits.reading (fits_as f.fits)
+        is = λ bytes f.
+            ap (λ cells. answered 0 0 (answer 0 cells)) kept
+            ∙ sym (reading_breach s _ (ck o) us o.cells _ _ bytes f.fits.reading (fits_as f.fits)
             (in_order o f shown.shows) shown.time _ shown.shows.is);
+        untouched = tt;
       }
 
-  pub read_done : Opened s us sights Fulfilled → length us ≡ table_length
-      → ReadAs s us r (Ok (record { early = false; cost = 0 })) (set us 1 (to_z w64 r.time))
+  pub read_done : {left : List ℤ} → Opened s us sights Fulfilled → left ≡ us
+      → ReadAs s us lent r (Ok (record { early = false; cost = 0 })) (set left 1 (to_z w64 r.time))
   unfolding answered mark_of Shows
-  read_done o l =
+  read_done o kept =
       let shown : RunShows (run_in s us) us done = o.shows in
-      let back = sym (table_back (ag o) _ us _ shown.is l) in
+      let back = sym (table_back (ag o) _ us _ shown.is o.cells) in
       record {
         is = λ bytes f.
             ap (λ cells. answered 0 0 (answer 0 cells))
-            (ap (set us 1) (to_z_pos w64 r.time (omega (arith, f.fits.small)) ∙ ap pos f.fits.time)
+            (ap (λ cells. set cells 1 (to_z w64 r.time)) kept
+            ∙ ap (set us 1) (to_z_pos w64 r.time (omega (arith, f.fits.small)) ∙ ap pos f.fits.time)
             ∙ retimed us shown.now shown.moved f.fits.reading.time back)
-            ∙ sym (reading_done s _ (ck o) us l _ _ bytes f.fits.reading (fits_as f.fits) (in_order o f shown)
+            ∙ sym (reading_done s _ (ck o) us o.cells _ _ bytes f.fits.reading (fits_as f.fits) (in_order o f shown)
             shown.is);
+        untouched = tt;
       }
 
 -- ---- before the reading is known to fit
@@ -332,32 +340,38 @@ some_run s us sights Fulfilled v = record { run = _; is = v.is; cell = v.cell }
 some_run s us sights (Breached b) v = record { run = _; is = v.shows.is; cell = v.shows.cell }
 
 module _ {s : List ℕ} {us : List ℤ} {sights : List Sight} {state : State} (o : Opened s us sights state)
-    (l : length us ≡ table_length) (bytes : List ℕ) where
+    (bytes : List ℕ) where
   abbrev shown : SomeRun s us
   shown = some_run s us sights state o.shows
 
   read_refused : (m : Misfit) → TakenIs s bytes (Err m)
       → read_answer (Err (record { why = why_misfit m; cost = 0 })) us ≡ read_of s us bytes
   unfolding answered
-  read_refused Malformed f = sym (reading_eight s (mains_of s) (ck o) us l shown.run shown.is bytes f)
-  read_refused Untyped f = sym (reading_nine s (mains_of s) (ck o) us l shown.run shown.is bytes f.raw f.is
+  read_refused Malformed f = sym (reading_eight s (mains_of s) (ck o) us o.cells shown.run shown.is bytes f)
+  read_refused Untyped f = sym (reading_nine s (mains_of s) (ck o) us o.cells shown.run shown.is bytes f.raw f.is
       f.untyped)
 
-  pub read_misfit : (m : Misfit) → TakenIs s bytes (Err m)
-      → taken_answer (Err (record { why = why_misfit m; cost = 0 })) us ≡ reading_of s us bytes
-  read_misfit m f = reading_err s us us bytes (record { why = why_misfit m; cost = 0 }) (read_refused m f)
+  pub read_misfit : {lent : List ℤ} (m : Misfit) → TakenIs s bytes (Err m)
+      → ReadsOn s us lent bytes (Err (record { why = why_misfit m; cost = 0 })) lent
+  read_misfit m f = record {
+    is = reading_err s us us bytes (record { why = why_misfit m; cost = 0 }) (read_refused m f);
+    untouched = refl;
+  }
 
   module _ {r : Reading} (f : FittingRead s bytes r) {z : ℤ} (ez : z ≡ get_or us 1 (pos 0)) where
     -- the time of the last reading, as the code compares
     earlier : lt_z (to_z w64 r.time) z ≡ ltb r.time shown.run.last_time
     earlier = ap₂ lt_z (to_z_pos w64 r.time (omega (arith, f.small))) (ez ∙ shown.cell)
 
-    pub read_ten : lt_z (to_z w64 r.time) z ≡ true
-        → taken_answer (Err (record { why = ReadingTime; cost = 0 })) us ≡ reading_of s us bytes
+    pub read_ten : {lent : List ℤ} → lt_z (to_z w64 r.time) z ≡ true
+        → ReadsOn s us lent bytes (Err (record { why = ReadingTime; cost = 0 })) lent
     unfolding answered
-    read_ten t = reading_err s us us bytes (record { why = ReadingTime; cost = 0 })
-        (sym (reading_ten s (mains_of s) (ck o) us l shown.run shown.is bytes f.reading (fits_as f)
-        (omega (arith, ltb-true r.time shown.run.last_time (sym earlier ∙ t), f.time))))
+    read_ten t = record {
+      is = reading_err s us us bytes (record { why = ReadingTime; cost = 0 })
+          (sym (reading_ten s (mains_of s) (ck o) us o.cells shown.run shown.is bytes f.reading (fits_as f)
+          (omega (arith, ltb-true r.time shown.run.last_time (sym earlier ∙ t), f.time))));
+      untouched = refl;
+    }
 
     pub read_fitted : lt_z (to_z w64 r.time) z ≡ false → Fitted s bytes us r
     read_fitted t = record {
@@ -376,7 +390,7 @@ module _ {s : List ℕ} {us : List ℤ} {sights : List Sight} {state : State} (o
     read_shows =
         let x = f.fits in
         let time = fitting_time (agreement_of s) bytes x.reading (fits_as x) in
-        reading_leaves o.accepted us l (shown.run, shown.is) bytes (omega (arith, x.small, x.time, time)) a left e
+        reading_leaves o.accepted us o.cells (shown.run, shown.is) bytes (omega (arith, x.small, x.time, time)) a left e
 
 -- ---- what the methods' goals need
 pub ruleset lending = (behind_head, length-take)

@@ -25,10 +25,13 @@ use Rattle.soundness.proofs.Marks.{AtOnce, Marks, Stays, at_once_lem, breach_sta
 use Rattle.soundness.proofs.Marks.{never, none_breach, not_yet, run_ok, table_state, until}
 use Rattle.monitor.specs.Answers.{Started, start_answer, taken_answer}
 use Rattle.monitor.specs.Calls.{Call, Calls, forecast_in, last_table, number_in, readings_in}
-use Rattle.monitor.specs.Forecasts.{AcceptedMarks, ForecastClaim, Foretells, Told, by_reading, by_start, last_forecast}
+use Rattle.monitor.specs.Preview.{Preview, Previews, answer_in}
+use Rattle.monitor.specs.Forecasts.{AcceptedMarks, ForecastClaim, Foretells, Told, by_preview, by_reading, by_start}
+use Rattle.monitor.specs.Forecasts.{last_forecast}
 use Rattle.monitor.proofs.Joined.{begun_table, part_of, table_in}
 use Rattle.monitor.proofs.Opens.{by_run, by_table}
 use Rattle.monitor.proofs.Calls.{Sound, called, found, runs, shown as shows_run}
+use Rattle.monitor.proofs.Copies.{accepted_long, as_reading, copied, copied_meets}
 
 last_++ : (us : List ℤ) (before later : List Call)
     → last_table us (before ++ later) ≡ last_table (last_table us before) later
@@ -250,11 +253,22 @@ module _ (s : List ℕ) (a : Agreement) (mains : List ℕ) (ck : checked s ≡ a
         tells = fe ∙ reading_tells s lent one e z ∙ ap (forecast_of s) (sym same);
       })
 
+  preview_leaves : (first : List ℤ) (p : Preview) → Bytes p.bytes → Previews s first p → (answer_in p).number ≡ 0
+      → us ≡ p.left → f ≡ (answer_in p).forecast → Leaving s a mains ck us f
+  preview_leaves first p h meets z same fe =
+      let l = accepted_long s first p meets z in
+      let one = copied s first p meets l in
+      let is = copied_meets s first p meets l in
+      let y = as_reading s first p meets l one is in
+      let zero = sym y.number ∙ z in
+      read_leaves first one h is zero (same ∙ y.outcome zero) (fe ∙ y.forecast)
+
   leaving : Told s us f → Leaving s a mains ck us f
   leaving (by_start lent r e z fe) = begun_leaves lent r e z fe
   leaving (by_reading lent one h e z same fe) = read_leaves lent one h e z same fe
+  leaving (by_preview first p h meets z same fe) = preview_leaves first p h meets z same fe
 
--- what start and reading tell is what accepted marks then do, cell for cell
+-- what start, reading and preview tell is what accepted marks then do, cell for cell
 pub forecasts : ForecastClaim
 unfolding ForecastClaim
 forecasts s a mains us f marks hs ck t h cs m =

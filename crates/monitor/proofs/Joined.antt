@@ -3,7 +3,7 @@
 use mathlib.Core.Path.{◌≡◌, refl, sym, ap, ◌∙◌}
 use mathlib.Core.List.{List}
 use Rattle.std.specs.Prelude.{Option, Ok, Err}
-use Prim.Native.Nat.{ℕ}
+use Prim.Native.Nat.{ℕ, suc}
 use lib.IntN.{ℤ}
 use Rattle.csl.specs.Entries.{Answer, Forecast, ReadAnswer, ReadingAnswer, StartAnswer, begun_of, forecast_of, read_of}
 use Rattle.csl.specs.Entries.{reading_of, start_of, told_of, untold}
@@ -20,19 +20,22 @@ use Rattle.monitor.specs.Steps.{read_answer}
 use Rattle.bridge.proofs.Refusals.{answer}
 
 -- no refusal's number is 0
+pub some_number : (r : Refusal) → (k : ℕ) × (number_of r ≡ suc k)
+some_number AgreementLength = (0, refl)
+some_number AgreementForm = (1, refl)
+some_number AgreementTyping = (2, refl)
+some_number AgreementGuards = (3, refl)
+some_number AgreementWidth = (4, refl)
+some_number TableLength = (5, refl)
+some_number TableContent = (6, refl)
+some_number ReadingForm = (7, refl)
+some_number ReadingTyping = (8, refl)
+some_number ReadingTime = (9, refl)
+some_number Units = (10, refl)
+
 no_zero : (s : List ℕ) (left : List ℤ) (r : Refusal) → told_of s (number_of r) left ≡ untold
 unfolding told_of
-no_zero s left AgreementLength = refl
-no_zero s left AgreementForm = refl
-no_zero s left AgreementTyping = refl
-no_zero s left AgreementGuards = refl
-no_zero s left AgreementWidth = refl
-no_zero s left TableLength = refl
-no_zero s left TableContent = refl
-no_zero s left ReadingForm = refl
-no_zero s left ReadingTyping = refl
-no_zero s left ReadingTime = refl
-no_zero s left Units = refl
+no_zero s left r = rw (some_number r).1 refl
 
 -- the forecast f with what a call did
 abbrev begun_with : Forecast → Answer → StartAnswer

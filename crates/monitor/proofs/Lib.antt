@@ -1,11 +1,13 @@
 pub mod Checks
 pub mod Joined
 pub mod Opens
+pub mod Previews
 pub mod Leaves
 pub mod Begins
 pub mod Follows
 pub mod Foretells
 pub mod Calls
+pub mod Copies
 pub mod Early
 pub mod Cost
 pub mod Demand3

@@ -1,6 +1,6 @@
 -- Laws for what is lent: which of refusals 1 to 7 applies, or the state that the table shows; and what the entries
 -- answer of it.
-use mathlib.Core.Path.{◌≡◌, refl, sym, subst}
+use mathlib.Core.Path.{◌≡◌, refl, sym, ap, subst, ◌∙◌}
 use mathlib.Core.List.{List}
 use mathlib.Core.Option.{Option, none, some}
 use Prim.Native.Nat.{ℕ, ◌≤◌, ◌<◌}
@@ -9,7 +9,7 @@ use borrow.Author.Tests.{eqb-true, eqb-false}
 use lib.Dec.{eqb}
 use lib.IntN.{ℤ}
 use lib.ListN.{length}
-use Rattle.std.specs.Prelude.{None, Err}
+use Rattle.std.specs.Prelude.{None, Ok, Err}
 use Rattle.csl.specs.Decode.{agreement_of}
 use Rattle.csl.specs.Check.{Accepted, accepted, checked, refused, mains_of}
 use Rattle.csl.specs.Table.{Run, run_of, table_length}
@@ -22,8 +22,8 @@ use Rattle.state.specs.Shown.{Shows, run_in}
 use Rattle.state.specs.declared.State.{State}
 use Rattle.monitor.specs.declared.Refusal.{Refusal}
 use Rattle.monitor.specs.declared.Refusal.TheVariants.{TableLength, TableContent}
-use Rattle.monitor.specs.Answers.{number_of, start_answer, taken_answer}
-use Rattle.monitor.specs.Steps.{Refuses, Opened}
+use Rattle.monitor.specs.Answers.{TakenOrRefused, number_of, start_answer, taken_answer}
+use Rattle.monitor.specs.Steps.{Refuses, Opened, ReadsOn}
 use Rattle.monitor.proofs.Joined.{reading_err, start_err}
 
 module _ (s : List ℕ) (us : List ℤ) where
@@ -60,6 +60,19 @@ module _ (s : List ℕ) (us : List ℤ) where
 module _ {s : List ℕ} {us : List ℤ} {sights : List Sight} {state : State} (o : Opened s us sights state) where
   pub opened_as : {q : State} → state ≡ q → Opened s us sights q
   opened_as e = subst (Opened s us sights) e o
+
+-- ---- a reading of a table, and what is left in what was lent
+module _ {s : List ℕ} {us : List ℤ} where
+  -- 7 leaves it
+  pub run_no : {r : Refusal} → Refuses s us r → {lent : List ℤ} (bytes : List ℕ)
+      → ReadsOn s us lent bytes (Err (record { why = r; cost = 0 })) lent
+  run_no w bytes = record { is = w bytes; untouched = refl }
+
+  -- the very table was lent
+  pub own_table : {bytes : List ℕ} {r : TakenOrRefused} {left : List ℤ} → ReadsOn s us us bytes r left
+      → taken_answer r left ≡ reading_of s us bytes
+  own_table {r = Ok a} w = w.is
+  own_table {r = Err e} w = ap (taken_answer (Err e)) w.untouched ∙ w.is
 
 -- ---- whatever is lent
 -- a start and a reading refuse it with n
@@ -99,4 +112,6 @@ module _ {C : Type 0} (s : List ℕ) (us : List ℤ) where
 
 pub ruleset starting = (start_no, start_short)
 
-pub ruleset taking = (reading_no, reading_short)
+pub ruleset opening = (run_no)
+
+pub ruleset taking = (reading_no, reading_short, own_table)

@@ -1,5 +1,5 @@
--- The reviewer's checklist, "Tried and found unprovable": six wrong monitors, and that none meets the contracts; and
--- three that are wrong in the forecast that they tell.
+-- The reviewer's checklist, "Tried and found unprovable": six wrong monitors, and that none meets the contracts; three
+-- that are wrong in the forecast that they tell; and three that preview wrongly.
 -- Each is any monitor that does the wrong thing with whatever it is lent; the paper's trials, computed, refute it.
 use mathlib.Core.Path.{◌≡◌, refl, sym, ap, ◌∙◌, subst}
 use mathlib.Core.List.{List, []}
@@ -11,6 +11,7 @@ use Rattle.csl.specs.Bytes.{le32}
 use Rattle.csl.specs.Check.{CheckAnswer, check_of}
 use Rattle.csl.specs.Entries.{Forecast, ReadingAnswer, StartAnswer, breach_at, forecast_of, no_breach, no_forecast}
 use Rattle.csl.specs.Entries.{reading_of, start_of, untold}
+use Rattle.csl.specs.Preview.{preview_of, previews_compute}
 use Rattle.csl.specs.Build.{sample, agreement, all', simply, zeros}
 use Rattle.csl.specs.Build as Build
 use Rattle.csl.specs.Trials.{computes}
@@ -148,6 +149,45 @@ module _ (reading : List ℕ → List ℤ → List ℕ → ReadingAnswer)
   unfolding computes zeros IsTold
   refusals_told wrong = subst IsTold (sym (sym (ap (λ a. a.forecast) (reads sample p2.table earlier))
       ∙ wrong sample p2.table earlier ∙ ap (λ a. forecast_of sample a.table) (reads sample p2.table earlier))) tt
+    where
+      earlier : List ℕ
+      earlier = Build.reading 105 (pos 250)
+
+-- ---- paper 02, No. 6: any monitor that previews as its contract says
+module _ (preview : List ℕ → List ℤ → List ℤ → List ℕ → ReadingAnswer)
+    (previews : (s : List ℕ) (us vs : List ℤ) (r : List ℕ) → preview s us vs r ≡ preview_of s us vs r) where
+  -- it does not refuse all: P3 is taken
+  pub refuses_all_previews : ((s : List ℕ) (us vs : List ℤ) (r : List ℕ) → (preview s us vs r).number ≡ 0 → ⊥) → ⊥
+  unfolding computes previews_compute zeros
+  refuses_all_previews wrong = wrong sample p2.table zeros p3bytes
+      (ap (λ a. a.number) (previews sample p2.table zeros p3bytes))
+
+  -- P3 fulfils, which neither the second table's zeros nor the first table says
+  foreseen : state_in (preview sample p2.table zeros p3bytes).table ≡ pos 2
+  unfolding computes previews_compute zeros
+  foreseen = ap (λ a. state_in a.table) (previews sample p2.table zeros p3bytes)
+
+  pub second_left_alone : ((s : List ℕ) (us vs : List ℤ) (r : List ℕ) → (preview s us vs r).table ≡ vs) → ⊥
+  unfolding zeros
+  second_left_alone wrong =
+      let z : ◌≡◌ {A = ℕ} 2 0 = ap nat_abs (sym foreseen ∙ ap state_in (wrong sample p2.table zeros p3bytes)) in
+      absurd (omega arith)
+
+  pub first_copied : ((s : List ℕ) (us vs : List ℤ) (r : List ℕ) → (preview s us vs r).number ≡ 0
+      → (preview s us vs r).table ≡ us) → ⊥
+  unfolding computes previews_compute zeros
+  first_copied wrong =
+      let z : ◌≡◌ {A = ℕ} 2 1 = ap nat_abs (sym foreseen ∙ ap state_in (wrong sample p2.table zeros p3bytes
+      (ap (λ a. a.number) (previews sample p2.table zeros p3bytes)))) in absurd (omega arith)
+
+  -- a reading before P2's time is refused with 10, and the second table's zeros stay
+  pub refusal_written : ((s : List ℕ) (us vs : List ℤ) (r : List ℕ)
+      → (preview s us vs r).table ≡ (reading_of s us r).table) → ⊥
+  unfolding computes previews_compute zeros
+  refusal_written wrong =
+      let z : ◌≡◌ {A = ℕ} 0 1 = ap nat_abs
+      (sym (ap (λ a. state_in a.table) (previews sample p2.table zeros earlier))
+      ∙ ap state_in (wrong sample p2.table zeros earlier)) in absurd (omega arith)
     where
       earlier : List ℕ
       earlier = Build.reading 105 (pos 250)

@@ -18,12 +18,15 @@ use Rattle.csl.specs.Entries as entries
 use Rattle.csl.specs.Entries.{forecast_run, shown, start_of}
 use Rattle.csl.specs.Demand3.{Bytes, AllBytes, fitting, reached, needed, NotStuck, IsBreach, Unaltered, run_after}
 use Rattle.csl.specs.Demand3.{numbers_by, forecasts_by, marks_by, costs_by, told_by}
+use Rattle.csl.specs.Early.{came_early, mark_of}
+use Rattle.csl.specs.Cost.{cost_of}
 use Rattle.csl.specs.Marks.{time_in}
 use Rattle.monitor.specs.declared.BreachAhead.{BreachAhead}
 use Rattle.monitor.specs.Answers.{Started, start_answer}
 use Rattle.monitor.specs.Calls.{Call, Calls, last_table, readings_in, number_in, numbers_in, early_in}
 use Rattle.monitor.specs.Calls.{marks_in, cost_in, costs_in, forecast_in, forecasts_in}
 use Rattle.monitor.specs.Early.{TooEarly}
+use Rattle.monitor.specs.Preview.{Preview, Previews, answer_in}
 
 -- "A run is fed the agreement and the readings' bytes, nothing from a table."
 unfoldable pub run_by : Agreement → List Call → Run
@@ -35,8 +38,20 @@ Fits a run bytes units =
     (d : Reading) × (fitting a bytes ≡ some d) × (run.last_time ≤ d.time)
     × units (needed (reached a run.outcome d))
 
--- of agreement a, whose main clause's parties are `mains`: start answered r and left the table us, then came the calls
-pub record Upheld (a : Agreement) (mains : List ℕ) (r : Started) (us : List ℤ) (calls : List Call) : Type 0 where
+-- of agreement a and its run: what a preview answers is the run's number, forecast, mark and cost of that reading, and
+-- what it writes is the table of the run that the reading leads to; a refusal leaves the second table
+pub record Foreseen (a : Agreement) (run : Run) (p : Preview) : Type 0 where
+  pub number : (answer_in p).number ≡ (step a run p.bytes).number
+  pub forecast : (answer_in p).forecast ≡ told_by a (step a run p.bytes)
+  pub mark : (answer_in p).early ≡ mark_of (came_early a run p.bytes)
+  pub cost : (answer_in p).cost ≡ cost_of a run p.bytes
+  pub outcome : (answer_in p).number ≡ 0 → p.left ≡ table_of (step a run p.bytes).run
+  pub untouched : (answer_in p).number ≢ 0 → p.left ≡ p.second
+
+-- of agreement a in the bytes s, whose main clause's parties are `mains`: start answered r and left the table us, then
+-- came the calls
+pub record Upheld (s : List ℕ) (a : Agreement) (mains : List ℕ) (r : Started) (us : List ℤ) (calls : List Call) : Type
+    0 where
   -- "the run by the rules is never stuck"
   pub never_stuck : (before later : List Call) → calls ≡ before ++ later → NotStuck (run_by a before).outcome
   -- "each answer carries the run's number": the start's, which is 0, and every reading's
@@ -86,6 +101,9 @@ pub record Upheld (a : Agreement) (mains : List ℕ) (r : Started) (us : List �
       → cost_in one ≤ 65_792 * needed (run_by a before).outcome
   pub at_most : (before : List Call) (one : Call) (later : List Call) → calls ≡ before ++ (one ∷ later)
       → cost_in one ≤ 8_421_376
+  -- paper 02, No. 6: a preview on the way, of whatever bytes, says what the reading would do to the run
+  pub foreseen : (before later : List Call) → calls ≡ before ++ later → (p : Preview) → Bytes p.bytes
+      → Previews s (last_table us before) p → length p.second ≡ table_length → Foreseen a (run_by a before) p
   -- "a breach names only parties that can be blamed, at a time from the start to the reading that showed it", here
   -- `one`
   pub breached : (before : List Call) (one : Call) (later : List Call) → calls ≡ before ++ (one ∷ later)
@@ -110,7 +128,7 @@ unfoldable pub Demand3 : Type 0
 Demand3 =
     (s : List ℕ) (lent : List ℤ) (a : Agreement) (mains : List ℕ) (r : Started) (us : List ℤ) (calls : List Call)
     → Bytes s → AllBytes (readings_in calls) → IsStarted s lent a mains
-    → start_answer r us ≡ start_of s lent → Calls s us calls → Upheld a mains r us calls
+    → start_answer r us ≡ start_of s lent → Calls s us calls → Upheld s a mains r us calls
 
 -- and a start that answers `Ok` was given such an agreement
 unfoldable pub Begins : Type 0

@@ -10,6 +10,7 @@ use Rattle.csl.specs.Demand3.{AllBytes, Bytes}
 use Rattle.csl.specs.Marks.{IsMark, time_in, AllTimes, Breached, breach_table, ForecastFits}
 use Rattle.monitor.specs.Answers.{Started, start_answer, taken_answer}
 use Rattle.monitor.specs.Calls.{Call, Calls, last_table, readings_in, number_in, forecast_in}
+use Rattle.monitor.specs.Preview.{Preview, Previews, answer_in}
 
 unfoldable pub AcceptedMarks : Agreement → List Call → Type 0
 AcceptedMarks a [] = Unit {0}
@@ -41,8 +42,8 @@ pub record Foretells (a : Agreement) (mains : List ℕ) (us : List ℤ) (f : For
       → (Breached (last_table us before) → ⊥) → t < time_in one.bytes
       → (last_table us marks ≡ breach_table (time_in one.bytes) (time_in one.bytes) t b) × (f' ≡ f)
 
--- an accepted call on agreement s left the table us and told the forecast f: a start, or a reading on whatever table,
--- reached by readings or made by hand
+-- an accepted call on agreement s left the table us and told the forecast f: a start, or a reading or a preview on
+-- whatever table, reached by readings or made by hand
 pub data Told (s : List ℕ) (us : List ℤ) (f : Forecast) : Type 0 where
   by_start : (lent : List ℤ) (r : Started)
       → start_answer r us ≡ start_of s lent → (start_answer r us).number ≡ 0 → f ≡ (start_answer r us).forecast
@@ -50,6 +51,8 @@ pub data Told (s : List ℕ) (us : List ℤ) (f : Forecast) : Type 0 where
   by_reading : (lent : List ℤ) (one : Call) → Bytes one.bytes
       → taken_answer one.answer one.left ≡ reading_of s lent one.bytes → number_in one ≡ 0
       → us ≡ one.left → f ≡ forecast_in one → Told s us f
+  by_preview : (first : List ℤ) (p : Preview) → Bytes p.bytes → Previews s first p → (answer_in p).number ≡ 0
+      → us ≡ p.left → f ≡ (answer_in p).forecast → Told s us f
 
 -- the forecast that the last of them told
 unfoldable pub last_forecast : Forecast → List Call → Forecast

@@ -6,7 +6,7 @@ use Rattle.csl.specs.Check as check
 use Rattle.csl.specs.Check.{checked}
 use Rattle.csl.specs.Entries.{ReadAnswer, read_of, reading_of}
 use Rattle.csl.specs.Early.{mark_of}
-use Rattle.csl.specs.Table.{Run}
+use Rattle.csl.specs.Table.{Run, table_length}
 use Rattle.readings.specs.Taking.{FittingRead}
 use Rattle.readings.specs.declared.reading.Reading.{Reading}
 use Rattle.readings.specs.declared.Misfit.{Misfit}
@@ -22,7 +22,8 @@ use Rattle.monitor.specs.declared.Refusal.{Refusal}
 use Rattle.monitor.specs.declared.Refusal.TheVariants.{ReadingForm, ReadingTyping}
 use Rattle.monitor.specs.declared.Refused.{Refused}
 use Rattle.monitor.specs.declared.Followed.{Followed}
-use Rattle.monitor.specs.Answers.{number_of, taken_answer}
+use Rattle.settling.specs.Before.{on_copy, Untouched}
+use Rattle.monitor.specs.Answers.{number_of, TakenOrRefused, taken_answer}
 
 -- ---- what a reading does, without the forecast
 abbrev pub read_answer : Result Followed Refused → List ℤ → ReadAnswer
@@ -55,6 +56,7 @@ Refuses s us r = (bytes : List ℕ) → taken_answer (Err (record { why = r; cos
 -- an accepted agreement, and the state that a table's cells show
 pub record Opened (s : List ℕ) (us : List ℤ) (sights : List Sight) (state : State) : Type 0 where
   pub accepted : check.Accepted s
+  pub cells : length us ≡ table_length
   pub shows : Shows (run_in s us) us sights (Some state)
 
 -- 7
@@ -77,10 +79,18 @@ pub record Fitted (s bytes : List ℕ) (us : List ℤ) (r : Reading) : Type 0 wh
 abbrev pub SomeReading : List ℕ → List ℤ → Reading → Type 0
 SomeReading s us r = (bytes : List ℕ) × Fitted s bytes us r
 
--- the answer and the table `left` answer all bytes that are the reading r
-pub record ReadAs (s : List ℕ) (us : List ℤ) (r : Reading) (answer : Result Followed Refused) (left : List ℤ) : Type
+-- of all bytes that are the reading r the answer is that of the table us, and what it leaves of a copy of us stands in
+-- what was lent; a refusal leaves that as it was
+pub record ReadAs (s : List ℕ) (us lent : List ℤ) (r : Reading) (answer : Result Followed Refused) (left : List ℤ)
+    : Type 0 where
+  pub is : (bytes : List ℕ) → Fitted s bytes us r → read_answer answer (on_copy answer us left) ≡ read_of s us bytes
+  pub untouched : Untouched answer lent left
+
+-- the same of bytes that may be no reading, with the forecast
+pub record ReadsOn (s : List ℕ) (us lent : List ℤ) (bytes : List ℕ) (answer : TakenOrRefused) (left : List ℤ) : Type
     0 where
-  pub is : (bytes : List ℕ) → Fitted s bytes us r → read_answer answer left ≡ read_of s us bytes
+  pub is : taken_answer answer (on_copy answer us left) ≡ reading_of s us bytes
+  pub untouched : Untouched answer lent left
 
 -- some unit opens later than the reading, which it waits for
 abbrev pub some_later : List ℕ → ℕ → List Sight → List ℤ → Reading → Bool

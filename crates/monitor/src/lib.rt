@@ -4,9 +4,11 @@
 ghost use Rattle.std.specs.Prelude.{◌≡◌, ◌≤◌, length, take, drop, Ok};
 ghost use Rattle.csl.specs.Check.{Accepted as IsAccepted, check_of};
 ghost use Rattle.csl.specs.Entries.{start_of, reading_of, forecast_of};
+ghost use Rattle.csl.specs.Preview.{preview_of};
+ghost use Rattle.settling.specs.Before.{read_from};
 ghost use Rattle.monitor.specs.Answers.{number_of, check_answer, ahead_told, start_answer, taken_answer};
 ghost use Rattle.monitor.specs.Steps.{Read, Verified, Opened, Opens, why_misfit};
-ghost use Rattle.monitor.specs.Steps.{SomeReading, ReadAs, Judged, some_later, Shown};
+ghost use Rattle.monitor.specs.Steps.{SomeReading, ReadAs, ReadsOn, Judged, some_later, Shown};
 
 use cells::{
     BREACH_PARTIES, BREACH_TIME, HEAD_CELLS, LAST_TIME, MOST_UNITS, STATE, Sight, TABLE_CELLS,
@@ -15,6 +17,7 @@ use kinds::RunState;
 use readings::{Misfit, Reading};
 use records::Agreement;
 use reduction::{TooMany, Wrote, advance};
+use settling::before::{copy_before, table_before};
 use state::{State, state_of};
 use waits::Event;
 use walk::Units;
@@ -100,6 +103,12 @@ struct Followed {
     early: bool,
     cost: usize,
 }
+
+// A reading that finds no unit: it came not too early, and cost nothing.
+const IDLE: Followed = Followed {
+    early: false,
+    cost: 0,
+};
 
 // A reading that is refused. Of the refusals only `Units` has a cost.
 #[derive(Clone, Copy, Debug, PartialEq, Eq)]
@@ -208,7 +217,15 @@ fn begin(
     ensures { start_answer result table.new ≡ start_of accepted.now table.old }
 {
     let agreement = accepted.agreement();
-    match advance(agreement, &[], table, 0, agreement.start(), Event::Activate) {
+    match advance(
+        agreement,
+        &[],
+        None,
+        table,
+        0,
+        agreement.start(),
+        Event::Activate,
+    ) {
         Ok(_) => Ok(foretell(accepted, table)),
         Err(_) => Err(Refusal::Units),
     }
@@ -281,16 +298,22 @@ impl<'a> Lent<'a> {
     // A reading that fits and is not before the last. A breached run is left as it is; of a fulfilled one the last
     // reading time moves. A time is a cell by `as`: `try_from` has a case that cannot occur.
     #[tactic(auto, using(crate::proofs::Follows::stepping))]
-    fn follow(&self, table: &mut [i64; TABLE_CELLS], reading: &Reading) -> Result<Followed, Refused>
-        requires opened { Opened self.now.agreement table.old self.now.sights.now self.now.state }
-        requires some_reading { SomeReading self.now.agreement table.old reading.now }
-        ensures { ReadAs self.now.agreement table.old reading.now result table.new }
+    fn follow(
+        &self,
+        first: Option<&[i64; TABLE_CELLS]>,
+        table: &mut [i64; TABLE_CELLS],
+        reading: &Reading,
+    ) -> Result<Followed, Refused>
+        requires opened { Opened self.now.agreement (read_from first table.old) self.now.sights.now self.now.state }
+        requires some_reading { SomeReading self.now.agreement (read_from first table.old) reading.now }
+        ensures { ReadAs self.now.agreement (read_from first.entry table.old) table.old reading.now result table.new }
     {
         match self.state {
             State::Running(used) => {
                 let wrote = advance(
                     self.agreement.agreement(),
                     self.sights,
+                    first,
                     table,
                     used,
                     reading.time,
@@ -303,30 +326,34 @@ impl<'a> Lent<'a> {
                 })
             }
             State::Fulfilled => {
+                copy_before(first, table);
                 table[LAST_TIME] = reading.time as i64;
-                Ok(Followed {
-                    early: false,
-                    cost: 0,
-                })
+                Ok(IDLE)
             }
-            State::Breached(_) => Ok(Followed {
-                early: false,
-                cost: 0,
-            }),
+            State::Breached(_) => {
+                copy_before(first, table);
+                Ok(IDLE)
+            }
         }
     }
 
     // A reading of any bytes.
     #[tactic(auto, using(crate::proofs::Follows::judging))]
-    fn read_on(&self, table: &mut [i64; TABLE_CELLS], bytes: &[u8]) -> Result<Taken, Refused>
-        requires { Opened self.now.agreement table.old self.now.sights.now self.now.state }
-        ensures { taken_answer result table.new ≡ reading_of self.now.agreement table.old bytes.now }
+    fn read_on(
+        &self,
+        first: Option<&[i64; TABLE_CELLS]>,
+        table: &mut [i64; TABLE_CELLS],
+        bytes: &[u8],
+    ) -> Result<Taken, Refused>
+        requires { Opened self.now.agreement (read_from first table.old) self.now.sights.now self.now.state }
+        ensures { ReadsOn self.now.agreement (read_from first.entry table.old) table.old bytes.now result table.new }
     {
         let reading = readings::take(self.agreement.agreement(), bytes)?;
-        if (reading.time as i64) < table[LAST_TIME] {
+        let before = table_before(first, table);
+        if (reading.time as i64) < before[LAST_TIME] {
             return Err(Refusal::ReadingTime.into());
         }
-        let followed = self.follow(table, &reading)?;
+        let followed = self.follow(first, table, &reading)?;
         let ahead = foretell(&self.agreement, table);
         Ok(Taken {
             early: followed.early,
@@ -336,15 +363,49 @@ impl<'a> Lent<'a> {
     }
 }
 
+// A reading of any bytes is taken of the run that the first table shows, where one is lent, or else the table itself;
+// the table becomes what the reading leaves. A refusal leaves it. (Inline: as a function of its own it would clear the
+// unread sights twice.)
+#[inline(always)]
+#[tactic(auto, using(crate::proofs::Opens::opening))]
+fn read_table(
+    agreement: places::Accepted<'_>,
+    first: Option<&[i64; TABLE_CELLS]>,
+    table: &mut [i64; TABLE_CELLS],
+    reading: &[u8],
+) -> Result<Taken, Refused>
+    requires { IsAccepted agreement }
+    ensures { ReadsOn agreement.entry (read_from first.entry table.old) table.old reading.now result table.new }
+{
+    let mut sights = [UNREAD; MOST_UNITS];
+    let run = open_run(agreement, table_before(first, table), &mut sights)?;
+    run.read_on(first, table, reading)
+}
+
 // Gives a run a reading, both of any bytes, and tells the forecast of the table that it leaves. A refusal leaves the
 // table.
 #[tactic(auto, using(crate::proofs::Opens::taking))]
 pub fn reading(agreement: &[u8], table: &mut [i64], reading: &[u8]) -> Result<Taken, Refused>
     ensures { taken_answer result table.new ≡ reading_of agreement.now table.old reading.now }
 {
-    let accepted = verify(agreement)?;
+    let agreement = verify(agreement)?;
     let table = table.as_mut_array().ok_or(Refusal::TableLength)?;
-    let mut sights = [UNREAD; MOST_UNITS];
-    let run = open_run(accepted, table, &mut sights)?;
-    run.read_on(table, reading)
+    read_table(agreement, None, table, reading)
+}
+
+// Tells what a reading would do to a run, and writes the table that it would leave into a second one. A refusal leaves
+// the second.
+#[tactic(auto, using(crate::proofs::Previews::previewing))]
+pub fn preview(
+    agreement: &[u8],
+    table: &[i64],
+    reading: &[u8],
+    second: &mut [i64],
+) -> Result<Taken, Refused>
+    ensures { taken_answer result second.new ≡ preview_of agreement.now table.now second.old reading.now }
+{
+    let agreement = verify(agreement)?;
+    let first = table.as_array().ok_or(Refusal::TableLength)?;
+    let second = second.as_mut_array().ok_or(Refusal::TableLength)?;
+    read_table(agreement, Some(first), second, reading)
 }

@@ -144,8 +144,8 @@ module _ {s : List ℕ} {sights : List Sight} {us : List ℤ} {n time : ℕ} {e 
     unfolding reckoned
     reduced_few = bits_few r out e d.units i
 
-    pub tried_none : {room : ℕ} {short : Short} → short.cost ≡ counted_cost s sights us n e
-        → short.units ≡ units_of r → room < 24 * short.units → NoRoom s sights us n e room us short
+    pub tried_none : {room : ℕ} {lent : List ℤ} {short : Short} → short.cost ≡ counted_cost s sights us n e
+        → short.units ≡ units_of r → room < 24 * short.units → NoRoom s sights us n e room lent lent short
     tried_none ec eu h = record {
       count = eu ∙ units_counted out (reduced s sights us n e) r i;
       costs = ec;
@@ -164,12 +164,12 @@ module _ {s : List ℕ} {sights : List Sight} {us : List ℤ} {n time : ℕ} {e 
     }
 
 -- ---- a try that needs more units than a table has
-module _ {s : List ℕ} {sights : List Sight} {us : List ℤ} {n : ℕ} {e : Event} {room : ℕ} {left : List ℤ}
-    {short : Short} (t : NoRoom s sights us n e room left short) where
+module _ {s : List ℕ} {sights : List Sight} {us : List ℤ} {n : ℕ} {e : Event} {room : ℕ} {lent left : List ℤ}
+    {short : Short} (t : NoRoom s sights us n e room lent left short) where
   pub tried_over : (time : ℕ) → 128 < short.units → {many : TooMany} → many.cost ≡ short.cost
-      → Advances s sights us n time e left (Err many)
+      → Advances s sights us n time e us (Err many)
   tried_over time h ec = record {
     costs = ec ∙ t.costs;
-    is = ap (answer 11) t.kept ∙ kept_over (reduced s sights us n e) time n us t.count h;
+    is = kept_over (reduced s sights us n e) time n us t.count h;
     told = tt;
   }

@@ -83,14 +83,14 @@ pub record Advances (s : List ℕ) (sights : List Sight) (us : List ℤ) (n time
   pub costs : cost_in r ≡ counted_cost s sights us n e
 
 -- what comes of it needs so many units, counted up to 129, for which there are not as many cells as `room`
-pub record NoRoom (s : List ℕ) (sights : List Sight) (us : List ℤ) (n : ℕ) (e : Event) (room : ℕ) (left : List ℤ)
-    (short : Short) : Type 0 where
+pub record NoRoom (s : List ℕ) (sights : List Sight) (us : List ℤ) (n : ℕ) (e : Event) (room : ℕ)
+    (lent left : List ℤ) (short : Short) : Type 0 where
   pub count : short.units ≡ min (units_in (reduced s sights us n e)) 129
   pub costs : short.cost ≡ counted_cost s sights us n e
   pub less : room < 24 * short.units
-  pub kept : left ≡ us
+  pub kept : left ≡ lent
 
--- what a try in so many cells comes to
-abbrev pub Tried : List ℕ → List Sight → List ℤ → ℕ → ℕ → Event → ℕ → List ℤ → Result Wrote Short → Type 0
-Tried s sights us n time e room left (Err short) = NoRoom s sights us n e room left short
-Tried s sights us n time e room left (Ok wrote) = Advances s sights us n time e left (Ok wrote)
+-- what a try in so many cells comes to; what is to be written held `lent`
+abbrev pub Tried : List ℕ → List Sight → List ℤ → ℕ → ℕ → Event → ℕ → List ℤ → List ℤ → Result Wrote Short → Type 0
+Tried s sights us n time e room lent left (Err short) = NoRoom s sights us n e room lent left short
+Tried s sights us n time e room lent left (Ok wrote) = Advances s sights us n time e left (Ok wrote)

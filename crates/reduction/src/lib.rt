@@ -3,12 +3,14 @@
 
 ghost use Rattle.std.specs.Prelude.{ℕ, ◌≡◌, ◌≤◌, length};
 ghost use Rattle.residues.specs.Tallies.{Reckons};
+ghost use Rattle.settling.specs.Before.{read_from, on_copy, Untouched};
 ghost use Rattle.reduction.specs.Steps.{room_length, main_reckoned, Due, reckoned, Advances, Tried};
 
 use activation::{Placed, activate};
 use cells::{HEAD_CELLS, MOST_UNITS, Sight, TABLE_CELLS, UNIT_CELLS, Values};
 use records::Agreement;
 use residues::{Reckoned, units_of};
+use settling::before::{copy_before, table_before};
 use settling::settle;
 use waits::Event;
 use walk::{Units, across};
@@ -94,44 +96,52 @@ fn reduce(
 fn advance_in<const CELLS: usize>(
     agreement: &Agreement<'_>,
     sights: &[Sight],
+    first: Option<&[i64; TABLE_CELLS]>,
     table: &mut [i64; TABLE_CELLS],
     used: usize,
     time: usize,
     event: Event<'_>,
 ) -> Result<Wrote, Short>
-    requires { Due agreement.now sights.now table.old used time event × (CELLS ≤ room_length) }
-    ensures { Tried agreement.now sights.now table.old used time event.entry CELLS table.new result }
+    requires { Due agreement.now sights.now (read_from first table.old) used time event × (CELLS ≤ room_length) }
+    ensures { Tried agreement.now sights.now (read_from first.entry table.old) used time event.entry CELLS table.old
+        table.new result }
 {
     let mut out = [0i64; CELLS];
-    let x = reduce(agreement, sights, table, used, event, &mut out);
+    let before = table_before(first, table);
+    let x = reduce(agreement, sights, before, used, event, &mut out);
     let cost = x.tally.total();
     let units = units_of(x.outcome);
     if UNIT_CELLS * units > CELLS {
         return Err(Short { units, cost });
     }
+    copy_before(first, table);
     let altered = settle(table, used, time as i64, x.outcome, &out);
     Ok(Wrote { altered, cost })
 }
 
-// The table that an event leads to is written, and dated by the time, where it has few enough units. (What says the
-// step goes on as it is: a struct of it would hold three things at one lifetime, to be lent again at each call.)
+// The table that an event leads to is written, and dated by the time, where it has few enough units. It is that of the
+// first table's units, where one is lent, or of its own. (What says the step goes on as it is: a struct of it would
+// hold three things at one lifetime, to be lent again at each call.)
 pub fn advance(
     agreement: &Agreement<'_>,
     sights: &[Sight],
+    first: Option<&[i64; TABLE_CELLS]>,
     table: &mut [i64; TABLE_CELLS],
     used: usize,
     time: usize,
     event: Event<'_>,
 ) -> Result<Wrote, TooMany>
-    requires { Due agreement.now sights.now table.old used time event }
-    ensures { Advances agreement.now sights.now table.old used time event.entry table.new result }
+    requires { Due agreement.now sights.now (read_from first table.old) used time event }
+    ensures leads { Advances agreement.now sights.now (read_from first.entry table.old) used time event.entry
+        (on_copy result (read_from first.entry table.old) table.new) result }
+    ensures untouched { Untouched result table.old table.new }
 {
     if used <= FEW_UNITS {
-        match advance_in::<FEW_ROOM>(agreement, sights, table, used, time, event) {
+        match advance_in::<FEW_ROOM>(agreement, sights, first, table, used, time, event) {
             Ok(wrote) => return Ok(wrote),
             Err(short) if short.units > MOST_UNITS => return Err(short.into()),
             Err(_) => {}
         }
     }
-    Ok(advance_in::<ALL_ROOM>(agreement, sights, table, used, time, event)?)
+    Ok(advance_in::<ALL_ROOM>(agreement, sights, first, table, used, time, event)?)
 }

@@ -14,18 +14,21 @@ use Rattle.csl.specs.Syntax.{Agreement}
 use Rattle.csl.specs.Check.{checked, accepted}
 use Rattle.csl.specs.Outcomes.{breach, stuck}
 use Rattle.csl.specs.Rules.{Reading}
-use Rattle.csl.specs.Run.{started, step}
+use Rattle.csl.specs.Run.{Stepped, started, step}
 use Rattle.csl.specs.Table.{Run, table_of, run_of}
 use Rattle.csl.specs.Entries.{forecast_run, shown, start_of, untold}
 use Rattle.csl.specs.Demand3.{Bytes, AllBytes, fitting, reached, needed, NotStuck, IsBreach, Unaltered, run_after}
 use Rattle.csl.specs.Demand3.{costs_by, forecasts_by, marks_by, numbers_by, told_by}
+use Rattle.csl.specs.Early.{came_early, mark_of}
+use Rattle.csl.specs.Cost.{cost_of}
 use Rattle.csl.specs.Marks.{time_in}
 use Rattle.monitor.specs.declared.BreachAhead.{BreachAhead}
-use Rattle.monitor.specs.Answers.{Started, start_answer}
+use Rattle.monitor.specs.Answers.{Started, start_answer, taken_answer}
 use Rattle.monitor.specs.Calls.{Call, Calls, last_table, readings_in, number_in, numbers_in, early_in, marks_in}
 use Rattle.monitor.specs.Calls.{cost_in, costs_in, forecast_in, forecasts_in}
 use Rattle.monitor.specs.Early.{TooEarly}
-use Rattle.monitor.specs.Demand3.{Demand3, Begins, Upheld, run_by}
+use Rattle.monitor.specs.Preview.{Preview, Previews, answer_in}
+use Rattle.monitor.specs.Demand3.{Demand3, Begins, Foreseen, Upheld, run_by}
 use Rattle.monitor.proofs.Demand3.{demand3, begins}
 
 -- what the words mean where it matters
@@ -45,7 +48,7 @@ module _ (s : List ℕ) (lent : List ℤ) (a : Agreement) (mains : List ℕ) (r 
     (bytes : Bytes s) (all : AllBytes (readings_in calls))
     (acc : checked s ≡ accepted a mains) (long : length lent ≡ 3080) (few : (started a).number ≡ 0)
     (begun : start_answer r us ≡ start_of s lent) (made : Calls s us calls) where
-  claim : Upheld a mains r us calls
+  claim : Upheld s a mains r us calls
   unfolding Demand3
   claim = demand3 s lent a mains r us calls bytes all (record {
     is_accepted = acc;
@@ -132,6 +135,40 @@ module _ (s : List ℕ) (lent : List ℤ) (a : Agreement) (mains : List ℕ) (r 
 
     at_most_lem : cost_in one ≤ 8_421_376
     at_most_lem = claim.at_most before one later split
+
+  -- paper 02, No. 6: of any reading's bytes, on the way and at the end
+  module _ (before later : List Call) (split : calls ≡ before ++ later) (p : Preview) (all_bytes : Bytes p.bytes)
+      (asked : Previews s (last_table us before) p) (second_long : length p.second ≡ 3080) where
+    foreseen : Foreseen a (ran a before) p
+    unfolding run_by
+    foreseen = claim.foreseen before later split p all_bytes asked second_long
+
+    abbrev next : Stepped
+    next = step a (ran a before) p.bytes
+
+    says_the_number : (taken_answer p.answer p.left).number ≡ next.number
+    unfolding answer_in
+    says_the_number = foreseen.number
+
+    says_the_forecast : (taken_answer p.answer p.left).forecast ≡ told_by a next
+    unfolding answer_in
+    says_the_forecast = foreseen.forecast
+
+    says_the_mark : (taken_answer p.answer p.left).early ≡ mark_of (came_early a (ran a before) p.bytes)
+    unfolding answer_in
+    says_the_mark = foreseen.mark
+
+    says_the_cost : (taken_answer p.answer p.left).cost ≡ cost_of a (ran a before) p.bytes
+    unfolding answer_in
+    says_the_cost = foreseen.cost
+
+    writes_the_table : (taken_answer p.answer p.left).number ≡ 0 → p.left ≡ table_of next.run
+    unfolding answer_in
+    writes_the_table = foreseen.outcome
+
+    leaves_the_second : (taken_answer p.answer p.left).number ≢ 0 → p.left ≡ p.second
+    unfolding answer_in
+    leaves_the_second = foreseen.untouched
 
   forecasts : forecasts_in calls ≡ forecasts_by a (started a).run (readings_in calls)
   forecasts = claim.forecasts

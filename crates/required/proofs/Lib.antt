@@ -4,6 +4,7 @@ pub mod Demand3
 pub mod Forecast
 pub mod Early
 pub mod Cost
+pub mod Preview
 pub mod Monitors
 pub mod Rules
 pub mod Quotients

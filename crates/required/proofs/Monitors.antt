@@ -1,5 +1,5 @@
--- The checklist's six wrong monitors, and three that are wrong in the forecast that they tell, each shown to break the
--- contracts; and that no two answers of an entry mean the same.
+-- The checklist's six wrong monitors, three that are wrong in the forecast that they tell and three that preview
+-- wrongly, each shown to break the contracts; and that no two answers of an entry mean the same.
 use mathlib.Core.Path.{◌≡◌}
 use mathlib.Core.List.{List}
 use Prim.Native.Nat.{ℕ}
@@ -8,13 +8,15 @@ use lib.ListN.{get_or, set}
 use Rattle.csl.specs.Bytes.{le32}
 use Rattle.csl.specs.Check.{CheckAnswer, check_of}
 use Rattle.csl.specs.Entries.{ReadingAnswer, StartAnswer, forecast_of, no_breach, no_forecast, reading_of, start_of}
+use Rattle.csl.specs.Preview.{preview_of}
 use Rattle.csl.specs.Demand3.{Bytes}
 use Rattle.monitor.specs.Answers.{Checked, Started, TakenOrRefused, check_answer, start_answer, taken_answer}
 use Rattle.monitor.proofs.Apart.{checked_by, started_by, taken_by, check_told, start_told, reading_told}
-use Rattle.monitor.proofs.Apart.{Plain, reading_plain, start_plain}
+use Rattle.monitor.proofs.Apart.{Plain, preview_plain, reading_plain, start_plain}
 use Rattle.monitor.proofs.WrongMonitors.{refuses_all_lem, eleven_at_once, invented_units}
 use Rattle.monitor.proofs.WrongMonitors.{live_always, table_left_alone, works_at_the_first_reading}
 use Rattle.monitor.proofs.WrongMonitors.{none_always, refusals_told, table_before}
+use Rattle.monitor.proofs.WrongMonitors.{first_copied, refusal_written, refuses_all_previews, second_left_alone}
 
 module _ (check : List ℕ → CheckAnswer) (checks : (s : List ℕ) → check s ≡ check_of s)
     (start : List ℕ → List ℤ → StartAnswer) (starts : (s : List ℕ) (us : List ℤ) → start s us ≡ start_of s us)
@@ -65,6 +67,23 @@ module _ (reading : List ℕ → List ℤ → List ℕ → ReadingAnswer)
       → (reading s us r).forecast ≡ forecast_of s (reading s us r).table) → ⊥
   telling_refused = refusals_told reading reads
 
+-- paper 02, No. 6
+module _ (preview : List ℕ → List ℤ → List ℤ → List ℕ → ReadingAnswer)
+    (previews : (s : List ℕ) (us vs : List ℤ) (r : List ℕ) → preview s us vs r ≡ preview_of s us vs r) where
+  refusing_every_preview : ((s : List ℕ) (us vs : List ℤ) (r : List ℕ) → (preview s us vs r).number ≡ 0 → ⊥) → ⊥
+  refusing_every_preview = refuses_all_previews preview previews
+
+  writing_nothing : ((s : List ℕ) (us vs : List ℤ) (r : List ℕ) → (preview s us vs r).table ≡ vs) → ⊥
+  writing_nothing = second_left_alone preview previews
+
+  writing_the_first : ((s : List ℕ) (us vs : List ℤ) (r : List ℕ) → (preview s us vs r).number ≡ 0
+      → (preview s us vs r).table ≡ us) → ⊥
+  writing_the_first = first_copied preview previews
+
+  writing_refused : ((s : List ℕ) (us vs : List ℤ) (r : List ℕ)
+      → (preview s us vs r).table ≡ (reading_of s us r).table) → ⊥
+  writing_refused = refusal_written preview previews
+
 checks_apart : (r : Checked) → checked_by (check_answer r) ≡ r
 checks_apart = check_told
 
@@ -81,6 +100,10 @@ start_tells = start_plain
 reading_tells : (s : List ℕ) (us : List ℤ) (r : List ℕ) → Bytes r
     → Plain (reading_of s us r).number (reading_of s us r).forecast
 reading_tells = reading_plain
+
+preview_tells : (s : List ℕ) (us vs : List ℤ) (r : List ℕ) → Bytes r
+    → Plain (preview_of s us vs r).number (preview_of s us vs r).forecast
+preview_tells = preview_plain
 
 no_forecast_never : (n : ℕ) → Plain n no_forecast → ⊥
 no_forecast_never n h = h

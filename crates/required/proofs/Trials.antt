@@ -1,4 +1,4 @@
--- The trials that must be there: P1 to P15 by name, those of paper 02, Nos. 2, 8 and 9 by name, the second list, and
+-- The trials that must be there: P1 to P15 by name, those of paper 02, Nos. 2, 6, 8 and 9 by name, the second list, and
 -- that all pass.
 use mathlib.Core.Path.{◌≡◌, refl}
 use mathlib.Core.List.{List, [], ◌∷◌, map}
@@ -8,12 +8,14 @@ use Rattle.csl.proofs.Further.{further_pass}
 use Rattle.csl.proofs.Joined.{joined_pass}
 use Rattle.csl.proofs.TooEarly.{too_early_pass}
 use Rattle.csl.proofs.Costs.{costs_pass}
+use Rattle.csl.proofs.Previews.{previews_pass}
 use Rattle.csl.specs.Trials.{Trial, trials, p1to4, p5and6, p7, p8, p9, p10, p11, p12a, p12b, p13, p14}
 use Rattle.csl.specs.Trials.{p15, follows}
 use Rattle.csl.specs.Further.{further, obeys, shows}
 use Rattle.csl.specs.Joined.{joined_trials}
 use Rattle.csl.specs.TooEarly.{too_earlies, tells}
 use Rattle.csl.specs.Costs.{costing, costs, takes, lapses}
+use Rattle.csl.specs.Previews.{previewed, overwrites, keeps, misses}
 
 abbrev names : List Trial → List String
 names ts = map (λ t. t.name) ts
@@ -89,6 +91,29 @@ cost_names = refl
 
 costs_hold : map (λ t. t.shown) costing ≡ map (λ t. t.expected) costing
 costs_hold = costs_pass
+
+preview_names : names previewed
+    ≡ "a mark: only the time moves"
+    ∷ "a mark in the minute of the last reading: the first table, cell for cell"
+    ∷ "a reading that alters nothing" ∷ "a reading that alters: what lies ahead afterwards, not before"
+    ∷ "more units than before" ∷ "fewer units than before" ∷ "a late choice's else waits"
+    ∷ "a reading that comes too early" ∷ "a reading that fulfils" ∷ "a reading that breaches"
+    ∷ "a fulfilled table: only the time moves" ∷ "a breached table: the first table, cell for cell"
+    ∷ "refused with 1" ∷ "refused with 2" ∷ "refused with 3" ∷ "refused with 4" ∷ "refused with 5"
+    ∷ "refused with 6: the first table has a cell too few"
+    ∷ "refused with 6: the first table has one too many" ∷ "refused with 7: the first table is damaged"
+    ∷ "refused with 8" ∷ "refused with 9" ∷ "refused with 10" ∷ "refused with 10 on a fulfilled table"
+    ∷ "refused with 10 on a breached table" ∷ "refused with 11: its cost is told, and what lies ahead is not"
+    ∷ "6 by the second table" ∷ "6 by both tables" ∷ "6 on a breached table"
+    ∷ "6 where the reading comes too early" ∷ "1 before 6 by the second table" ∷ "2 before it" ∷ "3 before it"
+    ∷ "4 before it" ∷ "5 before it" ∷ "6 by the second table before 7" ∷ "before 8" ∷ "before 9" ∷ "before 10"
+    ∷ "before 11, and at no cost" ∷ "the reading itself afterwards, on the first table: the same answer"
+    ∷ "the second table then stands for the first: a preview of the mark after it, and that mark" ∷ []
+unfolding previewed overwrites keeps misses shows
+preview_names = refl
+
+previews_hold : map (λ t. t.shown) previewed ≡ map (λ t. t.expected) previewed
+previews_hold = previews_pass
 
 further_hold : map (λ t. t.shown) further ≡ map (λ t. t.expected) further
 further_hold = further_pass

@@ -1,1 +1,2 @@
 pub mod Settles
+pub mod Before

@@ -10,6 +10,8 @@ ghost use Rattle.cells.specs.Across.{nat_of};
 ghost use Rattle.residues.specs.Reduces.{bits_in};
 ghost use Rattle.settling.specs.Settles.{Settles, Whole, ended, gone_on, other_units};
 
+pub mod before;
+
 use cells::{HEAD_CELLS, LAST_MOVED, TABLE_CELLS, UNIT_CELLS};
 use kinds::RunState;
 use parties::Breach;

@@ -7,13 +7,14 @@ use std::iter::repeat_n;
 const MOST: usize = 65_535;
 
 // More cells than a table has.
-pub const MOST_CELLS: usize = 4096;
+const MOST_CELLS: usize = 4096;
 
 #[derive(Drop)]
 pub struct Given {
     pub agreement: ArrayVec<u8, MOST>,
     pub reading: ArrayVec<u8, MOST>,
     pub table: ArrayVec<i64, MOST>,
+    pub second: ArrayVec<i64, MOST>,
 }
 
 impl Given {
@@ -22,6 +23,7 @@ impl Given {
             agreement: ArrayVec::new(),
             reading: ArrayVec::new(),
             table: ArrayVec::new(),
+            second: ArrayVec::new(),
         }
     }
 
@@ -48,6 +50,16 @@ impl Given {
         if let Some(cell) = self.table.get_mut(place) {
             *cell = i64::from_le_bytes(value);
         }
+    }
+
+    pub fn take_second(&mut self) {
+        self.second.clear();
+        let _fits = self.second.try_extend_from_slice(self.table.as_slice());
+    }
+
+    // Whether neither table has more cells than a call is made on.
+    pub fn fits(&self) -> bool {
+        self.table.len() <= MOST_CELLS && self.second.len() <= MOST_CELLS
     }
 }
 

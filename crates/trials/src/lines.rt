@@ -1,6 +1,6 @@
 // The lines that are not yet written, and what they say.
 use crate::Entry;
-use crate::given::{Given, MOST_CELLS};
+use crate::given::Given;
 use arrayvec::ArrayVec;
 use monitor::{BreachAhead, Refusal, Refused, Taken};
 use std::io;
@@ -53,20 +53,20 @@ impl<W: Write> Lines<W> {
         self.text.write_all(b"\n")
     }
 
-    // A call's line. On a table with too many cells nothing is called, and it is empty.
+    // A call's line. With too many cells in a table nothing is called, and it is empty.
     pub fn put_call(&mut self, entry: Entry, given: &mut Given) -> io::Result<()> {
         self.make_room();
-        if given.table.len() <= MOST_CELLS {
+        if given.fits() {
+            let agreement = given.agreement.as_slice();
+            let table = given.table.as_mut_slice();
+            let reading = given.reading.as_slice();
             match entry {
-                Entry::Check => self.put_check(given.agreement.as_slice())?,
-                Entry::Start => {
-                    self.put_start(given.agreement.as_slice(), given.table.as_mut_slice())?
+                Entry::Check => self.put_check(agreement)?,
+                Entry::Start => self.put_start(agreement, table)?,
+                Entry::Reading => self.put_reading(agreement, table, reading)?,
+                Entry::Preview => {
+                    self.put_preview(agreement, table, reading, given.second.as_mut_slice())?
                 }
-                Entry::Reading => self.put_reading(
-                    given.agreement.as_slice(),
-                    given.table.as_mut_slice(),
-                    given.reading.as_slice(),
-                )?,
             }
         }
         self.text.write_all(b"\n")
@@ -89,28 +89,49 @@ impl<W: Write> Lines<W> {
         self.put_cells(table)
     }
 
-    // The number, the forecast, the mark `early`, the cost, and the cells.
+    // What a reading answers, and the cells.
     fn put_reading(
         &mut self,
         agreement: &[u8],
         table: &mut [i64],
         reading: &[u8],
     ) -> io::Result<()> {
-        match monitor::reading(agreement, table, reading) {
+        let taken = monitor::reading(agreement, table, reading);
+        self.text.write_all(b"reading")?;
+        self.put_taken(taken)?;
+        self.put_cells(table)
+    }
+
+    // What a preview answers, and the second table's cells.
+    fn put_preview(
+        &mut self,
+        agreement: &[u8],
+        table: &[i64],
+        reading: &[u8],
+        second: &mut [i64],
+    ) -> io::Result<()> {
+        let taken = monitor::preview(agreement, table, reading, second);
+        self.text.write_all(b"preview")?;
+        self.put_taken(taken)?;
+        self.put_cells(second)
+    }
+
+    // The number, the forecast, the mark `early` and the cost.
+    fn put_taken(&mut self, taken: Result<Taken, Refused>) -> io::Result<()> {
+        match taken {
             Ok(Taken { early, cost, ahead }) => {
                 let early = u8::from(early);
-                self.text.write_all(b"reading 0")?;
+                self.text.write_all(b" 0")?;
                 self.put_ahead(ahead)?;
-                write!(self.text, " {early} {cost}")?;
+                write!(self.text, " {early} {cost}")
             }
             Err(Refused { why, cost }) => {
                 let number = u32::from(why);
-                write!(self.text, "reading {number}")?;
+                write!(self.text, " {number}")?;
                 self.put_ahead(None)?;
-                write!(self.text, " 0 {cost}")?;
+                write!(self.text, " 0 {cost}")
             }
         }
-        self.put_cells(table)
     }
 
     // The time of the breach ahead and its parties by bit, or zeros where there is none.

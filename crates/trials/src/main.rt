@@ -1,8 +1,9 @@
-// Runs the calls on standard input through the three entries, and writes a line for each: its number and what came
+// Runs the calls on standard input through the four entries, and writes a line for each: its number and what came
 // back. Standard input is a list of steps, a byte each and what follows it (integers little-endian):
 // 1, an agreement, and 2, a reading: length (2 bytes) and bytes; 3, a table of zeros: length (2 bytes);
-// 4, a cell of it: place (2 bytes) and value (8 bytes); 5 to 7, a call of check, start or reading on what was given
-// last; 8, or any other byte, a name: length (2 bytes) and bytes. It takes the reading's place until the next.
+// 4, a cell of it: place (2 bytes) and value (8 bytes); 5 to 8, a call of check, start, reading or preview on what was
+// given last; 9, the table given last is a preview's second one from here on; 10, or any other byte, a name:
+// length (2 bytes) and bytes. It takes the reading's place until the next.
 // What the input cuts short is empty. There is no heap, so that memory cannot run out.
 #![tactic(auto)]
 
@@ -22,6 +23,7 @@ enum Step {
     Table,
     Cell,
     Call(Entry),
+    Second,
     Name,
 }
 
@@ -30,6 +32,7 @@ enum Entry {
     Check,
     Start,
     Reading,
+    Preview,
 }
 
 impl From<u8> for Step {
@@ -42,6 +45,8 @@ impl From<u8> for Step {
             5 => Step::Call(Entry::Check),
             6 => Step::Call(Entry::Start),
             7 => Step::Call(Entry::Reading),
+            8 => Step::Call(Entry::Preview),
+            9 => Step::Second,
             _ => Step::Name,
         }
     }
@@ -57,6 +62,7 @@ fn take<R: Read, W: Write>(step: Step, given: &mut Given, input: &mut R, lines: 
         Step::Call(entry) => {
             let _fits = lines.put_call(entry, given);
         }
+        Step::Second => given.take_second(),
         Step::Name => {
             given.take_reading(input);
             let _fits = lines.put_name(given.reading.as_slice());

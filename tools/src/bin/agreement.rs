@@ -20,6 +20,8 @@ usage: agreement check FILE                     what is wrong with the text of a
                                                 a table of 24,640 bytes in words
        agreement run [--json] [--cost] TEXT READINGS
                                                 what each reading did (and cost), what is ahead, how it ends
+       agreement run [--json] [--cost] --preview READING TEXT READINGS
+                                                the same, then what READING, in quotes, would do; it is not entered
        agreement run [--json] [--cost] --follow TEXT
                                                 the same of lines from standard input, as they come
        agreement run --records STREAM           the lines that brinewatch writes for a stream of records

@@ -43,11 +43,24 @@ impl<'s, W: Write> Teller<'s, W> {
 
     pub fn event(&mut self, event: &Event) -> Result<(), String> {
         let told = match self.form {
-            Form::Text => text::event(&self.words, event),
-            Form::Costs => text::event(&self.words, event) + &text::cost(event),
+            Form::Text | Form::Costs => self.in_words(event),
             Form::Json => format!("{}\n", objects::event(&self.words, event)),
         };
         self.write(&told)
+    }
+
+    /// What a reading would do, which is not entered.
+    pub fn preview(&mut self, event: &Event) -> Result<(), String> {
+        let told = match self.form {
+            Form::Text | Form::Costs => format!("\nPREVIEW, not entered\n{}", self.in_words(event)),
+            Form::Json => format!("{}\n", objects::preview(&self.words, event)),
+        };
+        self.write(&told)
+    }
+
+    fn in_words(&self, event: &Event) -> String {
+        let cost = if self.form == Form::Costs { text::cost(event) } else { String::new() };
+        text::event(&self.words, event) + &cost
     }
 
     pub fn ending(&mut self, ending: &Ending) -> Result<Status, String> {

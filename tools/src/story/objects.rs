@@ -27,6 +27,11 @@ pub fn event(words: &Words, event: &Event) -> Json {
     Json::Object(members)
 }
 
+/// A reading that is not entered: the event that it would be.
+pub fn preview(words: &Words, foreseen: &Event) -> Json {
+    Json::Object(vec![("preview", event(words, foreseen))])
+}
+
 /// What was read, and when.
 fn reading(words: &Words, event: &Event) -> Vec<(&'static str, Json)> {
     let (minutes, what) = (i64::from(event.time), Json::text(&event.what));

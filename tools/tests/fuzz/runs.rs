@@ -72,8 +72,18 @@ fn prepared(random: &mut Random, corpus: &Corpus) -> Prepared {
 
 /// What is written, and how it ends.
 fn written(source: &Source, readings: &[(usize, Reading)], form: Form) -> (String, Status) {
+    previewed(source, readings, None, form)
+}
+
+/// The same, and then what one more reading would do.
+fn previewed(
+    source: &Source,
+    readings: &[(usize, Reading)],
+    preview: Option<&Reading>,
+    form: Form,
+) -> (String, Status) {
     let mut output = Vec::new();
-    let status = told(source, "-", readings, form, &mut output).unwrap_or_else(|what| panic!("{what}"));
+    let status = told(source, "-", readings, preview, form, &mut output).unwrap_or_else(|what| panic!("{what}"));
     (String::from_utf8(output).expect("text"), status)
 }
 
@@ -101,6 +111,26 @@ pub fn run(random: &mut Random, corpus: &Corpus) -> bool {
     let watched = lines(&stream);
     let watched: Vec<&str> = watched.lines().filter_map(|line| line.split(' ').nth(2)).collect();
     assert_eq!(verdicts(&objects), watched);
+    true
+}
+
+/// What the last reading would do is what it does, and the story before it is as without it.
+pub fn preview(random: &mut Random, corpus: &Corpus) -> bool {
+    let Some((source, readings)) = prepared(random, corpus) else { return false };
+    let Some(((line, last), before)) = readings.split_last() else { return false };
+    let foreseen = |form| {
+        let ((without, status), (with, same)) =
+            (written(&source, before, form), previewed(&source, before, Some(last), form));
+        assert_eq!(status, same);
+        with.strip_prefix(&without).unwrap_or_else(|| panic!("{with}")).to_string()
+    };
+    // The last event, with the empty line behind it.
+    let event = foreseen(Form::Costs).replacen("\nPREVIEW, not entered\n", "", 1) + "\n";
+    assert!(written(&source, &readings, Form::Costs).0.contains(&event), "{event}");
+    let (objects, _) = written(&source, &readings, Form::Json);
+    let object = objects.lines().nth(readings.len()).expect("the last event");
+    let object = object.replacen(&format!("\"line\":{line},"), "\"line\":null,", 1);
+    assert_eq!(foreseen(Form::Json), format!("{{\"preview\":{object}}}\n"));
     true
 }
 

@@ -3,7 +3,7 @@
 use super::corpus::Corpus;
 use super::damage::{damaged, jumbled};
 use super::random::Random;
-use super::runs::{follow, picture, records, run, test};
+use super::runs::{follow, picture, preview, records, run, test};
 use tools::check::{check, Verdict};
 use tools::explain::Context;
 use tools::readings::readings;
@@ -11,12 +11,13 @@ use tools::{assemble, disassemble, explain};
 
 type Trial = fn(&mut Random, &Corpus) -> bool;
 
-pub const TRIALS: [(&str, Trial); 9] = [
+pub const TRIALS: [(&str, Trial); 10] = [
     ("text", text as Trial),
     ("record", record),
     ("lines", lines),
     ("table", table),
     ("run", run),
+    ("preview", preview),
     ("follow", follow),
     ("picture", picture),
     ("records", records),

@@ -12,16 +12,16 @@ pub foretell-requires : goal.foretell-requires
 foretell-requires c =
     let same = c.agreement-agreement.ensures.0 in
     let start = rw same at c.start.ensures.0 in
-    (c.requires, begun_shows c.requires [] c.told-table start (rw same at c.in-Ok.ensures) c.start.ensures.1)
+    (c.requires, begun_shows c.requires [] c.told-table start (rw same at c.in-Ok.ensures.leads) c.start.ensures.1)
 
 pub returns-in-Ok : goal.returns-in-Ok
 returns-in-Ok c =
     let same = c.agreement-agreement.ensures.0 in
     let start = rw same at c.start.ensures.0 in
-    begun_told c.requires [] c.told-table start (rw same at c.in-Ok.ensures) c.foretell.result c.foretell.ensures
+    begun_told c.requires [] c.told-table start (rw same at c.in-Ok.ensures.leads) c.foretell.result c.foretell.ensures
 
 pub returns-in-Err : goal.returns-in-Err
 returns-in-Err c =
     let same = c.agreement-agreement.ensures.0 in
     let start = rw same at c.start.ensures.0 in
-    begun_refused c.requires [] c.told-table start (rw same at c.in-Err.ensures)
+    begun_refused c.requires [] c.told-table start (rw same at c.in-Err.ensures.leads) c.in-Err.ensures.untouched

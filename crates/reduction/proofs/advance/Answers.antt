@@ -15,12 +15,16 @@ kept c = elim c.if-used-le-FEW_UNITS.branch [
 ]
 
 pub returns-in-Err : goal.returns-in-Err
-returns-in-Err c =
-    tried_over c.in-Err.ensures _ (omega (arith, c.if-short-gt-MOST_UNITS.true)) (ap (λ many. many.cost) c.into.ensures)
+returns-in-Err c = record {
+  leads = tried_over c.in-Err.ensures _ (omega (arith, c.if-short-gt-MOST_UNITS.true))
+      (ap (λ many. many.cost) c.into.ensures);
+  untouched = c.in-Err.ensures.kept;
+}
 
 pub returns-in_err-advance_in : goal.returns-in_err-advance_in
 returns-in_err-advance_in c =
     let short = c.in_err-advance_in.ensures in
+    let lent = kept (goal.at.returns-in_err-advance_in c).Joined-used-le-FEW_UNITS in
     let p = err_from_is_err_and c.from_residual.result c.from_residual.ensures.1 in
     let over = tried_over short c.args.time (omega (arith, short.less)) (ap (λ many. many.cost) p.2) in
-    rw p.1 (rw (kept (goal.at.returns-in_err-advance_in c).Joined-used-le-FEW_UNITS) at over)
+    rw p.1 (record { leads = rw lent at over; untouched = short.kept ∙ lent })
