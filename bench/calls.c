@@ -1,7 +1,7 @@
 /*
- * The calls that bench/calls counts, each in a function of its own: the start of a stream's agreement, its last
- * reading, after all readings before it, and the preview of that reading on the same table. Prints what the last one
- * answered.
+ * The calls that bench/calls counts, each in a function of its own: the check of a stream's agreement, its start, its
+ * last reading, after all readings before it, and the preview of that reading on the same table. Prints what the last
+ * one answered.
  *     calls STREAM
  */
 #include "givuntha.h"
@@ -31,6 +31,11 @@ static void reading(size_t agreement, size_t from, size_t to)
                               &early, &cost);
 }
 
+__attribute__((noinline)) void counted_check(size_t agreement)
+{
+    number = givuntha_check(bytes, agreement, &parties);
+}
+
 __attribute__((noinline)) void counted_start(size_t agreement)
 {
     start(agreement);
@@ -56,6 +61,7 @@ int main(int count, char **arguments)
     }
     size_t size = fread(bytes, 1, sizeof bytes, stream);
     size_t agreement = record_end(0, size), from = agreement, to;
+    counted_check(agreement);
     counted_start(agreement);
     while ((to = record_end(from, size)) < size) {
         reading(agreement, from, to);

@@ -10,17 +10,24 @@ from records import NIL, agreement, either, instructions, lit, owes, program, re
 TRIALS = program("trials")
 
 
-def bodies(size, make, party=0):
-    """Four templates for each 2,048 bytes, with bodies that fill them: make(n) is a clause of n parts."""
+def bodies(size, make, party=0, need=None):
+    """Four templates for each 2,048 bytes, with bodies that fill them: make(n) is a clause of n parts, and need(n) what
+    it needs, where the agreement is to be sized."""
     count = 4 * size // 2048
     room = (2048 - len(agreement(owes()))) // 4
-    n = max(n for n in range(1, 200) if len(template(make(n))) <= room)
-    return agreement(owes(), [template(make(n), 1 << party)] * count, max(2, party + 1))
+    filled = lambda n: template(make(n), 1 << party, units=need and need(n))
+    n = max(n for n in range(1, 50) if len(filled(n)) <= room)
+    return agreement(owes(), [filled(n)] * count, max(2, party + 1))
 
 
 def clauses(size):
     """Small clauses: obligations joined by `and`."""
     return bodies(size, lambda n: tree(n, owes()))
+
+
+def sized(size):
+    """The same in a sized agreement (paper 02, No. 7): n obligations and the joins between them."""
+    return bodies(size, lambda n: tree(n, owes()), need=lambda n: 2 * n - 1)
 
 
 def alternatives(size):
@@ -42,6 +49,14 @@ def hostile(n):
     return agreement(c)
 
 
+def deep_and_sized():
+    """A body as deep as it may be, and so deep a need."""
+    body = NIL
+    for _ in range(21):
+        body = rec(20, NIL + body)
+    return agreement(owes(), [template(body, units=21)])
+
+
 def stream(*agreements): return b"".join(b"\x01" + u2(len(a)) + a + b"\x05" for a in agreements)
 
 
@@ -58,7 +73,8 @@ def least_stack(data):
 
 def main():
     base = instructions(TRIALS, stream())
-    kinds = {"small clauses": clauses, "small clauses joined by `or`": alternatives, "expressions": expressions}
+    kinds = {"small clauses": clauses, "small clauses, sized": sized, "small clauses joined by `or`": alternatives,
+             "expressions": expressions}
     for name, make in kinds.items():
         counts = []
         for size in (2048, 4096, 8192, 16384):
@@ -72,6 +88,7 @@ def main():
     for _ in range(22):
         deepest = rec(20, deepest + NIL)
     print(f"stack on a valid agreement 24 deep: {least_stack(stream(agreement(deepest)))} KB")
+    print(f"stack on a sized agreement 24 deep: {least_stack(stream(deep_and_sized()))} KB")
     print(f"stack on a hostile agreement of 16,000 bytes: {least_stack(stream(hostile(16000)))} KB")
 
 

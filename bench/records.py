@@ -21,7 +21,12 @@ def owes(then=NIL, within=60, where=YES, party=0, after=0):
 
 def both(a, b): return rec(20, a + b)
 def either(a, b): return rec(21, a + b)
-def template(body, declared=1, types=()): return rec(3, bytes([len(types), *types, 0]) + u2(declared) + body)
+
+
+def template(body, declared=1, types=(), units=None):
+    """Of kind 4 where it declares units."""
+    head = bytes([len(types), *types, 0]) + u2(declared)
+    return rec(3, head + body) if units is None else rec(4, head + bytes([units]) + body)
 
 
 def tree(n, leaf, join=both):

@@ -6,10 +6,10 @@
  * entered. The last three tell the forecast too, of the table that they write. Times are in minutes. A set of parties
  * is a number in which bit n stands for party n; parties count from 0 and there are at most 16.
  *
- * Answers. Every function answers GIVUNTHA_ACCEPTED (0) or the number of a refusal, the lowest that applies. A
- * refusal leaves every table as it was and sets the other results to 0, all but one: the cost of a reading that is
- * refused with GIVUNTHA_UNITS (11), in a preview too. No call relies on an earlier one: whatever bytes and cells are
- * lent, each is judged anew.
+ * Answers. Every function answers GIVUNTHA_ACCEPTED (0) or the number of a refusal, the first that applies in the order
+ * of enum givuntha_answer: the lowest, but that 15 comes after 5 and before 6. A refusal leaves every table as it was
+ * and sets the other results to 0, all but one: the cost of a reading that is refused with GIVUNTHA_UNITS (11), in a
+ * preview too. No call relies on an earlier one: whatever bytes and cells are lent, each is judged anew.
  *
  * What the caller owes:
  * - No pointer is null, not even one of length 0: lend any aligned address.
@@ -43,13 +43,14 @@ extern "C" {
 #define GIVUNTHA_VERSION (GIVUNTHA_VERSION_MAJOR * 10000 + GIVUNTHA_VERSION_MINOR * 100 + GIVUNTHA_VERSION_PATCH)
 uint32_t givuntha_version(void);
 
-/* The answers. check gives 0 to 5; start 0 to 6 and 11; reading and preview all. */
+/* The answers, in their order. check gives 0 to 5 and 15; start these, 6 and 11; reading and preview all. */
 enum givuntha_answer {
     GIVUNTHA_ACCEPTED = 0,
     /* agreement under 4 or over 16,384 bytes, or not as long as its length says */
     GIVUNTHA_AGREEMENT_LENGTH = 1,
     /* record, count, type byte or nesting (at most 24 deep) not as the format has it, or an instance naming no
-     * template; 1 to 16 parties, 1 to 16 reading types, 0 to 32 templates */
+     * template; 1 to 16 parties, 1 to 16 reading types, 0 to 32 templates, which are all of kind 3 or all of kind 4,
+     * with at most 128 units each */
     GIVUNTHA_AGREEMENT_FORM = 2,
     /* not typed; name, literal, blame or declared party out of range; over 16 values in sight */
     GIVUNTHA_AGREEMENT_TYPING = 3,
@@ -57,6 +58,9 @@ enum givuntha_answer {
     GIVUNTHA_AGREEMENT_GUARDS = 4,
     /* main clause, template body or `then` of width over 256 */
     GIVUNTHA_AGREEMENT_WIDTH = 5,
+    /* in a sized agreement: a template's body needs more units than it declares, or the main clause more than
+     * GIVUNTHA_TABLE_UNITS */
+    GIVUNTHA_AGREEMENT_SIZE = 15,
     /* table not GIVUNTHA_TABLE_CELLS long; of a preview's two, either */
     GIVUNTHA_TABLE_LENGTH = 6,
     /* table breaks its layout or typing, the time it last moved or a waiting unit was activated outside start to last
@@ -70,7 +74,7 @@ enum givuntha_answer {
     GIVUNTHA_READING_TYPING = 9,
     /* time below the last reading time; equal times are accepted */
     GIVUNTHA_READING_TIME = 10,
-    /* what is left to wait for needs over 128 units */
+    /* what is left to wait for needs over 128 units; a run of a sized agreement never comes to that */
     GIVUNTHA_UNITS = 11
 };
 
@@ -84,6 +88,7 @@ static inline const char *givuntha_words(uint32_t answer)
     case GIVUNTHA_AGREEMENT_TYPING: return "the agreement is not well typed";
     case GIVUNTHA_AGREEMENT_GUARDS: return "a template names itself or a later one unguarded";
     case GIVUNTHA_AGREEMENT_WIDTH: return "a clause of the agreement is too wide";
+    case GIVUNTHA_AGREEMENT_SIZE: return "the sized agreement needs more units than it declares, or more than 128";
     case GIVUNTHA_TABLE_LENGTH: return "the table's length is wrong";
     case GIVUNTHA_TABLE_CONTENT: return "the table is damaged, or not of this agreement";
     case GIVUNTHA_READING_FORM: return "the reading is not well formed";
@@ -96,6 +101,13 @@ static inline const char *givuntha_words(uint32_t answer)
 
 /* The longest agreement. */
 #define GIVUNTHA_AGREEMENT_BYTES 16384
+
+/*
+ * An agreement is sized if it has a template and all its templates are of kind 4, which declare the units that an
+ * instance needs. Where such an agreement is accepted, its start is never refused with GIVUNTHA_UNITS, nor is a reading
+ * or preview of a table that came from its start; of a table that came from elsewhere this is not said. No answer tells
+ * whether an agreement is sized: the kind of its first template does.
+ */
 
 /*
  * A reading is one record, integers little-endian: its length in bytes (2 bytes), kind 64 (2), time (4, unsigned),

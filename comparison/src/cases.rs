@@ -1,5 +1,6 @@
-//! Agreements, tables and readings to measure.
+//! Agreements, tables and readings to measure, and the stream that makes each of them.
 
+use crate::size::Template;
 use reference::agreement::{Operator, Type};
 use reference::build::*;
 use reference::{entries, CELLS};
@@ -8,6 +9,8 @@ use reference::{entries, CELLS};
 pub struct Case {
     pub name: String,
     pub agreement: Vec<u8>,
+    /// The readings of the run before that one.
+    pub before: Vec<u8>,
     pub table: Vec<i64>,
     pub reading: Vec<u8>,
 }
@@ -24,7 +27,12 @@ impl Case {
             let taken = entries::reading(&agreement, &mut table, earlier);
             assert_eq!(taken.number, 0, "{name}: an earlier reading");
         }
-        Case { name: name.to_string(), agreement, table, reading }
+        Case { name: name.to_string(), agreement, before: before.concat(), table, reading }
+    }
+
+    /// What `brinewatch` reads to take this reading last.
+    pub fn stream(&self) -> Vec<u8> {
+        [&self.agreement[..], &self.before, &self.reading].concat()
     }
 
     /// 64 units at choices, given a reading of type 2 that finds all of them late.
@@ -44,6 +52,7 @@ pub fn all() -> Vec<Case> {
     cases.push(expressions(768));
     cases.extend(unit_cases());
     cases.push(activations(128, 128));
+    cases.extend([sized_clauses(32), too_small(), deep(), chained()]);
     cases
 }
 
@@ -65,11 +74,55 @@ fn sample_cases() -> Vec<Case> {
 
 /// Templates of 14 obligations each, 16 KB where there are 32; the main clause is one obligation.
 pub fn small_clauses(templates: usize) -> Case {
-    let body = tree(14, &simple(60).obligation(0));
-    let templates = vec![template(&[], 0, 1, &body); templates];
-    let main = simple(LONG).obligation(0);
-    let bytes = agreement(100, 2, &[reading_type(&[])], &templates, &main);
-    Case::after(&format!("small clauses, {} bytes", bytes.len()), bytes, &[], reading(110, 0, &[]))
+    waits_on("small clauses", of_templates(&vec![template(&[], 0, 1, &fourteen()); templates]))
+}
+
+/// The same with units (paper 02, No. 7), as many as each body needs.
+pub fn sized_clauses(templates: usize) -> Case {
+    waits_on("sized clauses", of_templates(&vec![sized(27, fourteen()); templates]))
+}
+
+/// The last body needs one unit more than it has.
+fn too_small() -> Case {
+    let mut templates = vec![sized(27, fourteen()); 32];
+    templates[31] = sized(26, fourteen());
+    let agreement = of_templates(&templates);
+    let name = "sized clauses, refused with 15".to_string();
+    Case { name, agreement, before: Vec::new(), table: vec![0; CELLS], reading: reading(110, 0, &[]) }
+}
+
+/// Templates whose clauses nest as deep as records may.
+fn deep() -> Case {
+    let body = (3..24).fold(fulfilled(), |inner, _| and(&fulfilled(), &inner));
+    waits_on("sized clauses, 24 deep", of_templates(&vec![sized(21, body); 32]))
+}
+
+/// P15 as a sized agreement, after six fitting readings: template n is an obligation then two of template n - 1.
+fn chained() -> Case {
+    let mut templates = vec![sized(1, simple(LONG).obligation(0))];
+    for n in 0..6 {
+        let again = instance(n, &[], &[]);
+        let wait = Wait { then: and(&again, &again), ..simple(LONG) };
+        templates.push(sized((4 << n) - 1, wait.obligation(0)));
+    }
+    let bytes = agreement(100, 2, &[reading_type(&[])], &templates, &instance(6, &[], &[]));
+    Case::after("127 units, sized, waits", bytes, &vec![reading(105, 1, &[]); 6], reading(110, 0, &[]))
+}
+
+fn sized(units: usize, body: Vec<u8>) -> Vec<u8> {
+    Template { units: Some(units), ..Template::new(body) }.bytes()
+}
+
+fn fourteen() -> Vec<u8> {
+    tree(14, &simple(60).obligation(0))
+}
+
+fn of_templates(templates: &[Vec<u8>]) -> Vec<u8> {
+    agreement(100, 2, &[reading_type(&[])], templates, &simple(LONG).obligation(0))
+}
+
+fn waits_on(what: &str, agreement: Vec<u8>) -> Case {
+    Case::after(&format!("{what}, {} bytes", agreement.len()), agreement, &[], reading(110, 0, &[]))
 }
 
 /// One obligation whose condition adds up so many pairs of values, 16 KB where there are 768.
@@ -169,7 +222,7 @@ fn mixed(pairs: usize, level: usize) -> Vec<u8> {
 }
 
 /// So many leaves joined by `and`, in balance.
-fn tree(leaves: usize, leaf: &[u8]) -> Vec<u8> {
+pub fn tree(leaves: usize, leaf: &[u8]) -> Vec<u8> {
     match leaves {
         1 => leaf.to_vec(),
         _ => and(&tree(leaves / 2, leaf), &tree(leaves - leaves / 2, leaf)),

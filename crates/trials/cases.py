@@ -1877,3 +1877,195 @@ foresees((170, 1), 2, data, table, level(110, 7), outcome, seconds=[ZEROS])
 tells((170, 1), 2, data, table, level(110, 7), outcome)
 foresees((170, 1), 1, data, outcome, event(171), shown(171, 170, 1), seconds=[outcome])
 tells((170, 1), 1, data, outcome, event(171), shown(171, 170, 1))
+
+# paper 02, No. 7. Each need is written out; what is declared or allowed is just that, and then a unit less or more
+TWO_OWE = both(simply(0, 60), simply(1, 60))  # needs 3
+
+
+def sized_beside(units, body, *others): return agreement(NIL, [*others, sized(units, body, declared=3)])
+def one_unit(clause): return sized(1, clause, declared=1)
+
+
+def limit(need, body, *others):
+    """The last template's body fits what it needs, and no less."""
+    accepts(0, sized_beside(need, body, *others))
+    refuses(15, sized_beside(need - 1, body, *others))
+
+
+def refused_by_all(number, data):
+    """By each entry, also where each table is as long as it must be, shows a run, and a reading is whole."""
+    refuses(number, data)
+    for table in (ZEROS, ZEROS[:3079], running(100, [unit(SAMPLE, SAMPLE[17:])])):
+        stays(number, data, table)
+        for r in ([], event(110, 9), level(99), level(110), event(110)):
+            declines(number, data, table, r)
+            foresees_nothing(number, data, table, r, seconds=SECONDS[:1] + MISFITS[:1])
+
+
+cause("15: fulfilled needs nothing, nor does an if of two fulfilled, nor an instance of what declares nothing")
+accepts(0, sized_beside(0, NIL))
+accepts(0, sized_beside(0, cond(YES, NIL, NIL)))
+accepts(0, sized_beside(0, inst(0), sized(0, NIL)))
+cause("15: an obligation needs 1, or what its `then` does")
+limit(1, owes())
+limit(3, then_is(TWO_OWE))
+cause("15: a choice needs 1, or what its `then` or its else does")
+limit(1, may())
+limit(3, may(then=TWO_OWE, other=OWES))
+limit(3, may(then=OWES, other=TWO_OWE))
+limit(3, may(then=TWO_OWE, other=TWO_OWE))
+cause("15: an if needs what the larger of its clauses does, be it followed or not")
+limit(3, cond(YES, TWO_OWE, OWES))
+limit(3, cond(YES, OWES, TWO_OWE))
+limit(3, cond(truth(0), TWO_OWE, TWO_OWE))
+cause("15: `and` and `or` need 1 and both together, though one fulfilled side is dropped")
+for join, _ in JOINS:
+    limit(1, join(NIL, NIL))
+    limit(2, join(OWES, NIL))
+    limit(2, join(NIL, OWES))
+    limit(5, join(OWES, join(OWES, OWES)))
+    limit(5, join(join(OWES, OWES), OWES))
+cause("15: an instance needs what its template declares, not what its body does")
+limit(7, inst(0), sized(7, OWES, declared=1))
+limit(5, inst(1), sized(7, OWES, declared=1), sized(5, OWES, declared=1))
+limit(13, both(inst(0), inst(1)), sized(7, OWES, declared=1), sized(5, OWES, declared=1))
+cause("15: so it does where it begins anew: behind a reading all that is declared, beside itself more than that")
+limit(1, then_is(inst(0)))
+for u in (2, 127, 128):
+    accepts(0, sized_beside(u, then_is(inst(0))))
+for u in (1, 2, 127, 128):
+    refuses(15, sized_beside(u, then_is(both(inst(0), NIL))))
+cause("15: P15's template, with units: no number of units is enough")
+refuses(15, agreement(inst(0), [sized(0, owes(then=both(inst(0), inst(0))), declared=1)]))
+refuses(15, agreement(inst(0), [sized(1, owes(then=both(inst(0), inst(0))), declared=1)]))
+refuses(15, agreement(inst(0), [sized(128, owes(then=both(inst(0), inst(0))), declared=1)]))
+cause("15: more declared than is needed is accepted")
+accepts(0, sized_beside(128, NIL))
+accepts(1, agreement(OWES, [sized(128, NIL)]))
+cause("15: the main clause: 128 is accepted, 129 is not; by an instance, by joins, by what is not followed")
+accepts(0, agreement(inst(0), [sized(128, NIL)]))
+refuses(15, agreement(both(inst(0), NIL), [sized(128, NIL)]))
+accepts(0, agreement(either(inst(0), inst(1)), [sized(64, NIL), sized(63, NIL)]))
+refuses(15, agreement(either(inst(0), inst(1)), [sized(64, NIL), sized(64, NIL)]))
+accepts(1, agreement(then_is(inst(0)), [sized(128, NIL)]))
+refuses(15, agreement(then_is(both(NIL, inst(0))), [sized(128, NIL)]))
+refuses(15, agreement(may(then=inst(0), other=both(inst(0), NIL)), [sized(128, NIL)]))
+refuses(15, agreement(cond(YES, NIL, both(inst(0), NIL)), [sized(128, NIL)]))
+cause("15: 64 instances of one unit are 127, 65 are 129")
+accepts(1, agreement(many(64), [one_unit(OWES)]))
+refuses(15, agreement(many(65), [one_unit(OWES)]))
+cause("15: by every entry, before 6 to 11: a body of a template that nothing names, and the main clause")
+refused_by_all(15, agreement(OWES, [one_unit(OWES), sized(2, TWO_OWE, declared=3)]))
+refused_by_all(15, agreement(OWES, [sized(2, TWO_OWE, declared=3), one_unit(OWES)]))
+refused_by_all(15, agreement(many(65), [one_unit(OWES)]))
+cause("15: 2, 3, 4 and 5 before it, by every entry")
+refused_by_all(2, sized_beside(0, OWES + NIL))
+refused_by_all(3, sized_beside(0, asking(ONE)))
+refused_by_all(4, sized_beside(0, OWES, sized(0, inst(0))))
+refused_by_all(5, agreement(nothings(129), [sized(0, OWES, declared=1)]))
+cause("2: units of 128, of 129 and of 255; behind values and parameters too")
+accepts(0, sized_beside(128, NIL))
+accepts(0, beside(sized(128, NIL, [1] * 8, 4)))
+for u in (129, 255):
+    refused_by_all(2, sized_beside(u, NIL))
+    refuses(2, beside(sized(u, NIL, [1] * 8, 4)))
+    refuses(2, sized_beside(0, NIL, sized(u, NIL)))
+cause("2: kinds 3 and 4 mixed: either first, one among many")
+refused_by_all(2, agreement(NIL, [template(NIL), sized(1, NIL)]))
+refused_by_all(2, agreement(NIL, [sized(1, NIL), template(NIL)]))
+refuses(2, agreement(NIL, [sized(1, NIL)] * 31 + [template(NIL)]))
+refuses(2, agreement(NIL, [template(NIL)] * 15 + [sized(1, NIL)] + [template(NIL)] * 16))
+accepts(0, agreement(NIL, [sized(1, NIL)] * 32))
+refuses(2, agreement(NIL, [sized(1, NIL)] * 33))
+cause("2: kind 5, laid out as kind 3 and as kind 4; kind 260; each layout under the other's kind")
+refuses(2, beside(rec(5, cat([0, 0], u2(0), NIL))))
+refuses(2, beside(rec(5, cat([0, 0], u2(0), [1], NIL))))
+refuses(2, beside(rec(260, cat([0, 0], u2(0), [1], NIL))))
+refuses(2, beside(rec(4, cat([0, 0], u2(0), NIL))))
+refuses(2, beside(rec(3, cat([0, 0], u2(0), [1], NIL))))
+cause("2: of kind 4 as of kind 3: 9 values, 5 parameters, a type byte, no clause, two, one cut short, 25 deep")
+refuses(2, beside(sized(1, NIL, [1] * 9)))
+refuses(2, beside(sized(1, NIL, [], 5)))
+refuses(2, beside(sized(1, NIL, [1, 0])))
+refuses(2, beside(sized(1, NIL, [4])))
+refuses(2, beside(sized(1, [])))
+refuses(2, beside(rec(4, cat([0, 0], u2(0)))))
+refuses(2, beside(sized(1, NIL + NIL)))
+refuses(2, beside(sized(1, NIL[:3])))
+refuses(2, beside(sized(1, cat(NIL, [0]))))
+accepts(0, beside(sized(21, chained(21))))
+refuses(2, beside(sized(22, chained(22))))
+cause("3: of kind 4 as of kind 3: a body is typed, and what it declares counts")
+refuses(3, beside(sized(1, simply(1, 60), declared=1)))
+refuses(3, beside(sized(1, NIL, declared=4)))
+accepts(3, agreement(inst(0), [sized(1, NIL, declared=3)]))
+refuses(3, agreement(either(inst(0), NIL), [sized(1, NIL, declared=3)]))
+cause("of kind 3, and without templates, as before: no need is asked, and 129 units are 11")
+accepts(0, beside(template(shared(OWES, 65), declared=1)))
+for data in (agreement(many(65), [template(OWES, declared=1)]), agreement(shared(OWES, 65))):
+    accepts(1, data)
+    stays(11, data, ZEROS)
+
+# a number, a party and a parameter before the units
+ASKS_OF, OWES_BY = owes(128, where=op(43, var(1), party(1))), owes(0, within=var(0))
+
+
+def lends(units):
+    return agreement(inst(0, [lit(30), party(1)], [1]), [sized(units, both(ASKS_OF, OWES_BY), [1, 3], 1, 1)])
+
+
+LENT = running(100, [joining(20), *(unit(lends(3), c, 100, [1], [30, 1]) for c in (ASKS_OF, OWES_BY))])
+cause("units behind values and a parameter: a need of 3, the places, what is in sight, the breach")
+accepts(3, lends(3))
+refuses(15, lends(2))
+opens((130, 1), lends(3), LENT)
+tells(NOTHING, 3 + 2, lends(3), LENT, level(130), fulfilled(130, 130))
+tells((130, 1), 3, lends(3), LENT, event(131), shown(131, 130, 1))
+foresees((130, 1), 3, lends(3), LENT, event(110), altered(1, 110, LENT))
+for i in (-1, 1):
+    tells_nothing(7, 0, lends(3), altered(cell(1, 1), LENT[cell(1, 1)] + i, LENT), event(110))
+cause("units behind eight values and four parameters, in a second template")
+LAST = owes(131, within=var(7))
+data = agreement(inst(1, [lit(i) for i in range(8)], [0, 1, 0, 1]),
+                 [sized(9, NIL, [1] * 3, 2), sized(1, LAST, [1] * 8, 4)])
+accepts(3, data)
+opens((107, 2), data, running(100, [unit(data, LAST, 100, [0, 1, 0, 1], range(8))]))
+
+# 64 obligations and the 63 joins of them are 127 units; no table has 128, since each join has two sides
+FILLS = agreement(then_is(inst(1)), [one_unit(OWES), sized(127, many(64), declared=1)])
+RENEWS = agreement(many(64), [one_unit(then_is(inst(0)))])
+JUST_128 = agreement(both(inst(1), inst(0)), [one_unit(OWES), sized(126, many(63), declared=1)])
+
+
+def filled(data, clause, a): return running(a, wide(64, unit(data, clause, a)), a)
+
+
+cause("sized: a run that comes to its whole need by a reading, 127 units; it is fulfilled, or breached")
+FILLS_NEXT = running(100, [unit(FILLS, then_is(inst(1)))])
+accepts(1, FILLS)
+opens((160, 1), FILLS, FILLS_NEXT)
+tells((170, 1), 1 + (1 + 63 + 64 * 2), FILLS, FILLS_NEXT, level(110), filled(FILLS, OWES, 110))
+tells(NOTHING, 127 + 64, FILLS, filled(FILLS, OWES, 110), level(120), fulfilled(120, 120))
+tells((170, 1), 127, FILLS, filled(FILLS, OWES, 110), event(171), shown(171, 170, 1))
+foresees((170, 1), 1 + (1 + 63 + 64 * 2), FILLS, FILLS_NEXT, level(110), filled(FILLS, OWES, 110))
+cause("sized: a run that keeps its whole need, reading by reading")
+accepts(1, RENEWS)
+opens((160, 1), RENEWS, filled(RENEWS, then_is(inst(0)), 100))
+for a in (100, 110, 160):
+    tells((a + 70, 1), 127 + 64 * 2, RENEWS, filled(RENEWS, then_is(inst(0)), a), level(a + 10),
+          filled(RENEWS, then_is(inst(0)), a + 10))
+cause("sized: a main clause that needs 128 begins with 127 units; with a unit more declared it is 15")
+accepts(1, JUST_128)
+opens((160, 1), JUST_128, running(100, [
+    joining(20), *spread(lambda a, b: [joining(20), *a, *b], [[unit(JUST_128, OWES)]] * 63), unit(JUST_128, OWES)]))
+refuses(15, agreement(both(inst(1), inst(0)), [one_unit(OWES), sized(127, many(63), declared=1)]))
+cause("sized: the same templates of kind 3 are accepted with a unit more, and begin with 11")
+BESIDE_63 = agreement(both(inst(1), inst(0)), [template(OWES, declared=1), template(many(64), declared=1)])
+accepts(1, BESIDE_63)
+stays(11, BESIDE_63, ZEROS)
+refuses(15, agreement(both(inst(1), inst(0)), [one_unit(OWES), sized(128, many(64), declared=1)]))
+cause("sized: a table that no run reaches may need more: 11 by a reading all the same")
+TWO_GROW = agreement(then_is(inst(0)), [sized(3, both(OWES, OWES), declared=1)])
+MANY_GROW = running(100, wide(64, unit(TWO_GROW, then_is(inst(0)))))
+tells_nothing(11, 127 + 64 * (1 + 3), TWO_GROW, MANY_GROW, level(110))
+foresees_nothing(11, TWO_GROW, MANY_GROW, level(110), 127 + 64 * (1 + 3))

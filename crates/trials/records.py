@@ -44,6 +44,11 @@ def template(body, types=(), params=0, declared=0, count=None):
     return rec(3, bytes([len(types) if count is None else count, *types, params]) + u2(declared) + bytes(body))
 
 
+def sized(units, body, types=(), params=0, declared=0):
+    """Kind 4, with its units behind the declared parties: paper 02, No. 7."""
+    return rec(4, bytes([len(types), *types, params]) + u2(declared) + bytes([units]) + bytes(body))
+
+
 def agreement(main, templates=(), readings=(reading(1),), parties=2, counts=None, kind=1):
     n, m = counts if counts else (len(readings), len(templates))
     return rec(kind, u4(100) + bytes([parties, n, m]) + b"".join(readings) + b"".join(templates) + bytes(main))

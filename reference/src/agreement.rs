@@ -12,6 +12,8 @@ const LONGEST: usize = 16_384;
 const DEEPEST: u32 = 24;
 /// The length and the kind that every record begins with.
 const HEAD: usize = 4;
+/// Paper 02, No. 7: "its units, 0 to 128".
+pub const MOST_UNITS: u8 = 128;
 
 /// "Types are number, truth and party."
 #[derive(Clone, Copy, Debug, PartialEq, Eq)]
@@ -46,7 +48,16 @@ pub struct Agreement {
     pub main: Clause,
 }
 
-/// Kind 3.
+impl Agreement {
+    /// The units that the templates of a sized agreement declare; none if it is not sized. Paper 02,
+    /// No. 7: "An agreement whose templates are all of kind 4, and which has at least one, is sized."
+    pub fn declared_units(&self) -> Option<Vec<u8>> {
+        let units: Option<Vec<u8>> = self.templates.iter().map(|template| template.head.units).collect();
+        units.filter(|units| !units.is_empty())
+    }
+}
+
+/// Kinds 3 and 4.
 #[derive(Debug)]
 pub struct Template {
     pub head: Head,
@@ -60,6 +71,8 @@ pub struct Head {
     pub parameters: u8,
     /// "declared parties (2 bytes, bit n for party n)"
     pub declared: u16,
+    /// Of kind 4: its units.
+    pub units: Option<u8>,
 }
 
 /// Kinds 16 to 22.
@@ -152,10 +165,11 @@ pub fn parse(bytes: &[u8]) -> Result<Agreement, Refusal> {
     let mut heads = Vec::new();
     let mut bodies = Vec::new();
     for _ in 0..template_count {
-        let mut template = body.record_of(3)?;
-        heads.push(head(&mut template)?);
+        let (kind, mut template) = body.record()?;
+        heads.push(head(kind, &mut template)?);
         bodies.push(template);
     }
+    all_of_one_kind(&heads)?;
     let main = clause(&mut body, &heads)?;
     body.end()?;
     let bodies = bodies.into_iter().map(|part| template_body(part, &heads)).collect::<Result<Vec<_>, _>>()?;
@@ -183,13 +197,30 @@ fn reading_type(part: &mut Part) -> Result<Vec<Type>, Refusal> {
 }
 
 /// "3 template: value count 0 to 8 and their types, party parameter count 0 to 4, declared
-/// parties (2 bytes, bit n for party n), one clause."
-fn head(body: &mut Part) -> Result<Head, Refusal> {
+/// parties (2 bytes, bit n for party n), one clause." Paper 02, No. 7: "Template kind 4 is kind 3
+/// with a byte after the declared parties: its units, 0 to 128."
+fn head(kind: u16, body: &mut Part) -> Result<Head, Refusal> {
+    let has_units = match kind {
+        3 => false,
+        4 => true,
+        _ => return Err(Refusal::Records),
+    };
     let count = body.count(0, 8)?;
     let values = repeat(count, || body.value_type())?;
     let parameters = body.count(0, 4)?;
     let declared = u16::from_le_bytes(body.take()?);
-    Ok(Head { values, parameters, declared })
+    let units = if has_units { Some(body.count(0, MOST_UNITS)?) } else { None };
+    Ok(Head { values, parameters, declared, units })
+}
+
+/// "Mixing kinds 3 and 4 ... is refusal 2."
+fn all_of_one_kind(heads: &[Head]) -> Result<(), Refusal> {
+    let of_kind_4 = heads.iter().filter(|head| head.units.is_some()).count();
+    if of_kind_4 == 0 || of_kind_4 == heads.len() {
+        Ok(())
+    } else {
+        Err(Refusal::Records)
+    }
 }
 
 fn template_body(mut part: Part, heads: &[Head]) -> Result<Clause, Refusal> {

@@ -26,6 +26,12 @@ pub fn template(types: &[Type], parameters: u8, declared: u16, body: &[u8]) -> V
     record(3, &[&[types.len() as u8], &type_bytes(types), &[parameters], &declared.to_le_bytes(), body])
 }
 
+/// A template of kind 4, which declares its units.
+pub fn sized_template(types: &[Type], parameters: u8, declared: u16, units: u8, body: &[u8]) -> Vec<u8> {
+    let count = types.len() as u8;
+    record(4, &[&[count], &type_bytes(types), &[parameters], &declared.to_le_bytes(), &[units], body])
+}
+
 fn type_bytes(types: &[Type]) -> Vec<u8> {
     types.iter().map(|t| type_byte(*t)).collect()
 }

@@ -1,6 +1,7 @@
-//! Typing, guards and widths, by the paper's section "Typing": refusals 3, 4 and 5.
+//! Typing, guards and widths, by the paper's section "Typing": refusals 3, 4 and 5; and the needs of
+//! sized agreements, by paper 02, No. 7: refusal 15.
 
-use crate::agreement::{Agreement, Clause, Expression, Instance, Late, Operator, Template, Type, Wait};
+use crate::agreement::{Agreement, Clause, Expression, Instance, Late, Operator, Template, Type, Wait, MOST_UNITS};
 use crate::Refusal;
 
 /// "At most 16 are in sight."
@@ -15,6 +16,9 @@ pub struct Accepted<'a> {
     pub agreement: &'a Agreement,
     /// The main clause's parties by bit: those that the agreement can blame.
     pub parties: u32,
+    /// Of a sized agreement: the main clause's need. "no residue reached from a sized agreement's
+    /// start passes the main clause's need".
+    pub need: Option<u32>,
     /// Every obligation and choice, in the order of their places.
     pub sites: Vec<Site<'a>>,
 }
@@ -35,7 +39,7 @@ impl<'a> Accepted<'a> {
     }
 }
 
-/// Decides 3, then 4, then 5.
+/// Decides 3, then 4, then 5, then 15.
 pub fn accept(agreement: &Agreement) -> Result<Accepted<'_>, Refusal> {
     let mut typing = Typing { agreement, sites: Vec::new() };
     for template in &agreement.templates {
@@ -44,7 +48,8 @@ pub fn accept(agreement: &Agreement) -> Result<Accepted<'_>, Refusal> {
     let parties = typing.clause(&agreement.main, View::empty())?.constants();
     check_guards(agreement)?;
     check_widths(agreement)?;
-    Ok(Accepted { agreement, parties, sites: typing.sites })
+    let need = check_needs(agreement)?;
+    Ok(Accepted { agreement, parties, need, sites: typing.sites })
 }
 
 /// A set of parties: constant ones by bits 0 to 15, party parameters by bits 16 to 19.
@@ -322,5 +327,46 @@ fn check_thens(clause: &Clause, bodies: &[u32]) -> Result<(), Refusal> {
             check_thens(left, bodies)?;
             check_thens(right, bodies)
         }
+    }
+}
+
+/// "in a sized agreement a body's need is above its declared units or the main clause's above 128".
+/// Gives the main clause's need, if the agreement is sized.
+fn check_needs(agreement: &Agreement) -> Result<Option<u32>, Refusal> {
+    let Some(units) = agreement.declared_units() else { return Ok(None) };
+    for (template, declared) in agreement.templates.iter().zip(&units) {
+        need_within(&template.body, *declared, &units)?;
+    }
+    need_within(&agreement.main, MOST_UNITS, &units).map(Some)
+}
+
+/// The need of a clause, if it is not above the most.
+fn need_within(clause: &Clause, most: u8, units: &[u8]) -> Result<u32, Refusal> {
+    let need = need(clause, units);
+    if need <= u32::from(most) {
+        Ok(need)
+    } else {
+        Err(Refusal::Need)
+    }
+}
+
+/// How many units a clause needs, the templates declaring these: "The need of fulfilled is 0. For an
+/// obligation it is the larger of 1 and the need of `then`. For a choice it is the largest of 1 and
+/// the needs of its two clauses. For an if it is the larger of both. For `and` and `or` it is 1 and
+/// both together. An instance needs its template's units." No sum overflows: 16,384 bytes hold few
+/// clauses.
+pub fn need(clause: &Clause, units: &[u8]) -> u32 {
+    match clause {
+        Clause::Fulfilled => 0,
+        Clause::Wait(wait) => {
+            let then = need(&wait.then, units).max(1);
+            match &wait.late {
+                Late::Breach(_) => then,
+                Late::Else(otherwise) => then.max(need(otherwise, units)),
+            }
+        }
+        Clause::If(_, left, right) => need(left, units).max(need(right, units)),
+        Clause::And(left, right) | Clause::Or(left, right) => 1 + need(left, units) + need(right, units),
+        Clause::Instance(instance) => u32::from(units[instance.template]),
     }
 }

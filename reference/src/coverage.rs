@@ -8,6 +8,7 @@ pub mod members;
 pub mod moved;
 pub mod preview;
 pub mod quotients;
+pub mod sized;
 
 use crate::agreement::{self, Agreement, Clause, Late};
 use crate::check::{accept, Accepted};
@@ -24,6 +25,7 @@ use members::Judged;
 use moved::Effect;
 use preview::Previewed;
 use quotients::Quotient;
+use sized::{Followed, Sizes};
 use std::collections::BTreeMap;
 use std::fmt;
 
@@ -56,6 +58,10 @@ const PREVIEW_LENGTHS: &str = "lengths of a preview's tables, refused with 6";
 const PREVIEW_ORDER: &str = "number of a preview, were its second not of wrong length";
 const SECONDS: &str = "what a preview's second table holds before";
 const PREVIEW_CORNERS: &str = "corner of a preview";
+const SIZES: &str = "kinds of templates, what is too big, and the number";
+const LIMITS: &str = "a need beside its limit";
+const UNITS_USED: &str = "units in use in a run of a sized agreement";
+const BEFORE_6: &str = "15, though a table's length is wrong";
 const CAUSES: &str = "cause of 7";
 const CHANGES: &str = "changed table, whatever the number";
 const DAMAGES: &str = "damaged agreement refused";
@@ -109,7 +115,8 @@ impl Coverage {
         self.observe_preview(call, answer);
         self.observe_members(call, number);
         self.observe_cell_5(call, number);
-        if !(1..=7).contains(&number) && !matches!(call.entry, Entry::Preview { .. }) {
+        self.observe_size(call, answer);
+        if !is_of_agreement_or_table(number) && !matches!(call.entry, Entry::Preview { .. }) {
             self.observe_followed(call, answer, number);
         }
     }
@@ -156,9 +163,9 @@ impl Coverage {
 
     fn observe_aim(&mut self, call: &Call, number: u32) {
         match call.aim {
-            Aim::Run | Aim::Made => self.fault((1..=7).contains(&number), "refused though undamaged", call),
+            Aim::Run | Aim::Made => self.fault(is_of_agreement_or_table(number), "refused though undamaged", call),
             Aim::TableLength => self.fault(number != 6, "not refused with 6", call),
-            Aim::Agreement(damage) if (1..=5).contains(&number) => self.count(DAMAGES, format!("{damage:?}")),
+            Aim::Agreement(damage) if is_of_agreement(number) => self.count(DAMAGES, format!("{damage:?}")),
             Aim::Agreement(_) => {}
             Aim::Table(damage) if tables::Damage::CAUSES.contains(&damage) => {
                 self.fault(number != 7, "not refused with 7", call);
@@ -217,6 +224,26 @@ impl Coverage {
         for set in judged.iter().filter(|set| !refused || set.breaks_the_rule()) {
             self.count(MEMBERS, set.case().to_string());
         }
+    }
+
+    /// The kinds of templates, their units and needs; of a sized agreement the units in use too.
+    fn observe_size(&mut self, call: &Call, answer: &Answer) {
+        let number = answer.number();
+        sized::before_6(call, number).into_iter().for_each(|entry| self.count(BEFORE_6, entry.to_string()));
+        let Some(sizes) = Sizes::of(&call.agreement) else { return };
+        if let Some(fault) = sizes.fault(number) {
+            self.fault(true, fault, call);
+        }
+        if matches!(call.entry, Entry::Check) {
+            self.count(SIZES, sizes.case());
+            sizes.of_any_size(&call.agreement).into_iter().for_each(|case| self.count(SIZES, case.to_string()));
+            sizes.at_limits().into_iter().for_each(|limit| self.count(LIMITS, limit));
+        }
+        let Some(followed) = Followed::of(call, answer, &sizes) else { return };
+        if let Some(fault) = followed.fault() {
+            self.fault(true, fault, call);
+        }
+        followed.case().into_iter().for_each(|case| self.count(UNITS_USED, case));
     }
 
     /// Where cell 5 lies, if nothing else is wrong: outside the number is 7, inside it is another.
@@ -508,6 +535,10 @@ fn groups() -> Vec<(&'static str, Vec<String>)> {
         (PREVIEW_ORDER, preview::otherwise()),
         (SECONDS, preview::contents()),
         (PREVIEW_CORNERS, preview::corners()),
+        (SIZES, sized::cases()),
+        (LIMITS, sized::limits()),
+        (UNITS_USED, sized::runs()),
+        (BEFORE_6, sized::orders()),
         (CAUSES, tables::Damage::CAUSES.iter().map(|cause| format!("{cause:?}")).collect()),
         (CHANGES, tables::Damage::CHANGES.iter().map(|change| format!("{change:?}")).collect()),
         (DAMAGES, damage::Damage::ALL.iter().map(|damage| format!("{damage:?}")).collect()),
@@ -515,13 +546,22 @@ fn groups() -> Vec<(&'static str, Vec<String>)> {
     ]
 }
 
-/// "Check uses 1 to 5, start 1 to 6 and 11, ..., a reading all." A preview answers as the reading.
+/// Whether an agreement is refused with this number. Paper 02, No. 7: 15 is made "in every entry that makes 5".
+fn is_of_agreement(number: u32) -> bool {
+    (1..=5).contains(&number) || number == Refusal::Need.number()
+}
+
+fn is_of_agreement_or_table(number: u32) -> bool {
+    is_of_agreement(number) || (6..=7).contains(&number)
+}
+
+/// "Check uses 1 to 5, start 1 to 6 and 11, ..., a reading all." A preview answers as the reading, and each makes 15.
 fn numbers() -> Vec<String> {
     let entry = |name, numbers: Vec<u32>| numbers.into_iter().map(move |number| format!("{name} {number:2}"));
-    entry("check", (0..=5).collect())
-        .chain(entry("start", (0..=6).chain([11]).collect()))
-        .chain(entry("reading", (0..=11).collect()))
-        .chain(entry("preview", (0..=11).collect()))
+    entry("check", (0..=5).chain([15]).collect())
+        .chain(entry("start", (0..=6).chain([11, 15]).collect()))
+        .chain(entry("reading", (0..=11).chain([15]).collect()))
+        .chain(entry("preview", (0..=11).chain([15]).collect()))
         .collect()
 }
 

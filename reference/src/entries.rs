@@ -1,7 +1,8 @@
 //! The four entries: check an agreement, start it, take a reading, preview one. Each returns the
-//! lowest refusal number that applies, or 0; a refusal leaves the table untouched. Paper 02, No. 2:
-//! "Start and reading both answer with the forecast of the table they leave; a refusal gives zeros
-//! for it. The separate forecast entry goes".
+//! lowest refusal number that applies, 15 counting between 5 and 6, or 0; a refusal leaves the table
+//! untouched. Paper 02, No. 2: "Start and reading both answer with the forecast of the table they
+//! leave; a refusal gives zeros for it. The separate forecast entry goes". No. 7: 15 "comes after 5
+//! and before 6, in every entry that makes 5".
 
 use crate::agreement::{self, Agreement};
 use crate::check::{accept, Accepted};
@@ -46,7 +47,7 @@ impl Taken {
     }
 }
 
-/// "Check uses 1 to 5".
+/// "Check uses 1 to 5", and 15.
 pub fn check(agreement: &[u8]) -> Checked {
     match with(agreement, |accepted| Ok(accepted.parties)) {
         Ok(parties) => Checked { number: 0, parties },
@@ -54,7 +55,7 @@ pub fn check(agreement: &[u8]) -> Checked {
     }
 }
 
-/// "start 1 to 6 and 11". "Start ignores the table's earlier contents."
+/// "start 1 to 6 and 11", and 15. "Start ignores the table's earlier contents."
 pub fn start(agreement: &[u8], table: &mut [i64]) -> Started {
     let left = with(agreement, |accepted| {
         table::right_length(table)?;
@@ -82,7 +83,7 @@ pub fn reading(agreement: &[u8], table: &mut [i64], reading: &[u8]) -> Taken {
 /// Paper 02, No. 6: "A preview takes agreement, table and reading, and writes the outcome into a
 /// second table of the same length. It answers as the reading itself would on a copy, refusals
 /// included, and the first table is only read. On a refusal the second table is untouched. A second
-/// table of wrong length counts under 6", so that 1 to 5 come before it, and 7 to 11 after it.
+/// table of wrong length counts under 6", so that 1 to 5 and 15 come before it, and 7 to 11 after it.
 pub fn preview(agreement: &[u8], table: &[i64], reading: &[u8], second: &mut [i64]) -> Taken {
     if let Err(refusal) = with(agreement, |_| table::right_length(second)) {
         return Taken::refused(refusal, 0);

@@ -8,6 +8,7 @@ pub mod random;
 pub mod readings;
 pub mod records;
 mod seconds;
+pub mod sized;
 pub mod tables;
 
 use crate::agreement;
@@ -118,6 +119,9 @@ impl Iterator for Calls {
 impl Calls {
     /// The calls for one agreement.
     fn batch(&mut self) {
+        if self.random.chance(12) {
+            return self.of_sizes();
+        }
         let bytes = agreements::agreement(&mut self.random);
         if self.random.chance(45) {
             return self.damaged_agreement(&bytes);
@@ -138,6 +142,24 @@ impl Calls {
 
     fn damaged_agreement(&mut self, bytes: &[u8]) {
         let damage = self.random.pick(&damage::Damage::ALL);
+        self.damaged_by(damage, bytes);
+    }
+
+    /// The calls for a sized agreement that is refused, mostly because of its needs, its units or its kinds.
+    fn of_sizes(&mut self) {
+        if self.random.chance(30) {
+            let bytes = sized::at_its_limits(&mut self.random);
+            let damage = self.random.pick(&damage::Damage::OF_SIZES);
+            return self.damaged_by(damage, &bytes);
+        }
+        let bytes = sized::beyond_a_limit(&mut self.random);
+        if self.random.chance(40) {
+            return self.damaged_agreement(&bytes);
+        }
+        self.batch_for(bytes.into()).all_entries(Aim::Agreement(damage::Damage::NeedsMore));
+    }
+
+    fn damaged_by(&mut self, damage: damage::Damage, bytes: &[u8]) {
         let Some(damaged) = damage.of(&mut self.random, bytes) else { return };
         let mut batch = self.batch_for(damaged.into());
         batch.all_entries(Aim::Agreement(damage));
@@ -166,7 +188,7 @@ impl Batch<'_> {
         self.add(aim, Entry::Reading { table: table.to_vec(), reading });
     }
 
-    /// A preview. Where the second's length is wrong the number is 6, but for 1 to 5.
+    /// A preview. Where the second's length is wrong the number is 6, but for 1 to 5 and 15.
     fn preview(&mut self, aim: Aim, table: &[i64], reading: &[u8], second: Vec<i64>) {
         let aim = match aim {
             Aim::Agreement(_) => aim,

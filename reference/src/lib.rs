@@ -18,7 +18,7 @@ pub mod table;
 pub use entries::{check, preview, reading, start, Checked, Forecast, Started, Taken};
 pub use table::CELLS;
 
-/// The conditions of the paper's refusal table, under their numbers.
+/// The conditions of the paper's refusal table, and of paper 02's No. 7, under their numbers.
 #[derive(Clone, Copy, Debug, PartialEq, Eq, PartialOrd, Ord)]
 pub enum Refusal {
     /// "agreement under 4 or over 16,384 bytes, or not as long as its length says"
@@ -32,6 +32,9 @@ pub enum Refusal {
     Guard = 4,
     /// "a width over 256"
     Width = 5,
+    /// "in a sized agreement a body's need is above its declared units or the main clause's above
+    /// 128; it comes after 5 and before 6"
+    Need = 15,
     /// "table not 3,080 cells"
     Cells = 6,
     /// "table breaks its layout or typing, ..."

@@ -15,6 +15,7 @@ use reference::coverage::forecast::{self, Told};
 use reference::coverage::members::{self, Judged, Resolved};
 use reference::coverage::moved::{self, Effect, Lies};
 use reference::coverage::preview::Previewed;
+use reference::coverage::sized::{self, Followed, Sizes};
 use reference::coverage::{quotients, Coverage};
 use reference::entries::started;
 use reference::generate::damage::Damage;
@@ -791,6 +792,173 @@ fn a_wrong_cost_is_a_fault() {
         decided.1[..HEAD].copy_from_slice(&head);
         assert_eq!([0, 1].map(|by| faults_by(&decided, level(115), by)), [0, 1]);
     }
+}
+
+/// A template of kind 4 for party 0.
+fn with_units(units: u8, body: &[u8]) -> Vec<u8> {
+    build::sized_template(&[], 0, 1, units, body)
+}
+
+fn agreement_of(templates: &[Vec<u8>], main: &[u8]) -> Vec<u8> {
+    build::agreement(100, 1, &[reading_type(&[])], templates, main)
+}
+
+/// By kinds, units and needs, and the needs beside their limits.
+#[test]
+fn what_is_too_big_is_found() {
+    let (owed, crowd) = (simple(60).obligation(0), balanced(65, &simple(60).obligation(0)));
+    let of_kind_3 = [build::template(&[], 0, 1, &owed)];
+    let found = |templates: &[Vec<u8>], main: &[u8]| {
+        let bytes = agreement_of(templates, main);
+        let sizes = Sizes::of(&bytes).expect("nothing else is wrong");
+        assert_eq!(sizes.number(), check(&bytes).number);
+        (sizes.case(), sizes.at_limits(), sizes.of_any_size(&bytes))
+    };
+    let nothing = |case: &str| (case.to_string(), Vec::<String>::new(), None);
+    let limits =
+        |case: &str, limits: &[&str]| (case.to_string(), limits.iter().map(|limit| limit.to_string()).collect(), None);
+    assert_eq!(found(&[], &owed), nothing("no template: 0"));
+    assert_eq!(found(&of_kind_3, &instance(0, &[], &[])), nothing("kind 3: 0"));
+    assert_eq!(found(&[], &crowd).2, Some("no template: accepted, though its need is above 128"));
+    assert_eq!(found(&of_kind_3, &crowd).2, Some("kind 3: accepted, though no units would do"));
+    assert_eq!(found(&[with_units(2, &owed)], &owed), nothing("kind 4: 0"));
+    assert_eq!(found(&[with_units(1, &owed)], &owed), limits("kind 4: 0", &["body: 17 by the 1, at its limit"]));
+    let above = limits("kind 4, a body's need too big: 15", &["body: 17 by the 1, one above"]);
+    assert_eq!(found(&[with_units(0, &owed)], &owed), above);
+    let above = limits("kind 4, the main clause's need too big: 15", &["main clause: 20, one above"]);
+    assert_eq!(found(&[with_units(2, &owed)], &crowd), above);
+    let [three] = of_kind_3;
+    let mixed = [three.clone(), with_units(0, &owed)];
+    assert_eq!(found(&mixed, &owed), nothing("mixed, kind 3 first: 2"));
+    assert_eq!(found(&[with_units(0, &owed), three], &owed), nothing("mixed, kind 4 first: 2"));
+    assert_eq!(found(&[with_units(129, &owed)], &owed), nothing("units of 129: 2"));
+    assert_eq!(found(&[with_units(130, &owed)], &owed), nothing("units of 130 or more: 2"));
+    let untyped = Wait { within: build::truth(1), ..simple(60) }.obligation(0);
+    assert_eq!(found(&[with_units(0, &owed)], &untyped), nothing("kind 4, a body's need too big: 3"));
+    // Something else is wrong.
+    assert!(Sizes::of(&agreement_of(&mixed, &build::record(23, &[]))).is_none());
+    assert!(Sizes::of(&agreement_of(&[], &owed)[1..]).is_none());
+}
+
+#[test]
+fn what_decides_a_need_is_found() {
+    let (owed, both) = (simple(60).obligation(0), balanced(2, &simple(60).obligation(0)));
+    let choice = |then: &[u8], otherwise: &[u8]| Wait { then: then.to_vec(), ..simple(60) }.choice(otherwise);
+    let side = |left: &[u8], right: &[u8]| if_clause(&build::truth(0), left, right);
+    let found = |units, body: &[u8]| {
+        let bytes = agreement_of(&[with_units(0, &fulfilled()), with_units(units, body)], &fulfilled());
+        Sizes::of(&bytes).expect("nothing else is wrong").at_limits()[1..].concat()
+    };
+    let cases = [
+        (0, fulfilled(), "16"),
+        (1, owed.clone(), "17 by the 1"),
+        (3, Wait { then: both.clone(), ..simple(60) }.obligation(0), "17 by its then"),
+        (1, choice(&fulfilled(), &fulfilled()), "18 by the 1"),
+        (3, choice(&both, &owed), "18 by its then"),
+        (3, choice(&owed, &both), "18 by its else"),
+        (3, side(&both, &owed), "19 by its left side"),
+        (3, side(&owed, &both), "19 by its right side"),
+        (1, side(&owed, &owed), "19 by either side"),
+        (3, both, "20"),
+        (3, or(&owed, &owed), "21"),
+        (0, instance(0, &[], &[]), "22"),
+    ];
+    for (units, body, decided_by) in cases {
+        assert_eq!(found(units, &body), format!("body: {decided_by}, at its limit"));
+        if units > 0 {
+            assert_eq!(found(units - 1, &body), format!("body: {decided_by}, one above"));
+        }
+        assert_eq!(found(units + 1, &body), "");
+    }
+}
+
+/// A monitor that asks for kinds, units or needs otherwise gives such numbers.
+#[test]
+fn a_size_asked_wrong_is_a_fault() {
+    let (owed, crowd) = (simple(60).obligation(0), balanced(65, &simple(60).obligation(0)));
+    let (of_kind_3, wide) = (build::template(&[], 0, 1, &owed), balanced(129, &fulfilled()));
+    let right_numbers = |templates: &[Vec<u8>], main: &[u8]| {
+        let bytes = agreement_of(templates, main);
+        let sizes = Sizes::of(&bytes).expect("nothing else is wrong");
+        (0..=15).filter(|number| sizes.fault(*number).is_none()).collect::<Vec<u32>>()
+    };
+    let neither_2_nor_15 = (0..15).filter(|number| *number != 2).collect::<Vec<u32>>();
+    for templates in [vec![], vec![of_kind_3.clone()]] {
+        assert_eq!(right_numbers(&templates, &crowd), neither_2_nor_15);
+    }
+    assert_eq!(right_numbers(&[with_units(1, &owed)], &owed), neither_2_nor_15);
+    assert_eq!(right_numbers(&[with_units(0, &owed)], &wide), neither_2_nor_15);
+    assert_eq!(right_numbers(&[with_units(0, &owed)], &owed), [15]);
+    assert_eq!(right_numbers(&[with_units(1, &owed)], &crowd), [15]);
+    assert_eq!(right_numbers(&[of_kind_3, with_units(1, &owed)], &owed), [2]);
+    assert_eq!(right_numbers(&[with_units(129, &owed)], &owed), [2]);
+
+    let faults_at = |units, number| {
+        let bytes = agreement_of(&[with_units(units, &owed)], &owed);
+        faults(&bytes, Entry::Check, Answer::Check(Checked { number, parties: 0 }))
+    };
+    assert_eq!([faults_at(1, 0), faults_at(0, 15), faults_at(129, 2)], [0; 3]);
+    assert_eq!([faults_at(1, 15), faults_at(0, 5), faults_at(129, 15)], [1; 3]);
+}
+
+/// What a call of some aim makes of a sized agreement whose main clause needs 3, and whether that is impossible.
+fn followed(aim: Aim, number: u32, used: i64) -> (Option<String>, bool) {
+    let owed = simple(60).obligation(0);
+    let bytes = agreement_of(&[with_units(1, &owed)], &and(&instance(0, &[], &[]), &owed));
+    let entry = Entry::Reading { table: Vec::new(), reading: Vec::new() };
+    let call = Call { agreement: bytes.as_slice().into(), entry, aim };
+    let table = with(&vec![0; CELLS], &[(USED, used)]);
+    let answer = Answer::Reading { number, early: 0, cost: 0, forecast: None, table };
+    let sizes = Sizes::of(&bytes).expect("nothing is wrong");
+    let followed = Followed::of(&call, &answer, &sizes).expect("a sized agreement");
+    (followed.case(), followed.fault().is_some())
+}
+
+/// "no residue reached from a sized agreement's start passes the main clause's need, so 11 never occurs from there"
+#[test]
+fn a_run_beyond_its_need_is_a_fault() {
+    let found = |case: &str| Some(format!("reading: {case}"));
+    assert_eq!(followed(Aim::Run, 0, 1), (found("less than the need"), false));
+    assert_eq!(followed(Aim::Run, 0, 3), (found("the whole need"), false));
+    assert!(followed(Aim::Run, 0, 5).1 && followed(Aim::Run, 11, 1).1);
+    assert_eq!(followed(Aim::Run, 10, 1), (None, false));
+    assert_eq!(followed(Aim::Made, 0, 5), (None, false));
+    assert_eq!(followed(Aim::Made, 11, 3), (found("11 on a table that no run left"), false));
+}
+
+#[test]
+fn fifteen_before_a_wrong_length_is_found() {
+    let (right, short) = (vec![0; CELLS], vec![0; CELLS - 1]);
+    let found = |entry: Entry, number| sized::before_6(&Call { agreement: [].into(), entry, aim: Aim::Run }, number);
+    let read = |table: &[i64]| Entry::Reading { table: table.to_vec(), reading: Vec::new() };
+    let previewed = |table: &[i64], second: &[i64]| Entry::Preview {
+        table: table.to_vec(),
+        reading: Vec::new(),
+        second: second.to_vec(),
+    };
+    assert_eq!([found(Entry::Check, 15), found(read(&right), 15), found(read(&short), 6)], [None; 3]);
+    assert_eq!(found(Entry::Start { table: short.clone() }, 15), Some("start"));
+    assert_eq!(found(read(&short), 15), Some("reading"));
+    assert_eq!(found(previewed(&right, &right), 15), None);
+    assert_eq!(found(previewed(&short, &right), 15), Some("preview, its first table"));
+    assert_eq!(found(previewed(&right, &short), 15), Some("preview, its second table"));
+    assert_eq!(found(previewed(&short, &short), 15), Some("preview, both tables"));
+}
+
+/// The need that goes with an accepted agreement, worked out once more from its bytes.
+#[test]
+fn needs_worked_out_twice_are_the_same() {
+    let mut random = Random::new(13);
+    let mut compared = 0;
+    for _ in 0..2_000 {
+        let bytes = agreements::agreement(&mut random);
+        let agreement = parse(&bytes).expect("an accepted agreement");
+        let need = accept(&agreement).expect("an accepted agreement").need;
+        let sizes = Sizes::of(&bytes).expect("an accepted agreement");
+        assert_eq!(need, sizes.is_sized().then(|| sizes.main_need()));
+        compared += usize::from(need.is_some());
+    }
+    assert!(compared > 300, "{compared}");
 }
 
 /// So many leaves joined by `and` in balance.

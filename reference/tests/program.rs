@@ -78,6 +78,9 @@ fn refusals_that_end_the_run() {
     let mark = reading(110, 0, &[]);
     let refused = agreement(100, 0, &[], &[], &fulfilled());
     assert_eq!(watch(&[refused, mark.clone()].concat()), "0 - REFUSED 2\n");
+    let needing_too_much = sized_template(&[], 0, 1, 0, &simple(60).obligation(0));
+    let refused = agreement(100, 1, &[reading_type(&[])], &[needing_too_much], &fulfilled());
+    assert_eq!(watch(&[refused, mark.clone()].concat()), "0 - REFUSED 15\n");
     for short in [vec![0, 0], vec![1, 0], vec![3, 0, 64], record(65, &[&[0; 5]])] {
         assert_eq!(watch(&input(&[short, mark.clone()])), "0 100 LIVE 160 1\n1 - REFUSED 8\n");
     }

@@ -165,6 +165,15 @@ fn refusal_5_width() {
     assert_eq!(body(129), 5);
 }
 
+/// Paper 02, No. 7: "in a sized agreement a body's need is above its declared units or the main clause's above 128".
+#[test]
+fn refusal_15_need() {
+    let sized = |units, main: &[u8]| check(&pond(&[sized_template(&[], 0, 1, units, &owed())], main)).number;
+    assert_eq!([sized(0, &fulfilled()), sized(1, &fulfilled())], [15, 0]);
+    assert_eq!([sized(1, &balanced(64, &owed())), sized(1, &balanced(65, &owed()))], [0, 15]);
+    assert_eq!(number_of(&balanced(65, &owed())), 0);
+}
+
 #[test]
 fn refusal_6_cells() {
     let agreement = pond(&[], &owed());

@@ -23,11 +23,11 @@ pub fn decode(bytes: &[u8]) -> Decoded<Agreement> {
     let template_count = body.count(0, limits::TEMPLATES, "templates")?;
     let readings = (1..=reading_count).map(|n| reading(&mut body, n)).collect::<Decoded<Vec<_>>>()?;
     // An instance is read by the head of its template, which may come later: heads first.
-    let mut heads = Vec::new();
+    let mut heads: Vec<Head> = Vec::new();
     let mut bodies = Vec::new();
     for n in 0..template_count {
-        let mut template = body.record_of(3, "a template")?;
-        heads.push(head(&mut template, n, parties)?);
+        let (kind, mut template) = template(&mut body, heads.first().map(Head::kind))?;
+        heads.push(head(&mut template, n, parties, kind)?);
         bodies.push(template);
     }
     let decoder = Decoder { parties, readings, heads };
@@ -63,9 +63,22 @@ fn reading(part: &mut Part, number: usize) -> Decoded<Reading> {
     Ok(Reading { name: format!("R{number}"), values })
 }
 
+/// The record of a template with its kind, which is that of the first. "Mixing kinds 3 and 4 [..] is refusal 2."
+fn template<'a>(part: &mut Part<'a>, first: Option<u16>) -> Decoded<(u16, Part<'a>)> {
+    let place = part.at;
+    let (kind, body) = part.record()?;
+    let wanted = match first {
+        None if [3, 4].contains(&kind) => return Ok((kind, body)),
+        None => "kind 3 or 4".to_string(),
+        Some(first) if kind == first => return Ok((kind, body)),
+        Some(first) => format!("kind {first} as the first"),
+    };
+    ByteFault::err(place + 2, format!("kind {kind} where a template, {wanted}, must be"))
+}
+
 /// "3 template: value count 0 to 8 and their types, party parameter count 0 to 4, declared parties
-/// (2 bytes, bit n for party n)"
-fn head(body: &mut Part, number: usize, parties: usize) -> Decoded<Head> {
+/// (2 bytes, bit n for party n)"; of kind 4 with "a byte after the declared parties: its units, 0 to 128"
+fn head(body: &mut Part, number: usize, parties: usize, kind: u16) -> Decoded<Head> {
     let values = values(body, limits::TEMPLATE_VALUES)?;
     let parameters = body.count(0, limits::PARAMETERS, "party parameters")?;
     let at = body.at;
@@ -74,7 +87,8 @@ fn head(body: &mut Part, number: usize, parties: usize) -> Decoded<Head> {
         return ByteFault::err(at, format!("a declared party beyond the {parties} there are"));
     }
     let parameters = (0..parameters).map(|n| format!("p{n}")).collect();
-    Ok(Head { name: format!("T{number}"), values, parameters, declared })
+    let units = if kind == 4 { Some(limits::byte(body.count(0, limits::UNITS, "units")?)) } else { None };
+    Ok(Head { name: format!("T{number}"), values, parameters, declared, units })
 }
 
 /// A count of values and their types.

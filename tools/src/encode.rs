@@ -43,7 +43,7 @@ impl Writer {
     }
 
     fn template(&mut self, template: &mut Template) {
-        self.record(3, |writer| {
+        self.record(template.head.kind(), |writer| {
             writer.head(&template.head);
             writer.clause(&mut template.body);
         });
@@ -53,6 +53,7 @@ impl Writer {
         self.values(&head.values);
         self.bytes.push(byte(head.parameters.len()));
         self.bytes.extend(head.declared.to_le_bytes());
+        self.bytes.extend(head.units);
     }
 
     fn clause(&mut self, clause: &mut Clause) {

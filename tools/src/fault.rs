@@ -55,7 +55,7 @@ pub struct Fault {
     pub what: String,
     /// How many characters are meant.
     pub length: usize,
-    /// The refusal of paper 01 that a record with this fault gets. None where the text stands for no record at all.
+    /// The papers' refusal that a record with this fault gets. None where the text stands for no record at all.
     pub refusal: Option<u32>,
 }
 

@@ -4,7 +4,7 @@
 //! numbers ([`resolve`], [`model`]), and records are written ([`assemble`](mod@assemble)). A record
 //! is read back ([`decode`]) and printed as text ([`print`](mod@print)). Lines become reading records
 //! ([`readings`]), and a table is told in words ([`table`], [`explain`](mod@explain)). What is wrong
-//! with a text is told in its own names ([`check`]).
+//! with a text is told in its own names ([`check`]), and what units its templates can declare ([`sizes`]).
 //!
 //! A run is given to the proved library, reading by reading ([`run`]), told as a story ([`story`]) and
 //! drawn as a picture ([`timeline`]); why a verdict came so is worked out from what waits ([`pending`]).
@@ -37,6 +37,7 @@ pub mod resolve;
 pub mod run;
 pub mod shown;
 mod sites;
+pub mod sizes;
 pub mod source;
 pub mod status;
 pub mod story;

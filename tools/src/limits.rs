@@ -1,4 +1,4 @@
-//! The limits of paper 01, sections "Records" and "Typing".
+//! The limits of paper 01, sections "Records" and "Typing", and of paper 02, No. 7.
 
 use crate::fault::{Fault, Place};
 
@@ -19,6 +19,8 @@ pub const DEPTH: usize = 24;
 pub const BYTES: usize = 16_384;
 /// The width of the main clause, of a template's body and of a `then`.
 pub const WIDTH: usize = 256;
+/// The units that a template may declare, and that the main clause may need in a sized agreement.
+pub const UNITS: usize = 128;
 /// The length and the kind that every record begins with.
 pub const HEAD: usize = 4;
 /// Numbers run from minus this to this.

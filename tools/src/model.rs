@@ -60,7 +60,7 @@ pub struct Reading {
     pub values: Vec<Value>,
 }
 
-/// Kind 3.
+/// Kind 3, or kind 4 where it declares its units.
 #[derive(Debug, PartialEq, Eq)]
 pub struct Template {
     pub head: Head,
@@ -75,6 +75,18 @@ pub struct Head {
     pub parameters: Vec<String>,
     /// By bit.
     pub declared: u16,
+    /// What an instance needs in a sized agreement.
+    pub units: Option<u8>,
+}
+
+impl Head {
+    /// The kind of the template's record.
+    pub fn kind(&self) -> u16 {
+        match self.units {
+            None => 3,
+            Some(_) => 4,
+        }
+    }
 }
 
 /// Kinds 16 to 22.

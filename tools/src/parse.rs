@@ -9,7 +9,7 @@ mod sections;
 
 use crate::fault::Fault;
 use crate::model::Type;
-use crate::syntax::{Agreement, Parameter, Reading, Template};
+use crate::syntax::{Agreement, Parameter, Reading, Template, Units};
 use crate::text::{tokens, Token};
 use cursor::Cursor;
 use hints::A_TYPE;
@@ -53,8 +53,19 @@ fn template(cursor: &mut Cursor) -> Result<Template, Fault> {
         true => cursor.list(|cursor| cursor.name("a party's name"))?,
         false => Vec::new(),
     };
+    let units = match cursor.take("sized") {
+        true => Some(units(cursor)?),
+        false => None,
+    };
     cursor.expect("=")?;
-    Ok(Template { name, values, parameters, declared, body: cursor.clause()? })
+    Ok(Template { name, values, parameters, declared, units, body: cursor.clause()? })
+}
+
+fn units(cursor: &mut Cursor) -> Result<Units, Fault> {
+    let Token::Number(number) = *cursor.token() else { return Err(cursor.unexpected("a number of units")) };
+    let span = cursor.span();
+    cursor.skip();
+    Ok(Units { number, at: span.at, length: span.end - span.start })
 }
 
 fn parameter(cursor: &mut Cursor) -> Result<Parameter, Fault> {

@@ -85,7 +85,8 @@ impl Printer<'_> {
         let declared: Vec<_> =
             (0..self.agreement.parties.len()).filter(is_declared).map(|party| self.party(party)).collect();
         let declares = if declared.is_empty() { String::new() } else { format!(" declares {}", declared.join(", ")) };
-        format!("{}({}){}{declares} =", head.name, parameters(&head.values), angles(&head.parameters))
+        let sized = head.units.map(|units| format!(" sized {units}")).unwrap_or_default();
+        format!("{}({}){}{declares}{sized} =", head.name, parameters(&head.values), angles(&head.parameters))
     }
 }
 

@@ -32,6 +32,13 @@ pub struct Agreement {
     pub dated: bool,
 }
 
+impl Agreement {
+    /// The number of the template with this name.
+    pub fn template(&self, name: &Name) -> Option<usize> {
+        self.templates.iter().position(|template| template.name.text == name.text)
+    }
+}
+
 #[derive(Debug)]
 pub struct Parameter {
     pub name: Name,
@@ -50,7 +57,30 @@ pub struct Template {
     pub values: Vec<Parameter>,
     pub parameters: Vec<Name>,
     pub declared: Vec<Name>,
+    pub units: Option<Units>,
     pub body: Clause,
+}
+
+/// The units that a template declares.
+#[derive(Debug)]
+pub struct Units {
+    /// Not below 0, and held at the end of 64 bits: whether it is one that may be declared is not known yet.
+    pub number: i64,
+    /// Where it is written, and in how many characters.
+    pub at: Place,
+    pub length: usize,
+}
+
+impl Units {
+    /// As the record has them. Too many for a byte are too many there as well.
+    pub fn byte(&self) -> u8 {
+        u8::try_from(self.number).unwrap_or(u8::MAX)
+    }
+
+    /// What is wrong with them.
+    pub fn fault(&self, what: impl AsRef<str>) -> Fault {
+        Fault::new(self.at, what).of_length(self.length)
+    }
 }
 
 /// A clause and the place of its first word, or of the word that joins its sides.

@@ -49,13 +49,14 @@ pub struct Placed {
 }
 
 /// The reserved words.
-pub const WORDS: [&str; 20] = [
+pub const WORDS: [&str; 21] = [
     "parties",
     "readings",
     "letrec",
     "in",
     "starting",
     "declares",
+    "sized",
     "fulfilment",
     "if",
     "then",

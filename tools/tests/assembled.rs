@@ -185,6 +185,31 @@ fn templates_and_instances() {
     );
 }
 
+/// The bytes of an agreement with two templates of kind 4, by hand.
+const SIZED: &str = "40 00 01 00 07 00 00 00 02 01 02 | 05 00 02 00 00 |
+    10 00 04 00 02 01 03 01 02 00 07 | 05 00 16 00 01 | 0D 00 04 00 00 00 00 00 80 | 04 00 10 00 |
+    13 00 16 00 00 | 08 00 20 00 01 00 00 00 | 05 00 22 00 01 | 00";
+
+#[test]
+fn templates_that_declare_their_units() {
+    let text = "parties A, B readings E()
+        letrec f(x: number, y: party)<p> declares B sized 7 = g() g() sized 128 = fulfilment
+        in f(1, B)<A> starting 7";
+    assert_eq!(bytes(text), hex(SIZED));
+    let without = text.replace("sized 7 ", "").replace("sized 128 ", "");
+    let f = build::template(&[Type::Number, Type::Party], 1, 2, &build::instance(1, &[], &[]));
+    let templates = [f, build::template(&[], 0, 0, &build::fulfilled())];
+    let main = build::instance(0, &[build::number(1), build::party(1)], &[0]);
+    assert_eq!(bytes(&without), build::agreement(7, 2, &[build::reading_type(&[])], &templates, &main));
+    for units in ["0", "1", "128"] {
+        let one = assemble(
+            format!("parties A readings E() letrec f() sized {units} = fulfilment in f() starting 0").as_bytes(),
+        );
+        let one = one.unwrap_or_else(|fault| panic!("{fault}"));
+        assert_eq!(one.agreement.templates[0].head.units.map(|units| units.to_string()).as_deref(), Some(units));
+    }
+}
+
 #[test]
 fn templates_may_name_later_ones() {
     let text =

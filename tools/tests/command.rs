@@ -162,7 +162,7 @@ fn usage() {
     assert_eq!(text(&written(&["help"], b"")), help);
     let version = format!("agreement {}\n", env!("CARGO_PKG_VERSION"));
     assert_eq!(text(&written(&["--version"], b"")), version);
-    for command in ["check", "assemble", "disassemble", "readings", "explain"] {
+    for command in ["check", "sizes", "assemble", "disassemble", "readings", "explain"] {
         assert!(help.contains(&format!("agreement {command} ")), "{command}");
         assert_eq!(text(&written(&[command, "--help"], b"")), help);
         assert_eq!(text(&written(&[command, "-h"], b"")), help);

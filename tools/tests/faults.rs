@@ -113,6 +113,24 @@ fn too_many() {
     );
 }
 
+/// Units are a number from 0 to 128, behind the declared parties, of all templates or of none.
+#[test]
+fn units() {
+    assert_eq!(template_fault("f() sized = fulfilment"), "2:11: expected a number of units, found `=`");
+    assert_eq!(template_fault("f() sized ? = fulfilment"), "2:11: `?` stands for nothing here");
+    assert_eq!(template_fault("f() sized -1 = fulfilment"), "2:11: expected a number of units, found `-`");
+    assert_eq!(template_fault("f() sized n = fulfilment"), "2:11: expected a number of units, found `n`");
+    assert_eq!(template_fault("f() sized 3 declares A = fulfilment"), "2:13: expected `=`, found `declares`");
+    assert_eq!(template_fault("f() declares A 3 = fulfilment"), "2:16: expected `=`, found a number");
+    assert_eq!(template_fault("f() sizd 3 = fulfilment"), "2:5: expected `=`, found `sizd`; did you mean `sized`?");
+    assert_eq!(template_fault("sized() = fulfilment"), "2:1: expected `in`, found `sized`");
+    assert_eq!(template_fault("f() sized 129 = fulfilment"), "2:11: too many units: 129, at most 128");
+    assert_eq!(template_fault("f() sized 1000000001 = fulfilment"), "2:11: too many units: 1000000001, at most 128");
+    let mixed = "`g` declares no units, and `f` does: all templates are sized or none is";
+    assert_eq!(template_fault("f() sized 0 = fulfilment\ng() = fulfilment"), format!("3:1: {mixed}"));
+    assert_eq!(template_fault("g() = fulfilment\nf() sized 0 = fulfilment"), format!("2:1: {mixed}"));
+}
+
 #[test]
 fn too_much_in_sight() {
     // 8 of the template, and 2 with each reading: the fifth would make it 18.
@@ -171,6 +189,21 @@ fn too_long() {
         main_fault(&format!("if 1 {} < 1 then fulfilment", "+ 1 ".repeat(1_000_000))).ends_with("over 16,384 bytes")
     );
     assert!(main_fault(&format!("g() {}", "and g() ".repeat(1_000_000))).ends_with("over 16,384 bytes"));
+}
+
+/// 2,045 `fulfilment` and the `and`s between them fill a record to the last byte; its units are one byte too many.
+#[test]
+fn too_long_by_its_units() {
+    fn joined(count: usize) -> String {
+        match count {
+            1 => "fulfilment".to_string(),
+            _ => format!("({} and {})", joined(count / 2), joined(count - count / 2)),
+        }
+    }
+    let text =
+        |sized: &str| format!("parties A readings E() letrec f(){sized} = {} in fulfilment starting 0", joined(2_045));
+    assert_eq!(assemble(text("").as_bytes()).map(|assembled| assembled.bytes.len()).ok(), Some(16_384));
+    assert!(fault(&text(" sized 128")).ends_with(": the record would be over 16,384 bytes"));
 }
 
 #[test]

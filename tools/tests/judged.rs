@@ -2,9 +2,14 @@
 //!
 //! `AGREEMENTS=100000 cargo test --release --test judged` takes that many instead of the few of every day.
 
+#[path = "common/sized.rs"]
+mod sized;
+
 use reference::generate::{agreements, damage, random::Random};
+use sized::declaring;
 use tools::check::{check, Verdict};
 use tools::disassemble;
+use tools::sizes::Sizes;
 
 /// How many agreements are tried where nothing else is said.
 const FEW: usize = 12_000;
@@ -38,18 +43,21 @@ fn library(bytes: &[u8]) -> u32 {
     givuntha::check(bytes).map_or_else(givuntha::Refusal::number, |_| 0)
 }
 
-/// How often each number was met; the last is no record.
+/// The answers that a text can have; the last is no record.
+const ANSWERS: [Option<u32>; 8] = [Some(0), Some(1), Some(2), Some(3), Some(4), Some(5), Some(15), None];
+
+/// How often each was met.
 #[derive(Debug, Default)]
-struct Met([usize; 7]);
+struct Met([usize; 8]);
 
 impl Met {
     /// How many were judged by the library.
     fn all(&self) -> usize {
-        self.0[..6].iter().sum()
+        self.0[..7].iter().sum()
     }
 
     fn add(&mut self, number: Option<u32>) {
-        self.0[number.map_or(6, |number| number as usize)] += 1;
+        self.0[ANSWERS.iter().position(|answer| *answer == number).expect("an answer of check")] += 1;
     }
 }
 
@@ -71,7 +79,7 @@ fn records_as_text() {
         met.add(number);
     }
     println!("records as text: {met:?}");
-    let [accepted, _, _, typing, guards, widths, _] = met.0;
+    let [accepted, _, _, typing, guards, widths, ..] = met.0;
     assert!(accepted.min(typing) > count() / 20 && guards.min(widths) > count() / 50, "{met:?}");
 }
 
@@ -88,6 +96,34 @@ fn texts_with_slips() {
     let [accepted, _, form, typing, guards, ..] = met.0;
     assert!(accepted.min(typing) > count() / 20, "{met:?}");
     assert!(form.min(guards) > count() / 200, "{met:?}");
+}
+
+/// Texts whose templates declare units: the least that do or some more, one less, any, too many, or some none.
+#[test]
+fn texts_with_units() {
+    let mut random = Random::new(13);
+    let mut met = Met::default();
+    while met.all() < count() / 2 {
+        let Ok(text) = disassemble(&agreements::agreement(&mut random)) else { panic!("an accepted agreement") };
+        let mut least = Sizes::of("text", text.as_bytes()).templates.into_iter().map(|least| least.units);
+        let slips = random.chance(50);
+        let units = declaring(&text, || {
+            let least = least.next().unwrap_or_else(|| random.below(129));
+            match random.below(if slips { 40 } else { 4 }) {
+                0..4 => Some(least + random.below(3)),
+                4 => Some(least.saturating_sub(1)),
+                5 => Some(random.below(129)),
+                6 if random.chance(20) => Some(129 + random.below(200)),
+                7 if random.chance(20) => None,
+                _ => Some(least),
+            }
+        });
+        let text = if random.chance(10) { slipped(&mut random, &units) } else { units };
+        met.add(number(&text));
+    }
+    println!("texts with units: {met:?}");
+    let [accepted, _, form, typing, _, _, size, _] = met.0;
+    assert!(accepted.min(size) > count() / 20 && form.min(typing) > count() / 500, "{met:?}");
 }
 
 /// The same text with two templates exchanged, or with one to three words exchanged.

@@ -71,6 +71,10 @@ fn its_mistakes_are_told_so() {
     };
     let sample = include_str!("sample.csl").replace("!(level < 250)", "!level");
     assert_eq!(block("sample.csl:"), told("sample.csl", &sample));
+    let contractor = include_str!("../../examples/contractor/agreement.csl");
+    let (before, pay) = contractor.split_once("  pay(").expect("a template");
+    let contractor = format!("{before}  pay({}", pay.replacen("sized 3", "sized 2", 1));
+    assert_eq!(block("pay.csl:"), told("pay.csl", &contractor));
     let pond = include_str!("../../examples/pond/agreement.csl").replace("g >= 250", "g");
     let shown = include_str!("../../README.md").split("```\n").find(|block| block.starts_with("agreement.csl:"));
     assert_eq!(shown, Some(told("agreement.csl", &pond).as_str()));

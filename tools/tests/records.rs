@@ -39,12 +39,35 @@ fn kinds_and_counts() {
     assert_eq!(with(8, &[17]), "byte 8: 17 parties where 1 to 16 may be");
     assert_eq!(with(9, &[0]), "byte 9: 0 readings where 1 to 16 may be");
     assert_eq!(with(10, &[33]), "byte 10: 33 templates where 0 to 32 may be");
-    assert_eq!(with(10, &[1]), "byte 19: kind 17 where a template, kind 3, must be");
+    assert_eq!(with(10, &[1]), "byte 19: kind 17 where a template, kind 3 or 4, must be");
     assert_eq!(with(13, &[3]), "byte 13: kind 3 where a reading type, kind 2, must be");
     assert_eq!(with(15, &[5]), "byte 15: 5 values where 0 to 4 may be");
     assert_eq!(with(16, &[4]), "byte 16: type 4 where 1, 2 or 3 must be");
     assert_eq!(with(19, &[23]), "byte 19: kind 23 where a clause, kind 16 to 22, must be");
     assert_eq!(with(29, &[44]), "byte 29: kind 44 where an expression, kind 32 to 43, must be");
+}
+
+/// Two templates of one kind, with or without units; then one of them is made one of the other kind.
+#[test]
+fn kinds_of_templates() {
+    let record = |sized: &str| {
+        let templates = format!("f(n: number, p: party){sized} = fulfilment g(){sized} = fulfilment");
+        let text = format!("parties A readings E() letrec {templates} in fulfilment starting 0");
+        assemble(text.as_bytes()).unwrap_or_else(|fault| panic!("{fault}")).bytes
+    };
+    let fault = |mut record: Vec<u8>, at: usize, byte: u8| {
+        record[at] = byte;
+        fault(&record)
+    };
+    let (plain, sized) = (record(""), record(" sized 128"));
+    assert_eq!((plain[18], plain[32], sized[18], sized[33]), (3, 3, 4, 4));
+    assert_eq!(fault(plain.clone(), 32, 4), "byte 32: kind 4 where a template, kind 3 as the first, must be");
+    assert_eq!(fault(sized.clone(), 33, 3), "byte 33: kind 3 where a template, kind 4 as the first, must be");
+    assert_eq!(fault(sized.clone(), 33, 5), "byte 33: kind 5 where a template, kind 4 as the first, must be");
+    assert_eq!(fault(sized.clone(), 18, 5), "byte 18: kind 5 where a template, kind 3 or 4, must be");
+    assert_eq!((sized[26], sized[39]), (128, 128));
+    assert_eq!(fault(sized.clone(), 26, 129), "byte 26: 129 units where 0 to 128 may be");
+    assert_eq!(fault(sized, 39, 255), "byte 39: 255 units where 0 to 128 may be");
 }
 
 #[test]

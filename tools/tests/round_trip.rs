@@ -1,7 +1,11 @@
 //! Records to text and back, and texts to records, to text and back.
 
+#[path = "common/sized.rs"]
+mod sized;
+
 use reference::check;
 use reference::generate::{agreements, damage, random::Random};
+use sized::declaring;
 use std::path::{Path, PathBuf};
 use tools::{assemble, disassemble};
 
@@ -29,6 +33,27 @@ fn accepted_agreements_come_back() {
         assert_eq!(check(&bytes).number, 0);
         round_trip(&bytes);
     }
+}
+
+/// Generated agreements with any units: the text has them again, and the record is as long as without, but for a byte
+/// for each template.
+#[test]
+fn units_come_back() {
+    let mut random = Random::new(3);
+    let mut templates = 0;
+    for _ in 0..3_000 {
+        let text = declaring(&disassembled(&agreements::agreement(&mut random)), || None);
+        let mut units = Vec::new();
+        let sized = declaring(&text, || {
+            units.push(random.below(129));
+            units.last().copied()
+        });
+        let bytes = assembled(&sized);
+        assert_eq!(disassembled(&bytes), sized);
+        assert_eq!(bytes.len(), assembled(&text).len() + units.len());
+        templates += units.len();
+    }
+    assert!(templates > 3_000, "{templates}");
 }
 
 /// Damaged agreements are told from others without a panic; what can be printed comes back, and

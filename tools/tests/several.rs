@@ -82,6 +82,31 @@ starting 2026-03-01T09
     );
 }
 
+/// A template that is sized is one like any other: reading goes on there.
+#[test]
+fn one_in_each_template() {
+    let text = "\
+parties A
+readings E()
+letrec
+  f() sized 1 = <A> E() deu within 1
+  g()<p> sized 1 = <p> E() due withn 1
+  h() declares A sized = fulfilment
+  i() declares A sized 1 = fulfilment or
+in f()
+starting 0
+";
+    assert_eq!(
+        faults(text),
+        [
+            "4:25: expected `due`, found `deu`; did you mean `due`?",
+            "5:32: expected `immediately`, `after` or `within`, found `withn`; did you mean `within`?",
+            "6:24: expected a number of units, found `=`",
+            "8:1: expected a clause, found `in`",
+        ]
+    );
+}
+
 /// What a word is exchanged for.
 const OTHERS: [&str; 14] = ["", "and", "in", "(", ")", "x", ";", "=", "then", "<", "5", "letrec", ",", "due"];
 

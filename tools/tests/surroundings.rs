@@ -9,10 +9,13 @@ use std::process::{Command, Stdio};
 
 const TEXT: &str = "examples/pond/agreement.csl";
 const READINGS: &str = "examples/pond/season.readings";
+const SIZED: &str = "examples/contractor/agreement.csl";
 
 /// Every command that writes a result.
-const COMMANDS: [&[&str]; 14] = [
+const COMMANDS: [&[&str]; 16] = [
     &["check", TEXT],
+    &["sizes", SIZED],
+    &["sizes", "--json", SIZED],
     &["assemble", TEXT],
     &["readings", "--for", TEXT, READINGS],
     &["run", TEXT, READINGS],
@@ -41,18 +44,22 @@ fn no_room_for_the_result() {
         assert!(told.starts_with("standard output: ") && told.matches('\n').count() == 1, "{arguments:?}: {told}");
         assert_eq!(output.status.code(), Some(2), "{arguments:?}");
     }
-    let refused: &[&str] = &["run", "--json", READINGS, READINGS];
-    let output = command(refused).stdin(Stdio::null()).stdout(full()).output().expect("the command");
-    let told = text(&output.stderr);
-    assert!(told.contains("expected `parties`") && told.contains("\nstandard output: "), "{told}");
-    assert_eq!(output.status.code(), Some(2));
+    let refused: [&[&str]; 2] = [&["run", "--json", READINGS, READINGS], &["sizes", "--json", READINGS]];
+    for arguments in refused {
+        let output = command(arguments).stdin(Stdio::null()).stdout(full()).output().expect("the command");
+        let told = text(&output.stderr);
+        assert!(told.contains("expected `parties`") && told.contains("\nstandard output: "), "{told}");
+        assert_eq!(output.status.code(), Some(2), "{arguments:?}");
+    }
 }
 
 /// No room for complaints either: the status tells it.
 #[test]
 fn no_room_for_complaints() {
-    let wrong: [(&[&str], i32); 5] = [
+    let wrong: [(&[&str], i32); 7] = [
         (&["check", READINGS], 2),
+        (&["sizes", READINGS], 2),
+        (&["sizes"], 3),
         (&["run", READINGS, READINGS], 2),
         (&["run", "--follow", READINGS], 2),
         (&["timeline", "a"], 3),
@@ -148,7 +155,7 @@ fn standard_input_twice() {
 
 #[test]
 fn empty_files() {
-    for arguments in [["check", "/dev/null"], ["assemble", "/dev/null"]] {
+    for arguments in [["check", "/dev/null"], ["sizes", "/dev/null"], ["assemble", "/dev/null"]] {
         assert!(
             complaint(&arguments, b"", 2).starts_with("/dev/null:1:1: expected `parties`, found the end of the text\n")
         );

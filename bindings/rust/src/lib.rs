@@ -40,6 +40,9 @@
 //! and what it cost, a refused one with [`Refused`], which has a cost where the reading was followed: on 11. A preview
 //! answers as the reading would.
 //!
+//! A sized agreement, one with templates that are all of kind 4, declares how many units its templates need. Where it
+//! is accepted, no reading in a run from its start is refused with 11, nor is the start.
+//!
 //! [`STACK`] bytes of stack are enough for every call; the deepest that we built runs in 357,248. The stacks of the
 //! main thread and of threads that the standard library makes are larger. Where the stack is too small the program is
 //! stopped, as at any overflow.

@@ -3,9 +3,10 @@
 use std::error::Error;
 use std::fmt;
 
-/// Why an entry refuses: the lowest number that applies. A refusal leaves every table as it was.
+/// Why an entry refuses: the first that applies, in the order that they have here. That is the order of their numbers,
+/// but for 15, which comes after 5 and before 6. A refusal leaves every table as it was.
 ///
-/// [`check`](crate::check) refuses with 1 to 5, [`start`](crate::start) with 1 to 6 and 11,
+/// [`check`](crate::check) refuses with 1 to 5 and 15, [`start`](crate::start) with these, 6 and 11,
 /// [`reading`](crate::reading) and [`preview`](crate::preview) with all, as a [`Refused`](crate::Refused).
 ///
 /// ```
@@ -25,6 +26,7 @@ pub enum Refusal {
     AgreementTyping,
     AgreementGuards,
     AgreementWidth,
+    AgreementSize,
     TableLength,
     TableContent,
     ReadingForm,
@@ -36,13 +38,14 @@ pub enum Refusal {
 }
 
 impl Refusal {
-    /// All refusals that are known, in the order of their numbers.
-    pub const ALL: [Refusal; 11] = [
+    /// All refusals that are known, in their order.
+    pub const ALL: [Refusal; 12] = [
         Refusal::AgreementLength,
         Refusal::AgreementForm,
         Refusal::AgreementTyping,
         Refusal::AgreementGuards,
         Refusal::AgreementWidth,
+        Refusal::AgreementSize,
         Refusal::TableLength,
         Refusal::TableContent,
         Refusal::ReadingForm,
@@ -59,6 +62,7 @@ impl Refusal {
             Refusal::AgreementTyping => 3,
             Refusal::AgreementGuards => 4,
             Refusal::AgreementWidth => 5,
+            Refusal::AgreementSize => 15,
             Refusal::TableLength => 6,
             Refusal::TableContent => 7,
             Refusal::ReadingForm => 8,
@@ -73,6 +77,7 @@ impl Refusal {
     ///
     /// ```
     /// assert_eq!(givuntha::Refusal::of(11), givuntha::Refusal::Units);
+    /// assert_eq!(givuntha::Refusal::of(15), givuntha::Refusal::AgreementSize);
     /// assert_eq!(givuntha::Refusal::of(99).number(), 99);
     /// ```
     pub fn of(number: u32) -> Refusal {
@@ -92,13 +97,17 @@ impl Refusal {
         match self {
             Refusal::AgreementLength => "agreement under 4 or over 16,384 bytes, or not as long as its length says",
             Refusal::AgreementForm => {
-                "record, count, type byte or nesting not as under Records, or an instance naming no template"
+                "record, count, type byte or nesting not as under Records, templates of kinds 3 and 4 mixed, units \
+                 above 128, or an instance naming no template"
             }
             Refusal::AgreementTyping => {
                 "not typed; name, literal, blame or declared party out of range; over 16 in sight"
             }
             Refusal::AgreementGuards => "unguarded instance of its own or a later template",
             Refusal::AgreementWidth => "a width over 256",
+            Refusal::AgreementSize => {
+                "in a sized agreement a body's need above its declared units, or the main clause's above 128"
+            }
             Refusal::TableLength => "table not 3,080 cells",
             Refusal::TableContent => {
                 "table breaks its layout or typing, the time it last moved or a waiting unit's A not from start to \

@@ -3,6 +3,7 @@
 use givuntha::{check, preview, reading, start, Breach, Refusal, Refused, Taken};
 use reference::generate::{calls, Answer, Call, Entry};
 use reference::{Checked, Forecast};
+use std::collections::BTreeMap;
 
 const CALLS: usize = 20_000;
 
@@ -50,20 +51,23 @@ fn answer(call: &Call) -> Answer {
 
 #[test]
 fn both_monitors_answer_alike() {
-    let (mut reached, mut foreseen, mut early, mut costly, mut ahead) = ([0; 12], [0; 12], 0, 0, [0; 3]);
+    let (mut reached, mut foreseen) = (BTreeMap::new(), BTreeMap::new());
+    let (mut early, mut costly, mut ahead) = (0, 0, [0; 3]);
     for (n, call) in calls(1).take(CALLS).enumerate() {
         let expected = call.answer();
         assert!(answer(&call) == expected, "call {n} of seed 1: {:?}", call.aim);
-        reached[expected.number() as usize] += 1;
-        foreseen[expected.number() as usize] += usize::from(matches!(expected, Answer::Preview { .. }));
+        *reached.entry(expected.number()).or_insert(0) += 1;
+        *foreseen.entry(expected.number()).or_insert(0) += usize::from(matches!(expected, Answer::Preview { .. }));
         early += usize::from(matches!(expected, Answer::Reading { early: 1, .. }));
         costly += usize::from(matches!(expected, Answer::Reading { cost: 1000.., .. }));
         ahead[0] += usize::from(matches!(expected, Answer::Start { forecast: Some(_), .. }));
         ahead[1] += usize::from(matches!(expected, Answer::Reading { forecast: Some(_), .. }));
         ahead[2] += usize::from(matches!(expected, Answer::Preview { forecast: Some(_), .. }));
     }
-    assert!(reached.iter().all(|&count| count > 0), "{reached:?}");
-    assert!(foreseen.iter().all(|&count| count > 0), "by previews: {foreseen:?}");
+    let mut numbers: Vec<u32> = Refusal::ALL.iter().map(|refusal| refusal.number()).chain([0]).collect();
+    numbers.sort_unstable();
+    assert!(reached.keys().eq(&numbers), "{reached:?}");
+    assert!(foreseen.values().all(|&count| count > 0), "by previews: {foreseen:?}");
     assert!(early > 0 && costly > 0, "{early} readings came too early, {costly} cost 1,000 or more");
     assert!(ahead.iter().all(|&count| count > 100), "told by so many starts, readings and previews: {ahead:?}");
 }

@@ -24,6 +24,15 @@ fn every_refusal_has_its_number() {
     }
 }
 
+/// Behind "accepted" the enum has the refusals in the order in which they are asked, and no other.
+#[test]
+fn the_refusals_stand_in_their_order() {
+    let header = header();
+    let names: Vec<&str> = enumerated(&header, "givuntha_answer").into_iter().map(|(name, _)| name).collect();
+    let refusals = Refusal::ALL.map(|refusal| name(refusal).replace("GIVUNTHA_", ""));
+    assert_eq!(names[1..], refusals);
+}
+
 /// The names and numbers of an enum of the header, in its order.
 fn enumerated<'h>(header: &'h str, name: &str) -> Vec<(&'h str, usize)> {
     let begin = format!("enum {name} {{");

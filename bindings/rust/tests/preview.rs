@@ -9,6 +9,8 @@ mod pond;
 mod run;
 #[path = "common/sample.rs"]
 mod sample;
+#[path = "common/sized.rs"]
+mod sized;
 
 use givuntha::{preview, reading, record, Breach, Parties, Refusal, Refused, State, Table, Taken, Times, CELLS};
 use pond::pond;
@@ -16,6 +18,8 @@ use reference::build::{and, fulfilled, instance, number, or, simple, template, t
 use reference::generate::{calls, Entry};
 use run::Run;
 use sample::sample;
+use sized::sized;
+use std::collections::BTreeMap;
 use std::fs;
 use std::path::Path;
 
@@ -131,8 +135,8 @@ fn the_reading_does_what_was_foreseen() {
     assert_refused(&run.agreement, run.table.cells(), &salinity(107, 0), Refused::Units { cost: 447 });
 }
 
-/// Agreements that are refused with 1 to 5.
-fn refused_agreements() -> [(Vec<u8>, Refusal); 5] {
+/// Agreements that are refused with 1 to 5 and 15.
+fn refused_agreements() -> [(Vec<u8>, Refusal); 6] {
     let itself = instance(0, &[], &[]);
     let untyped = pond(&[], &Wait { after: truth(1), ..later() }.obligation(0));
     let unguarded = pond(&[template(&[], 0, 0, &itself)], &fulfilled());
@@ -142,6 +146,7 @@ fn refused_agreements() -> [(Vec<u8>, Refusal); 5] {
         (untyped, Refusal::AgreementTyping),
         (unguarded, Refusal::AgreementGuards),
         (pond(&[], &and(&many(), &fulfilled())), Refusal::AgreementWidth),
+        (pond(&[sized(&template(&[], 0, 0, &fulfilled()), 0)], &many()), Refusal::AgreementSize),
     ]
 }
 
@@ -156,7 +161,7 @@ fn owed_then_many() -> Run {
 }
 
 #[test]
-fn refusals_1_to_5() {
+fn refusals_1_to_5_and_15() {
     for (agreement, refusal) in refused_agreements() {
         let run = Run::of(sample());
         assert_refused(&agreement, run.table.cells(), &salinity(110, 240), Refused::Other(refusal));
@@ -322,16 +327,16 @@ fn what_stands_around_the_second_table_is_left() {
 /// Readings of every cause, on running, decided and damaged tables.
 #[test]
 fn of_generated_calls() {
-    let (mut accepted, mut refused, mut early) = (0, [0; 12], 0);
+    let (mut accepted, mut refused, mut early) = (0, BTreeMap::new(), 0);
     for (n, call) in calls(6).take(GENERATED).enumerate() {
         let Entry::Reading { table, reading } = &call.entry else { continue };
         let held: Vec<i64> = (0..CELLS).map(|cell| (cell * n) as i64).collect();
         match as_on_a_copy(&call.agreement, table, reading, &held) {
             Ok(taken) => (accepted, early) = (accepted + 1, early + usize::from(taken.early)),
-            Err(why) => refused[why.number() as usize] += 1,
+            Err(why) => *refused.entry(why.refusal()).or_insert(0) += 1,
         }
     }
-    assert!(accepted > 1000 && early > 0 && refused[1..].iter().all(|count| *count > 0), "{accepted}, {refused:?}");
+    assert!(accepted > 1000 && early > 0 && refused.keys().eq(&Refusal::ALL), "{accepted}, {refused:?}");
 }
 
 /// Each reading of every stream does what was foreseen.

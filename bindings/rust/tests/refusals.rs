@@ -4,14 +4,17 @@
 mod pond;
 #[path = "common/sample.rs"]
 mod sample;
+#[path = "common/sized.rs"]
+mod sized;
 
 use givuntha::{check, reading, record, start, Breach, Parties, Refusal, Refused, State, Table, Taken, CELLS};
 use pond::pond;
 use reference::agreement::Operator;
 use reference::build::{and, binary, fulfilled, instance, number, record as made, simple, template, truth, Wait};
 use sample::sample;
+use sized::sized;
 
-/// Agreements that are refused with 1 to 5.
+/// Agreements that are refused with 1 to 5 and 15.
 fn refused_agreements() -> Vec<(Vec<u8>, Refusal)> {
     let sum = binary(Operator::Plus, &number(1), &truth(1));
     let itself = instance(0, &[], &[]);
@@ -24,6 +27,7 @@ fn refused_agreements() -> Vec<(Vec<u8>, Refusal)> {
         (pond(&[], &Wait { after: sum, ..simple(60) }.obligation(0)), Refusal::AgreementTyping),
         (pond(&[template(&[], 0, 0, &itself)], &fulfilled()), Refusal::AgreementGuards),
         (pond(&[], &balanced(129)), Refusal::AgreementWidth),
+        (pond(&[sized(&template(&[], 0, 0, &balanced(2)), 0)], &fulfilled()), Refusal::AgreementSize),
     ]
 }
 
@@ -52,7 +56,7 @@ fn refused_start(agreement: &[u8], cells: &[i64]) -> Option<Refusal> {
 }
 
 #[test]
-fn refusals_1_to_5_by_every_entry() {
+fn refusals_1_to_5_and_15_by_every_entry() {
     let cells: Vec<i64> = (0..CELLS as i64).collect();
     for (agreement, refusal) in refused_agreements() {
         assert_eq!(check(&agreement), Err(refusal));
@@ -143,11 +147,27 @@ fn start_ignores_what_the_cells_held() {
 #[test]
 fn numbers_and_words() {
     let numbers: Vec<_> = Refusal::ALL.iter().map(|refusal| refusal.number()).collect();
-    assert_eq!(numbers, (1..=11).collect::<Vec<_>>());
+    assert_eq!(numbers, [1, 2, 3, 4, 5, 15, 6, 7, 8, 9, 10, 11]);
+    assert!(Refusal::ALL.is_sorted() && Refusal::ALL.iter().all(|refusal| Refusal::of(refusal.number()) == *refusal));
+    assert_eq!(
+        Refusal::AgreementSize.to_string(),
+        "in a sized agreement a body's need above its declared units, or the main clause's above 128"
+    );
     assert_eq!(Refusal::TableLength.to_string(), "table not 3,080 cells");
     assert_eq!(Refusal::ReadingTime.to_string(), "time below the last reading time");
     assert_eq!(Refusal::Units.to_string(), "the residue by the rules needs over 128 units");
     assert!(Refusal::ALL.iter().all(|refusal| !refusal.to_string().contains("  ")));
+}
+
+/// Numbers that no entry answers, or that a later library may.
+#[test]
+fn other_numbers() {
+    for number in [0, 12, 13, 14, 16, 99, u32::MAX] {
+        let unknown = Refusal::of(number);
+        assert_eq!((unknown, unknown.number()), (Refusal::Unknown(number), number));
+        assert_eq!(unknown.to_string(), "a refusal that this package does not know");
+        assert!(!Refusal::ALL.contains(&unknown));
+    }
 }
 
 /// A refused reading says what the refusal says, and has a cost on 11 alone.

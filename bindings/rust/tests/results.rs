@@ -5,12 +5,15 @@
 mod pond;
 #[path = "common/run.rs"]
 mod run;
+#[path = "common/sized.rs"]
+mod sized;
 
 use givuntha::{record, CELLS};
 use pond::pond;
 use reference::agreement::Type;
 use reference::build::{agreement, and, fulfilled, instance, number, reading_type, simple, template, truth, Wait};
 use run::Run;
+use sized::sized;
 
 extern "C" {
     fn givuntha_start(
@@ -137,14 +140,15 @@ fn salinity(time: u32) -> Vec<u8> {
     record::reading(time, 1, &[250])
 }
 
-/// Agreements that are refused with 1 to 5.
-fn refused_agreements() -> [(Vec<u8>, u32); 5] {
+/// Agreements that are refused with 1 to 5 and 15.
+fn refused_agreements() -> [(Vec<u8>, u32); 6] {
     let untyped = pond(&[], &Wait { after: truth(1), ..later() }.obligation(0));
     let itself = instance(0, &[], &[]);
     let unguarded = pond(&[template(&[], 0, 1, &itself)], &later().obligation(0));
     let half = (0..7).fold(later().obligation(0), |side, _| and(&side, &side));
     let wide = pond(&[], &and(&half, &later().obligation(0)));
-    [(vec![], 1), (pond(&[], &itself), 2), (untyped, 3), (unguarded, 4), (wide, 5)]
+    let over = pond(&[sized(&template(&[], 0, 1, &simple(60).obligation(0)), 0)], &later().obligation(0));
+    [(vec![], 1), (pond(&[], &itself), 2), (untyped, 3), (unguarded, 4), (wide, 5), (over, 15)]
 }
 
 /// So many obligations that are 128 in the end, too many with their joins.
@@ -221,7 +225,7 @@ fn on_a_decided_table_mark_and_cost_are_0() {
 
 /// Each reading would be early, at a cost of 1 and with a breach ahead, were it not refused.
 #[test]
-fn refusals_1_to_10_set_all_to_0() {
+fn refusals_1_to_10_and_15_set_all_to_0() {
     let Run { agreement, table } = owed_later();
     let (cells, given) = (table.cells(), salinity(110));
     for (agreement, number) in refused_agreements() {

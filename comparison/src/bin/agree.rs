@@ -1,12 +1,14 @@
 //! Gives generated calls to the proved library and to the reference monitor, and compares answers, with all that a
 //! start, a reading and a preview tell, and all cells, of a preview those of the second table; its first cannot be
-//! written: `agree [CALLS [SEED [SECONDS]]]`. Prints what the calls reached; fails if the two ever differ, if something
-//! was never reached, or if fewer calls than asked for were made in the time given. The smallest differing call is
-//! printed whole.
+//! written: `agree [CALLS [SEED [SECONDS]]]`. Some of the calls are for agreements with templates of kind 4, made here.
+//! Prints what the calls reached; fails if the two ever differ, if something was never reached, or if fewer calls than
+//! asked for were made in the time given. The smallest differing call is printed whole.
 
+use comparison::counts::Counts;
 use comparison::proved;
+use comparison::sized::{self, Made};
 use reference::coverage::Coverage;
-use reference::generate::{calls, Answer, Call, Entry};
+use reference::generate::{self, Answer, Call, Entry};
 use reference::Forecast;
 use std::process::ExitCode;
 use std::time::{Duration, Instant};
@@ -18,35 +20,59 @@ struct Difference {
     given: Answer,
 }
 
+/// What the calls came to.
+#[derive(Default)]
+struct Compared {
+    coverage: Coverage,
+    counts: Counts,
+    made: u64,
+    differing: u64,
+    smallest: Option<Difference>,
+}
+
+impl Compared {
+    fn compare(&mut self, call: Call, of_sized: Option<Made>) {
+        let (expected, given) = (call.answer(), proved::answer(&call));
+        self.made += 1;
+        self.coverage.observe(&call, &expected);
+        if expected == given {
+            self.counts.observe(&call, &given, of_sized.as_ref());
+        } else {
+            self.differing += 1;
+            keep_smaller(&mut self.smallest, Difference { call, expected, given });
+        }
+    }
+}
+
+/// One of so many calls is one of [`sized`].
+const SIZED_EVERY: u64 = 4;
+
 fn main() -> ExitCode {
     let mut arguments = std::env::args().skip(1).map(|argument| argument.parse::<u64>().expect("a number"));
     let wanted = arguments.next().unwrap_or(200_000);
     let seed = arguments.next().unwrap_or(1);
     let limit = arguments.next().map(Duration::from_secs);
     let begun = Instant::now();
-    let mut coverage = Coverage::new();
-    let (mut made, mut differing, mut smallest) = (0, 0, None);
-    for call in calls(seed).take(wanted as usize) {
-        if limit.is_some_and(|limit| begun.elapsed() > limit) {
-            break;
-        }
-        let (expected, given) = (call.answer(), proved::answer(&call));
-        made += 1;
-        coverage.observe(&call, &expected);
-        if expected != given {
-            differing += 1;
-            keep_smaller(&mut smallest, Difference { call, expected, given });
+    let (mut any, mut sized) = (generate::calls(seed), sized::calls(seed));
+    let mut compared = Compared::default();
+    while compared.made < wanted && limit.is_none_or(|limit| begun.elapsed() <= limit) {
+        if compared.made % SIZED_EVERY == 0 {
+            let (call, made) = sized.next().expect("calls without end");
+            compared.compare(call, Some(made));
+        } else {
+            compared.compare(any.next().expect("calls without end"), None);
         }
     }
-    print!("{coverage}");
+    let Compared { coverage, counts, made, differing, smallest } = compared;
+    print!("{coverage}{counts}");
     let seconds = begun.elapsed().as_secs_f64();
     println!("{made} calls of seed {seed} in {seconds:.1} s, {differing} answered differently");
-    let reached = report(&coverage);
+    let right = [report(coverage.missing(), &coverage.faults), report(counts.missing(), &counts.faults)];
     if let Some(difference) = smallest {
         show(&difference);
         return ExitCode::FAILURE;
     }
-    if reached && made == wanted {
+    if right == [true; 2] && made == wanted {
         ExitCode::SUCCESS
     } else {
         ExitCode::FAILURE
@@ -73,13 +99,12 @@ fn keep_smaller(smallest: &mut Option<Difference>, found: Difference) {
 }
 
 /// Prints what was never reached and the first answer that cannot be right; true if there is neither.
-fn report(coverage: &Coverage) -> bool {
-    let missing = coverage.missing();
+fn report(missing: Vec<String>, faults: &[String]) -> bool {
     missing.iter().for_each(|name| println!("never reached: {name}"));
-    if let Some(fault) = coverage.faults.first() {
-        println!("{} answers cannot be right; the first: {fault}", coverage.faults.len());
+    if let Some(fault) = faults.first() {
+        println!("{} answers cannot be right; the first: {fault}", faults.len());
     }
-    missing.is_empty() && coverage.faults.is_empty()
+    missing.is_empty() && faults.is_empty()
 }
 
 fn show(difference: &Difference) {

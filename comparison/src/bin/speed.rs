@@ -28,6 +28,7 @@ fn growth() -> Vec<(&'static str, Vec<Case>)> {
     let mark = || reference::build::reading(110, 0, &[]);
     vec![
         ("bytes of clauses", [4, 8, 16, 32].map(cases::small_clauses).into()),
+        ("bytes of sized clauses", [4, 8, 16, 32].map(cases::sized_clauses).into()),
         ("bytes of expressions", [96, 192, 384, 768].map(cases::expressions).into()),
         ("units", [3, 4, 5, 6].map(|n| cases::doubled(n, "waits", mark())).into()),
         ("activations", [(31, 64), (63, 64), (127, 64), (128, 128)].map(|(n, m)| cases::activations(n, m)).into()),

@@ -1,7 +1,8 @@
--- What check tells the other entries, and their refusals 1 to 7.
+-- What check tells the other entries, and their refusals 1 to 7 and 15.
 use mathlib.Core.Bool.{Bool, false, true}
 use mathlib.Core.List.{List}
 use mathlib.Core.Option.{Option, none, some}
+use mathlib.Core.Logic.{inl, inr, ◌⊎◌}
 use mathlib.Core.Path.{ap, refl, subst, sym, ◌∙◌, ◌≡◌}
 use Prim.Native.Nat.{◌<◌, ◌≤◌, ℕ}
 use native.Mathlib.Omega.{arith}
@@ -10,11 +11,13 @@ use lib.IntN.{ℤ}
 use lib.ListN.{length}
 use Rattle.csl.specs.Parties.{bits_of}
 use Rattle.csl.specs.Syntax.{Agreement}
-use Rattle.csl.specs.Decode.{agreement_of, decode, sized}
+use Rattle.csl.specs.Decode.{agreement_of, decode, length_ok}
 use Rattle.csl.specs.Typing.{typed}
 use Rattle.csl.specs.Guards.{guarded_from}
 use Rattle.csl.specs.Widths.{narrow_all}
-use Rattle.csl.specs.Check.{CheckResult, accepted, answer_for, check_decoded, check_of, check_typed, checked, refused}
+use Rattle.csl.specs.Sizes.{fits}
+use Rattle.csl.specs.Check.{CheckResult, accepted, answer_for, check_decoded, check_narrow, check_of, check_typed}
+use Rattle.csl.specs.Check.{checked, refused}
 use Rattle.csl.specs.Run.{started, step}
 use Rattle.csl.specs.Table.{Run, run_of}
 use Rattle.csl.specs.Early.{came_early, mark_of}
@@ -34,44 +37,52 @@ abbrev pub unread : ℕ → List ℤ → ReadAnswer
 unread n us = answered 0 0 (answer n us)
 
 -- ---- what check says
--- a refusal has a number, from 1 to 5
+-- a refusal has a number, from 1 to 5 or 15
 Numbered : CheckResult → Type 0
-Numbered (refused n) = (0 < n) × (n ≤ 5)
+Numbered (refused n) = (0 < n) × ((n ≤ 5) ⊎ (n ≡ 15))
 Numbered (accepted a ps) = Unit {0}
 
+low : {n : ℕ} → 0 < n → n ≤ 5 → (0 < n) × ((n ≤ 5) ⊎ (n ≡ 15))
+low h l = (h, inl l)
+
 numbered : (s : List ℕ) → Numbered (checked s)
-unfolding checked check_decoded check_typed Numbered
-numbered s = by_size (sized s)
+unfolding checked check_decoded check_typed check_narrow Numbered
+numbered s = by_length (length_ok s)
   where
-    by_width : (a : Agreement) (ps : List ℕ) (b : Bool) → Numbered (elim b [ false ↦ refused 5 | true ↦ accepted a ps ])
-    by_width a ps true = tt
-    by_width a ps false = omega arith
+    by_size : (a : Agreement) (ps : List ℕ) (b : Bool) → Numbered (elim b [ false ↦ refused 15 | true ↦ accepted a ps ])
+    by_size a ps true = tt
+    by_size a ps false = (omega arith, inr refl)
+
+    by_width : (a : Agreement) (ps : List ℕ) (b : Bool)
+        → Numbered (elim b [ false ↦ refused 5 | true ↦ check_narrow a ps ])
+    by_width a ps true = by_size a ps (fits a)
+    by_width a ps false = low (omega arith) (omega arith)
 
     by_guard : (a : Agreement) (ps : List ℕ) (b : Bool)
         → Numbered (elim b [
           | false ↦ refused 4
-          | true ↦ elim (narrow_all a) [ false ↦ refused 5 | true ↦ accepted a ps ]
+          | true ↦ elim (narrow_all a) [ false ↦ refused 5 | true ↦ check_narrow a ps ]
         ])
     by_guard a ps true = by_width a ps (narrow_all a)
-    by_guard a ps false = omega arith
+    by_guard a ps false = low (omega arith) (omega arith)
 
     by_type : (a : Agreement) (o : Option (List ℕ)) → Numbered
         (elim o [ none ↦ refused 3 | some ps ↦ check_typed a ps ])
     by_type a (some ps) = by_guard a ps (guarded_from 0 a.templates)
-    by_type a none = omega arith
+    by_type a none = low (omega arith) (omega arith)
 
     by_form : (o : Option Agreement) → Numbered (elim o [ none ↦ refused 2 | some a ↦ check_decoded a ])
     by_form (some a) = by_type a (typed a)
-    by_form none = omega arith
+    by_form none = low (omega arith) (omega arith)
 
-    by_size : (b : Bool) → Numbered (elim b
+    by_length : (b : Bool) → Numbered (elim b
         [ false ↦ refused 1 | true ↦ elim (decode s) [ none ↦ refused 2 | some a ↦ check_decoded a ] ])
-    by_size true = by_form (decode s)
-    by_size false = omega arith
+    by_length true = by_form (decode s)
+    by_length false = low (omega arith) (omega arith)
 
-pub check_few : (s : List ℕ) (n : ℕ) → checked s ≡ refused n → n ≤ 5
+pub check_numbers : (s : List ℕ) (n : ℕ) → checked s ≡ refused n → (n ≤ 5) ⊎ (n ≡ 15)
 unfolding Numbered
-check_few s n e = (subst Numbered e (numbered s)).1
+check_numbers s n e = (subst Numbered e (numbered s)).1
 
 -- refused with a number, or accepted, and then the agreement is what the bytes decode to
 pub from_check : {C : Type 0} (s : List ℕ)
@@ -124,7 +135,7 @@ module _ (us : List ℤ) where
   refuse_reading : ℕ → ReadAnswer
   refuse_reading n = unread n us
 
-  -- the numbers 1 to 5
+  -- the numbers 1 to 5 and 15
   module _ (s : List ℕ) (n : ℕ) (ck : checked s ≡ refused n) where
     pub start_refused_lem : begun_of s us ≡ answer n us
     unfolding begun_of refusal asked on_start refuse

@@ -12,7 +12,7 @@ use Rattle.csl.specs.Further.{body, ladder', wide', waiting, next', either', if'
 use Rattle.csl.specs.Further.{over, widths, mixed, lent, offered, units', short, good, ended, broke, full, set, alter}
 use Rattle.csl.specs.Further.{read_by, rejects, ends, running', moves, lent', residue, sound, sights, alone, alone'}
 use Rattle.csl.specs.Further.{in_place, tables, begun, two, crowd, entries, ever, since, ten, unlike, alike, moved}
-use Rattle.csl.specs.Further.{bare, asked, op', still, absent, unreached, further}
+use Rattle.csl.specs.Further.{bare, lent_a_number, asked, op', still, absent, unreached, further}
 
 pub further_pass : map (λ t. t.shown) further ≡ map (λ t. t.expected) further
 unfolding harness says accepts refuses mains five refuses_all steps_of run_seen obeys leads waits owed chosen by shows
@@ -21,6 +21,6 @@ unfolding harness says accepts refuses mains five refuses_all steps_of run_seen 
     becoming left right joins values refused' readings records named in_sight parameters party_sets types guards
     ladder wide calls both' body ladder' wide' waiting next' either' if' widest too_wide laddered narrow over widths
     mixed lent offered units' short good ended broke full set alter read_by rejects ends running' moves lent' residue
-    sound sights alone alone' in_place tables begun two crowd entries ever since ten unlike alike moved bare asked op'
-    still absent unreached further
+    sound sights alone alone' in_place tables begun two crowd entries ever since ten unlike alike moved bare
+    lent_a_number asked op' still absent unreached further
 further_pass = refl

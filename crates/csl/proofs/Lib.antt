@@ -4,3 +4,4 @@ pub mod TooEarly
 pub mod Costs
 pub mod Joined
 pub mod Previews
+pub mod KnownSizes

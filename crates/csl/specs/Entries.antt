@@ -1,5 +1,6 @@
 -- Paper 01, "Refusal table": the entries start and reading, on bytes and cells. (check stands in Check.)
--- "Check uses 1 to 5, start 1 to 6 and 11, [..] a reading all."; a refusal leaves the table.
+-- "Check uses 1 to 5, start 1 to 6 and 11, [..] a reading all."; a refusal leaves the table. 15 (paper 02, No. 7) is
+-- among what check says.
 -- Paper 02, No. 2: both answer with the forecast of the table they leave.
 use Rattle.std.specs.Prelude.{Bool, true, false, List, ℕ, zero, suc, eqb, ℤ, length}
 use Rattle.std.proofs.Math.Option.{none, some}

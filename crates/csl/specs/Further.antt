@@ -11,7 +11,7 @@ use Rattle.csl.specs.Syntax.{party_lit, binary, bad_expr, Op, Join, and, or, Wai
 use Rattle.csl.specs.Syntax.{choice, if, join, instance, bad_clause, Template, Agreement}
 use Rattle.csl.specs.Bytes.{byte}
 use Rattle.csl.specs.Parties.{member_count, bits_of}
-use Rattle.csl.specs.Decode.{counts_ok, sized}
+use Rattle.csl.specs.Decode.{counts_ok, length_ok}
 use Rattle.csl.specs.Check.{CheckResult, refused, accepted, checked, check_decoded, check_typed, check_of, mains_of}
 use Rattle.csl.specs.Values.{Val, num, bool, who, values_of, eval}
 use Rattle.csl.specs.Outcomes.{Sight, Sort, an_obligation, a_choice, Residue, unit, both, Outcome, done, breach}
@@ -385,7 +385,7 @@ records =
     refuses_all "1: under 4 bytes" 1 (3 ∷ 0 ∷ 1 ∷ [])
     ∷ refuses_all "1: a byte more than it says" 1 (sample ++ (0 ∷ []))
     ∷ shows "16,384 bytes and one more"
-    (holds (sized (record_of 1 (replicate 16_380 0))) ∷ holds (sized (record_of 1 (replicate 16_381 0))) ∷ [])
+    (holds (length_ok (record_of 1 (replicate 16_380 0))) ∷ holds (length_ok (record_of 1 (replicate 16_381 0))) ∷ [])
     (holds true ∷ holds false ∷ [])
     ∷ refuses_all "2: only a header" 2 (record_of 1 [])
     ∷ refuses "kind 15 for a clause" 2 (main (record_of 15 []))
@@ -600,7 +600,7 @@ unfoldable pub both' : Clause → Clause → Clause
 both' l r = join and l r
 
 unfoldable pub body : Clause → Template
-body c = record { head = record { values = []; params = 0; declared = [] }; body = c }
+body c = record { head = record { values = []; params = 0; declared = []; units = none }; body = c }
 
 unfoldable pub ladder' : List Template
 ladder' = body (both' fulfilled fulfilled) ∷ map (λ k. body (both' (calls k) (calls k))) (0 ∷ 1 ∷ 2 ∷ 3 ∷ 4 ∷ [])
@@ -926,10 +926,14 @@ moved =
 unfoldable pub bare : Sight
 bare = record { params = []; values = [] }
 
+unfoldable pub lent_a_number : Template
+lent_a_number = record {
+  head = record { values = number ∷ []; params = 1; declared = []; units = none };
+  body = fulfilled;
+}
+
 unfoldable pub asked : Clause → Seen
-asked c = decides (check_decoded
-    (laddered (record { head = record { values = number ∷ []; params = 1; declared = [] }; body = fulfilled }
-    ∷ []) c))
+asked c = decides (check_decoded (laddered (lent_a_number ∷ []) c))
 
 unfoldable pub op' : Op → Expr → Expr → Seen
 op' o a b = evaluates (eval [] (binary o a b))

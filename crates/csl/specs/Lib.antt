@@ -7,10 +7,12 @@ pub mod Decode
 pub mod Typing
 pub mod Guards
 pub mod Widths
+pub mod Sizes
 pub mod Check
 pub mod Values
 pub mod Outcomes
 pub mod Places
+pub mod Needs
 pub mod Windows
 pub mod Reckoning
 pub mod Rules
@@ -29,3 +31,4 @@ pub mod TooEarly
 pub mod Costs
 pub mod Joined
 pub mod Previews
+pub mod KnownSizes

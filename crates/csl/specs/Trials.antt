@@ -12,11 +12,13 @@ use Rattle.csl.specs.Decode as Decode
 use Rattle.csl.specs.Typing as Typing
 use Rattle.csl.specs.Guards as Guards
 use Rattle.csl.specs.Widths as Widths
+use Rattle.csl.specs.Sizes as Sizes
 use Rattle.csl.specs.Check as Check
 use Rattle.csl.specs.Values as Values
 use Rattle.csl.specs.Outcomes as Outcomes
 use Rattle.csl.specs.Rules as Rules
 use Rattle.csl.specs.Places as Places
+use Rattle.csl.specs.Needs as Needs
 use Rattle.csl.specs.Run as Run
 use Rattle.csl.specs.Early as Early
 use Rattle.csl.specs.Cost as Cost
@@ -41,8 +43,9 @@ use Rattle.csl.specs.Build.{breached_table}
 -- everything that the trials compute with
 unfoldable pub computes : Unit {0}
 unfolding Lists.computes Numbers.computes Bytes.computes Parties.computes Decode.computes Typing.computes
-    Guards.computes Widths.computes Check.computes Values.computes Outcomes.computes Rules.computes Places.computes
-    Run.computes Early.computes Cost.computes Table.computes Entries.computes Demand3.told_by Build.computes
+    Guards.computes Widths.computes Sizes.computes Check.computes Values.computes Outcomes.computes Rules.computes
+    Places.computes Needs.computes Run.computes Early.computes Cost.computes Table.computes Entries.computes
+    Demand3.told_by Build.computes
 computes = tt
 
 -- ---- a trial: what is computed, and what it must be

@@ -68,7 +68,7 @@ pub from_last : (s : List ℕ) (k : ℕ) → byte s 10 ≤ k → templates_from 
 unfolding templates_from pieces
 from_last s k l = let z : byte s 10 - k ≡ 0 = omega arith in rw z
 
-from_next : (s : List ℕ) (k : ℕ) → k < byte s 10
+pub from_next : (s : List ℕ) (k : ℕ) → k < byte s 10
     → templates_from s k ≡ template_of (heads_of s) (piece s (template_place s k)) ∷ templates_from s (k + 1)
 unfolding templates_from pieces
 from_next s k l =

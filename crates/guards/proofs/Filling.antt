@@ -14,8 +14,9 @@ use Rattle.csl.specs.Syntax.{Clause, fulfilled, obligation, choice, if, join, in
 use Rattle.csl.specs.Decode.{agreement_of, main_of}
 use Rattle.csl.specs.Widths.{or_zero, width, widths_from, narrow, thens_narrow, all_narrow, narrow_all}
 use Rattle.laws.proofs.Bools.{false_first, true_first}
+use Rattle.laws.proofs.Lists.{number_at}
 use Rattle.guards.specs.Walk.{counted, AsWide, body_at}
-use Rattle.guards.proofs.Wide.{at_get_d, sat, leb_min}
+use Rattle.guards.proofs.Wide.{sat, leb_min}
 use Rattle.guards.proofs.Bodies.{templates_from, from_first, from_last, widths_next}
 
 -- ---- a clause is as wide by the counted widths, up to 257
@@ -36,7 +37,7 @@ module _ (ws ys : List ℕ) (h : AsWide ws ys) where
   counted_same (join j t f) = sat_both (width ws t) (width ws f) (width ys t) (width ys f) (counted_same t)
       (counted_same f)
   counted_same (instance k es bs) = sat_one (or_zero (at ws k)) (or_zero (at ys k))
-      (rw (at_get_d ws k, at_get_d ys k) (h.wide k))
+      (rw (number_at ws k, number_at ys k) (h.wide k))
   counted_same bad_clause = refl
 
   narrow_same : (c : Clause) → narrow ws c ≡ narrow ys c

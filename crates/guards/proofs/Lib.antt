@@ -1,5 +1,5 @@
-mod Walks
+pub mod Walks
 mod Guarding
 mod Wide
-mod Bodies
+pub mod Bodies
 mod Filling

@@ -186,6 +186,10 @@ module _ {A : Type 0} (f : Clause → A) (d : ℕ) (s : List ℕ) {m : ℕ} {r :
       either (no q) = answers_then {c = first_clause m s} (λ t. Unit {0}) (omega arith) refl (λ hs p w. tt)
           (λ b w t z. h b w t)
 
+-- as a `match` with arms for 17 and 18 leaves the others
+pub past_wait : (m : ℕ) → (m ≡ 17 → ⊥) → 17 ≤ m → 18 ≤ m
+past_wait m e l = omega arith
+
 -- kinds 19 to 21: what holds of `if` and of a join
 pub sided_same : {A : Type 0} (f : Clause → A) (e : List ℕ → Expr) (p : ℕ) (s : List ℕ) (m : ℕ) (t u : Clause) {r : A}
     → (m ≡ 18 → ⊥) → ((x : Expr) → r ≡ f (if x t u)) → ((j : Join) → r ≡ f (join j t u)) → r ≡ f (sided e p s m t u)

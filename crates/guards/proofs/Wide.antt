@@ -1,8 +1,8 @@
 -- Laws for the widths of a clause's bytes.
 use mathlib.Core.Path.{◌≡◌, refl, sym, ap, ◌∙◌}
 use mathlib.Core.Bool.{Bool, true, false, cond, ◌&&◌, and-true, and-false}
-use mathlib.Core.List.{List, [], ◌∷◌}
-use Prim.Native.Nat.{ℕ, zero, suc, ◌+◌, ◌-◌, ◌<◌, ◌≤◌, min}
+use mathlib.Core.List.{List}
+use Prim.Native.Nat.{ℕ, ◌+◌, ◌-◌, ◌<◌, ◌≤◌, min}
 use native.Mathlib.Omega.{arith}
 use native.Mathlib.Decide.{dec_le}
 use borrow.Author.Tests.{le-leb, lt-leb}
@@ -13,6 +13,7 @@ use Rattle.csl.specs.Bytes.{byte, part, kind_number, record_end}
 use Rattle.csl.specs.Syntax.{Clause, fulfilled, obligation, choice, if, join, instance}
 use Rattle.csl.specs.Decode.{clause, wait_at}
 use Rattle.csl.specs.Widths.{or_zero, width, narrow, thens_narrow, all_narrow}
+use Rattle.laws.proofs.Lists.{number_at}
 use Rattle.records.specs.Index.{first_clause}
 use Rattle.records.proofs.Trees.{sided_choice}
 use Rattle.std.specs.Prelude.{Option, Some, None}
@@ -20,7 +21,7 @@ use Rattle.std.specs.Option.{is_some, IfSome}
 use Rattle.std.specs.Bool.{then_some}
 use Rattle.guards.specs.Walk.{Answers, counted, narrow_width}
 use Rattle.guards.proofs.Walks.{answers_then, answers_two, answers_fulfilled, answers_instance, answers_low}
-use Rattle.guards.proofs.Walks.{answers_none, sided_same}
+use Rattle.guards.proofs.Walks.{answers_none, past_wait, sided_same}
 
 -- ---- sums that stop at 257
 pub sat : (a b : ℕ) → min (1 + min a 257 + min b 257) 257 ≡ min (1 + a + b) 257
@@ -28,12 +29,6 @@ sat a b = omega arith
 
 sat_one : (b : ℕ) {y n r : ℕ} → n ≡ 1 + y → r ≡ min n 257 → y ≡ min b 257 → r ≡ min (1 + b) 257
 sat_one b e h q = omega arith
-
-pub at_get_d : (ws : List ℕ) (k : ℕ) → or_zero (at ws k) ≡ get_or ws k 0
-unfolding at or_zero
-at_get_d [] k = refl
-at_get_d (w ∷ ws) zero = refl
-at_get_d (w ∷ ws) (suc k) = at_get_d ws k
 
 -- ---- `counted`: n is what is summed up, and r what it counts as
 module _ (ws : List ℕ) (d : ℕ) (s : List ℕ) {m n r : ℕ} (h : r ≡ min n 257) (k : m ≡ kind_number s) where
@@ -51,7 +46,7 @@ module _ (ws : List ℕ) (d : ℕ) (s : List ℕ) {m n r : ℕ} (h : r ≡ min n
       → Answers (counted ws) d s r
   unfolding counted width
   width_instance e g q i = answers_instance (counted ws) d s k e
-      (λ es bs. sat_one (or_zero (at ws (byte s 4))) i h (q ∙ rw (g, ← at_get_d ws (byte s 4))))
+      (λ es bs. sat_one (or_zero (at ws (byte s 4))) i h (q ∙ rw (g, ← number_at ws (byte s 4))))
 
   module _ {c z : ℕ} (i : c ≡ first_clause m s) (j : z ≡ record_end s c) where
     pub width_choice : {y : ℕ} → m ≡ 18 → Answers (counted ws) (d - 1) (part s z (length s)) y → n ≡ 1 + y
@@ -141,7 +136,7 @@ module _ (ws : List ℕ) (d : ℕ) (s : List ℕ) {m : ℕ} (k : m ≡ kind_numb
         → Answers (narrow_width ws) d s r
     unfolding width thens_narrow
     narrow_instance {b} {y} e g q i = answers_instance (narrow_width ws) d s k e (λ es bs.
-        let p = sat_one (or_zero (at ws (byte s 4))) i refl (q ∙ rw (g, ← at_get_d ws (byte s 4)) refl) in
+        let p = sat_one (or_zero (at ws (byte s 4))) i refl (q ∙ rw (g, ← number_at ws (byte s 4)) refl) in
         last ws (instance (byte s 4) es bs) _ h p refl)
 
     module _ {c : ℕ} (i : c ≡ first_clause m s) where
@@ -215,10 +210,6 @@ module _ (ws : List ℕ) (d : ℕ) (s : List ℕ) {m : ℕ} (k : m ≡ kind_numb
           (λ e p t u g f. sided_same (narrow_width ws) e p s m t u l
           (λ x. none_part ws u (if x t u) (omega arith) (λ q. rw (q, and-false (thens_narrow ws t)) refl) f)
           (λ x. none_part ws u (join x t u) (omega arith) (λ q. rw (q, and-false (thens_narrow ws t)) refl) f))
-
--- as a `match` with arms for 17 and 18 leaves the others
-pub past_wait : (m : ℕ) → (m ≡ 17 → ⊥) → 17 ≤ m → 18 ≤ m
-past_wait m e l = omega arith
 
 -- what is found is narrow
 pub few : (n : ℕ) {r : Option ℕ} → r ≡ then_some (leb n 256) n → IfSome r (λ w. w ≤ 256)

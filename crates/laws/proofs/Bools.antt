@@ -74,6 +74,13 @@ true_first a b p q r = r ∙ rw (sym p ∙ q)
 pub false_first : (a b : Bool) {x y : Bool} → x ≡ a → x ≡ false → y ≡ false → y ≡ (a && b)
 false_first a b p q r = r ∙ rw (sym p ∙ q)
 
+-- the same of `a || b`
+pub true_decides : (a b : Bool) {x y : Bool} → x ≡ a → x ≡ true → y ≡ true → y ≡ (a || b)
+true_decides a b p q r = r ∙ rw (sym p ∙ q)
+
+pub false_leaves : (a b : Bool) {x y : Bool} → x ≡ a → x ≡ false → y ≡ b → y ≡ (a || b)
+false_leaves a b p q r = r ∙ rw (sym p ∙ q)
+
 -- ---- a definition by a test
 module _ {A : Type 0} (b : Bool) (x y : A) where
   pub elim_true : b ≡ true → (elim b [ true ↦ x | false ↦ y ]) ≡ x

@@ -30,7 +30,7 @@ use Rattle.soundness.proofs.Marks.{fits, forecast_shows, run_ok}
 use Rattle.monitor.specs.declared.BreachAhead.{BreachAhead}
 use Rattle.monitor.specs.declared.Refusal.{Refusal}
 use Rattle.monitor.specs.declared.Refusal.TheVariants.{AgreementLength, AgreementForm, AgreementTyping}
-use Rattle.monitor.specs.declared.Refusal.TheVariants.{AgreementGuards, AgreementWidth, TableLength}
+use Rattle.monitor.specs.declared.Refusal.TheVariants.{AgreementGuards, AgreementWidth, AgreementSize, TableLength}
 use Rattle.monitor.specs.declared.Refusal.TheVariants.{TableContent, ReadingForm, ReadingTyping, ReadingTime}
 use Rattle.monitor.specs.declared.Refusal.TheVariants.{Units}
 use Rattle.monitor.specs.Answers.{Checked, Started, TakenOrRefused, ahead_told, number_of, check_answer, start_answer}
@@ -38,10 +38,10 @@ use Rattle.monitor.specs.Answers.{taken_answer}
 use Rattle.monitor.proofs.Previews.{by_second}
 use Rattle.monitor.proofs.Opens.{by_run, by_table}
 
--- in the order of their numbers
+-- in the order of their numbers, 1 to 15; 12 to 14 are no refusal's
 abbrev refusals : List Refusal
 refusals = AgreementLength ∷ AgreementForm ∷ AgreementTyping ∷ AgreementGuards ∷ AgreementWidth ∷ TableLength
-    ∷ TableContent ∷ ReadingForm ∷ ReadingTyping ∷ ReadingTime ∷ Units ∷ []
+    ∷ TableContent ∷ ReadingForm ∷ ReadingTyping ∷ ReadingTime ∷ Units ∷ Units ∷ Units ∷ Units ∷ AgreementSize ∷ []
 
 -- what a number says: 0 is success, and n + 1 the refusal that has n before it
 abbrev pub told : {A : Type 0} → A → (Refusal → A) → ℕ → A
@@ -55,6 +55,7 @@ number_told success refused AgreementForm = refl
 number_told success refused AgreementTyping = refl
 number_told success refused AgreementGuards = refl
 number_told success refused AgreementWidth = refl
+number_told success refused AgreementSize = refl
 number_told success refused TableLength = refl
 number_told success refused TableContent = refl
 number_told success refused ReadingForm = refl
@@ -149,7 +150,7 @@ module _ (s : List ℕ) (a : Agreement) (mains : List ℕ) (ck : checked s ≡ a
 pub start_plain : (s : List ℕ) (us : List ℤ) → Bytes s → Plain (start_of s us).number (start_of s us).forecast
 unfolding start_of
 start_plain s us hs = by_table s us
-    (λ n more few x. rw x.start (refused_plain s n us more))
+    (λ n more other x. rw x.start (refused_plain s n us more))
     (λ mains ck l.
     let a = agreement_of s in
     rw (start_is s a mains ck us l) (step_plain s a mains ck (started a) us
@@ -163,7 +164,7 @@ pub reading_plain : (s : List ℕ) (us : List ℤ) (bytes : List ℕ) → Bytes 
     → Plain (reading_of s us bytes).number (reading_of s us bytes).forecast
 unfolding reading_of answered
 reading_plain s us bytes h = by_run s us
-    (λ n more few reads. rw (reads bytes) (refused_plain s n us more))
+    (λ n more other reads. rw (reads bytes) (refused_plain s n us more))
     (λ mains q ck l e.
     let a = agreement_of s in
     let i = run_of_good a mains us q (is_fair s a mains ck) e in

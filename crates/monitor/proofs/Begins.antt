@@ -9,7 +9,7 @@ use lib.IntN.{ℤ}
 use lib.ListN.{length}
 use Rattle.std.specs.Prelude.{Err, Ok, Option, Result}
 use Rattle.csl.specs.Bytes.{le32}
-use Rattle.csl.specs.Decode.{agreement_of, sized, between}
+use Rattle.csl.specs.Decode.{agreement_of, length_ok, between}
 use Rattle.csl.specs.Check.{Accepted, mains_of}
 use Rattle.csl.specs.Table.{table_length}
 use Rattle.csl.specs.Entries.{begun_of, forecast_of, start_of}
@@ -30,8 +30,8 @@ use Rattle.monitor.proofs.Leaves.{start_leaves}
 
 -- ---- an accepted agreement is short
 pub short : {s : List ℕ} → Accepted s → length s ≤ 16_384
-unfolding sized between
-short {s} ok = both_true (between 4 16_384 (length s)) _ (passed s (agreement_of s) (mains_of s) ok.is).sized
+unfolding length_ok between
+short {s} ok = both_true (between 4 16_384 (length s)) _ (passed s (agreement_of s) (mains_of s) ok.is).length_ok
     λ a b. both_true (leb 4 (length s)) (leb (length s) 16_384) a λ c d. leb→le (length s) 16_384 d
 
 -- ---- start, for an accepted agreement and a table's cells

@@ -49,7 +49,7 @@ unfolding Calls last_table
 calls_split s us [] later c = (tt, c)
 calls_split s us (one ∷ before) later c = let h = calls_split s one.left before later c.1 in ((c.0, h.0), h.1)
 
-bytes_split : (before later : List Call) → AllBytes (readings_in (before ++ later))
+pub bytes_split : (before later : List Call) → AllBytes (readings_in (before ++ later))
     → AllBytes (readings_in before) × AllBytes (readings_in later)
 unfolding AllBytes readings_in
 bytes_split [] later h = (tt, h)

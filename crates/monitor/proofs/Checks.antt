@@ -9,11 +9,13 @@ use native.Mathlib.Omega.{arith}
 use Rattle.std.specs.Prelude as std
 use Rattle.std.specs.Prelude.{Some, None, Err, Ok, MatchOption, ok_or}
 use Rattle.csl.specs.Parties.{bits_of}
-use Rattle.csl.specs.Decode.{sized, well_formed, agreement_of, decode}
+use Rattle.csl.specs.Decode.{length_ok, well_formed, agreement_of, decode}
 use Rattle.csl.specs.Typing.{typed}
 use Rattle.csl.specs.Guards.{guarded_from}
 use Rattle.csl.specs.Widths.{narrow_all}
-use Rattle.csl.specs.Check.{checked, check_typed, check_decoded, check_of, refused, accepted, mains_in, mains_of}
+use Rattle.csl.specs.Sizes as sizes
+use Rattle.csl.specs.Check.{checked, check_narrow, check_typed, check_decoded, check_of, refused, accepted, mains_in}
+use Rattle.csl.specs.Check.{mains_of}
 use Rattle.csl.specs.Check.{Accepted, answer_for}
 use Rattle.laws.proofs.Bools.{true→T}
 use Rattle.laws.proofs.Clash.{impossible}
@@ -48,20 +50,20 @@ main_bits s mains e =
     (arith, main_in (agreement_of s) mains f q (member→in q mains (true→T m)), f.few))
 
 -- ---- the tests in order, as the code makes them
-pub length_refused : (s : List ℕ) → sized s ≡ false → checked s ≡ refused 1
+pub length_refused : (s : List ℕ) → length_ok s ≡ false → checked s ≡ refused 1
 unfolding checked
 length_refused s e = rw (e, checked) refl
 
-pub read_as : (s : List ℕ) → sized s ≡ true → (o : std.Option (List ℕ))
+pub read_as : (s : List ℕ) → length_ok s ≡ true → (o : std.Option (List ℕ))
     → MatchOption o (well_formed s ≡ false) (λ a. (a ≡ s) × (well_formed s ≡ true)) → Read s (ok_or o AgreementForm)
 unfolding checked decode
 read_as s l None e = rw (l, checked, e, decode) refl
-read_as s l (Some a) h = (h.0, record { sized = l; formed = h.1 })
+read_as s l (Some a) h = (h.0, record { length_ok = l; formed = h.1 })
 
 module _ {s a : List ℕ} (same : a ≡ s) (f : Formed s) where
   decodes : checked s ≡ check_decoded (agreement_of a)
   unfolding checked decode
-  decodes = rw (same, f.sized, checked, f.formed, decode) refl
+  decodes = rw (same, f.length_ok, checked, f.formed, decode) refl
 
   pub typing_refused : None ≡ typed_as (typed (agreement_of a)) → checked s ≡ refused 3
   unfolding check_decoded
@@ -85,21 +87,30 @@ module _ {s a : List ℕ} (same : a ≡ s) (f : Formed s) where
       width_refused e = types ∙ rw (ge, check_typed, e) refl
 
       module _ (ne : narrow_all (agreement_of a) ≡ true) where
-        all : checked s ≡ accepted (agreement_of s) mains
+        widths : checked s ≡ check_narrow (agreement_of a) mains
         unfolding check_typed
-        all = types ∙ rw (ge, check_typed, ne) refl ∙ ap (λ b. accepted (agreement_of b) mains) same
+        widths = types ∙ rw (ge, check_typed, ne) refl
 
-        own : mains_of s ≡ mains
-        unfolding mains_of mains_in
-        own = ap mains_in all
+        pub size_refused : sizes.fits (agreement_of a) ≡ false → checked s ≡ refused 15
+        unfolding check_narrow
+        size_refused e = widths ∙ rw (e, check_narrow) refl
 
-        pub accepts : Accepted s
-        accepts = record { is = rw own all }
+        module _ (fe : sizes.fits (agreement_of a) ≡ true) where
+          all : checked s ≡ accepted (agreement_of s) mains
+          unfolding check_narrow
+          all = widths ∙ rw (fe, check_narrow) refl ∙ ap (λ b. accepted (agreement_of b) mains) same
 
-        pub mains_as : p ≡ bits_of (mains_of a)
-        unfolding mains
-        mains_as = (typed_mask (typed (agreement_of a)) p pe).2 ∙ main_bits s mains all ∙ ap bits_of (sym own)
-            ∙ ap (λ b. bits_of (mains_of b)) (sym same)
+          own : mains_of s ≡ mains
+          unfolding mains_of mains_in
+          own = ap mains_in all
+
+          pub accepts : Accepted s
+          accepts = record { is = rw own all }
+
+          pub mains_as : p ≡ bits_of (mains_of a)
+          unfolding mains
+          mains_as = (typed_mask (typed (agreement_of a)) p pe).2 ∙ main_bits s mains all ∙ ap bits_of (sym own)
+              ∙ ap (λ b. bits_of (mains_of b)) (sym same)
 
 -- ---- the entry `check`
 pub check_no : (s : List ℕ) (r : Refusal) → Verified s (Err r) → check_answer (Err r) ≡ check_of s
@@ -112,6 +123,6 @@ check_yes s v e = rw (v.is, e) refl
 
 pub ruleset forming = (length_refused, read_as)
 
-pub ruleset verifying = (typing_refused, guards_refused, width_refused, accepts, mains_as)
+pub ruleset verifying = (typing_refused, guards_refused, width_refused, size_refused, accepts, mains_as)
 
 pub ruleset checking = (check_no, check_yes)

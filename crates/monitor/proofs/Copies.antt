@@ -113,7 +113,7 @@ module _ (s : List ℕ) (us : List ℤ) (p : Preview) (meets : Previews s us p) 
         → ((a : Agreement) (mains : List ℕ) → checked s ≡ accepted a mains → n ≡ 6) → UnderSix s p
     unfolding no_outcome answer_in
     under five six = record {
-      one_to_five = λ k ck. ap (λ y. y.number) answers_no ∙ five k ck;
+      by_check = λ k ck. ap (λ y. y.number) answers_no ∙ five k ck;
       six = λ a mains ck. ap (λ y. y.number) answers_no ∙ six a mains ck;
       untold = ap (λ y. y.forecast) answers_no;
       early = ap (λ y. y.early) answers_no;

@@ -32,7 +32,8 @@ use Rattle.monitor.proofs.Joined.{part_of}
 use Rattle.monitor.proofs.Opens.{by_run}
 
 -- ---- the units in use, in the head of a run's table
-used_cell : (now moved : ℕ) (o : Outcome) → NotStuck o → at (table_of (run_at now moved o)) 4 ≡ some (pos (needed o))
+pub used_cell : (now moved : ℕ) (o : Outcome) → NotStuck o
+    → at (table_of (run_at now moved o)) 4 ≡ some (pos (needed o))
 unfolding table_of padded head_cells nat_cells at needed NotStuck
 used_cell now moved done h = refl
 used_cell now moved (breach t ps) h = refl
@@ -72,7 +73,7 @@ module _ (s : List ℕ) (us : List ℤ) (one : Call)
   costs : Costs s us one
   unfolding cost_in number_in answered
   costs = by_run s us
-      (λ n more few reads.
+      (λ n more other reads.
       let is = part_of s us one.bytes meets ∙ reads one.bytes in
       let free : cost_in one ≡ 0 = ap (λ x. x.cost) is in
       let number : number_in one ≡ n = ap (λ x. x.number) is in

@@ -31,7 +31,7 @@ use Rattle.monitor.proofs.Joined.{begun_table}
 use Rattle.monitor.proofs.Opens.{by_table}
 
 -- the run after one call more
-run_next : (a : Agreement) (q : Run) (before : List Call) (one : Call)
+pub run_next : (a : Agreement) (q : Run) (before : List Call) (one : Call)
     → run_after a q (readings_in (before ++ (one ∷ []))) ≡ (step a (run_after a q (readings_in before)) one.bytes).run
 unfolding run_after readings_in
 run_next a q [] one = refl
@@ -39,25 +39,26 @@ run_next a q (c ∷ before) one = run_next a (step a q c.bytes).run before one
 
 module _ (s : List ℕ) (lent : List ℤ) (a : Agreement) (mains : List ℕ) (st : IsStarted s lent a mains)
     (r : Started) (us : List ℤ) (start : start_answer r us ≡ start_of s lent) (hs : Bytes s) where
-  run : Run
+  abbrev pub run : Run
   run = (started a).run
 
-  ck : checked s ≡ accepted a mains
+  pub ck : checked s ≡ accepted a mains
   ck = st.is_accepted
 
   begun_zero : begun_of s lent ≡ record { number = 0; table = table_of run }
   unfolding run
   begun_zero = start_is s a mains ck lent st.not_six ∙ written_zero lent (started a) st.not_eleven
 
-  begins_zero : start_of s lent ≡ record { number = 0; forecast = forecast_of s (table_of run); table = table_of run }
+  pub begins_zero : start_of s lent
+      ≡ record { number = 0; forecast = forecast_of s (table_of run); table = table_of run }
   unfolding start_of told_of
   begins_zero = ap (λ x. record { number = x.number; forecast = told_of s x.number x.table; table = x.table })
       begun_zero
 
-  us_is : us ≡ table_of run
+  pub us_is : us ≡ table_of run
   us_is = sym (begun_table r us) ∙ ap (λ x. x.table) (start ∙ begins_zero)
 
-  run_inv : Sound s a mains ck run
+  pub run_inv : Sound s a mains ck run
   unfolding run
   run_inv = start_inv s a mains ck hs st.not_eleven
 
@@ -74,7 +75,7 @@ module _ (s : List ℕ) (lent : List ℤ) (a : Agreement) (mains : List ℕ) (st
 
   module _ (calls : List Call) (hr : AllBytes (readings_in calls)) (cs : Calls s us calls) where
     -- of one of the calls: what it finds, and the case of its reading
-    at_call : (before : List Call) (one : Call) (later : List Call) → calls ≡ before ++ (one ∷ later)
+    pub at_call : (before : List Call) (one : Call) (later : List Call) → calls ≡ before ++ (one ∷ later)
         → Found s a mains ck run us us_is run_inv calls hr cs before one later
         × CaseOf a (run_by a before) one.bytes
     unfolding run_by run
@@ -148,7 +149,7 @@ demand3 s lent a mains r us calls hs hr st start cs = upheld s lent a mains st r
 pub begins : Begins
 unfolding Begins start_of
 begins s lent us ahead start = by_table s lent
-    (λ n more few x. let z : n ≡ 0 = sym (ap (λ y. y.number) x.start) ∙ zero in absurd (omega arith))
+    (λ n more other x. let z : n ≡ 0 = sym (ap (λ y. y.number) x.start) ∙ zero in absurd (omega arith))
     (λ mains ck l. (
       agreement_of s,
       mains,

@@ -121,7 +121,7 @@ module _ (s : List ℕ) (us : List ℤ) (one : Call)
   early_iff : (early_in one ≡ 1) ↔ CameEarly s us one
   unfolding early_in number_in answered
   early_iff = by_run s us
-      (λ n more few reads.
+      (λ n more other reads.
       let is = part_of s us one.bytes meets ∙ reads one.bytes in (
         λ h. let z : ◌≡◌ {A = ℕ} 0 1 = sym (ap (λ x. x.early) is) ∙ h in absurd (omega arith),
         λ x. let z : n ≡ 0 = sym (ap (λ y. y.number) is) ∙ x.too_early.is_accepted in absurd (omega arith),

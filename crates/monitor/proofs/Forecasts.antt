@@ -215,7 +215,7 @@ module _ (s : List ℕ) (a : Agreement) (mains : List ℕ) (ck : checked s ≡ a
       → f ≡ (start_answer r us).forecast → Leaving s a mains ck us f
   unfolding start_of
   begun_leaves lent r e z fe = by_table s lent
-      (λ n more few x. let zero : n ≡ 0 = sym (ap (λ y. y.number) x.start) ∙ none in absurd (omega arith))
+      (λ n more other x. let zero : n ≡ 0 = sym (ap (λ y. y.number) x.start) ∙ none in absurd (omega arith))
       (λ ps ck' l.
       let is = start_is s a mains ck lent l in
       let zero : (started a).number ≡ 0 = sym (written_number lent (started a)) ∙ sym (ap (λ x. x.number) is) ∙ none in
@@ -237,7 +237,7 @@ module _ (s : List ℕ) (a : Agreement) (mains : List ℕ) (ck : checked s ≡ a
       → f ≡ forecast_in one → Leaving s a mains ck us f
   unfolding number_in answered
   read_leaves lent one h e z same fe = by_run s lent
-      (λ n more few reads.
+      (λ n more other reads.
       let is = part_of s lent one.bytes e ∙ reads one.bytes in
       let zero : n ≡ 0 = sym (ap (λ x. x.number) is) ∙ z in absurd (omega arith))
       (λ ps q ck' l is.

@@ -11,7 +11,7 @@ use Rattle.monitor.specs.declared.BreachAhead.{BreachAhead}
 use Rattle.monitor.specs.declared.Followed.{Followed}
 use Rattle.monitor.specs.declared.Refusal.{Refusal}
 use Rattle.monitor.specs.declared.Refusal.TheVariants.{AgreementLength, AgreementForm, AgreementTyping}
-use Rattle.monitor.specs.declared.Refusal.TheVariants.{AgreementGuards, AgreementWidth, TableLength}
+use Rattle.monitor.specs.declared.Refusal.TheVariants.{AgreementGuards, AgreementWidth, AgreementSize, TableLength}
 use Rattle.monitor.specs.declared.Refusal.TheVariants.{TableContent, ReadingForm, ReadingTyping, ReadingTime}
 use Rattle.monitor.specs.declared.Refusal.TheVariants.{Units}
 use Rattle.monitor.specs.declared.Refused.{Refused}
@@ -26,6 +26,7 @@ some_number AgreementForm = (1, refl)
 some_number AgreementTyping = (2, refl)
 some_number AgreementGuards = (3, refl)
 some_number AgreementWidth = (4, refl)
+some_number AgreementSize = (14, refl)
 some_number TableLength = (5, refl)
 some_number TableContent = (6, refl)
 some_number ReadingForm = (7, refl)

@@ -11,6 +11,7 @@ pub mod Copies
 pub mod Early
 pub mod Cost
 pub mod Demand3
+pub mod KnownSize
 pub mod Forecasts
 pub mod Apart
 pub mod WrongMonitors

@@ -2,6 +2,7 @@
 -- answer of it.
 use mathlib.Core.Path.{◌≡◌, refl, sym, ap, subst, ◌∙◌}
 use mathlib.Core.List.{List}
+use mathlib.Core.Logic.{inl, inr, ◌≢◌, ◌⊎◌}
 use mathlib.Core.Option.{Option, none, some}
 use Prim.Native.Nat.{ℕ, ◌≤◌, ◌<◌}
 use native.Mathlib.Omega.{arith}
@@ -16,7 +17,7 @@ use Rattle.csl.specs.Table.{Run, run_of, table_length}
 use Rattle.csl.specs.Entries.{answered, begun_of, read_of, reading_of, start_of}
 use Rattle.laws.proofs.Bools.{by_test}
 use Rattle.bridge.proofs.Refusals.{start_refused_lem, reading_refused, start_six, reading_six, reading_seven}
-use Rattle.bridge.proofs.Refusals.{answer, unread, check_few, from_check}
+use Rattle.bridge.proofs.Refusals.{answer, unread, check_numbers, from_check}
 use Rattle.cells.specs.declared.Sight.{Sight}
 use Rattle.state.specs.Shown.{Shows, run_in}
 use Rattle.state.specs.declared.State.{State}
@@ -81,32 +82,36 @@ pub record Unstarted (s : List ℕ) (us : List ℤ) (n : ℕ) : Type 0 where
   pub reading : (bytes : List ℕ) → read_of s us bytes ≡ unread n us
 
 module _ {C : Type 0} (s : List ℕ) (us : List ℤ) where
-  -- refused with 1 to 6, or an accepted agreement and a table's cells
-  pub by_table : ((n : ℕ) → 0 < n → n ≤ 6 → Unstarted s us n → C)
+  -- refused with 1 to 6 or 15, or an accepted agreement and a table's cells
+  pub by_table : ((n : ℕ) → 0 < n → n ≢ 11 → Unstarted s us n → C)
       → ((mains : List ℕ) → checked s ≡ accepted (agreement_of s) mains → length us ≡ table_length → C) → C
   by_table refuse taken = from_check s
-      (λ n more ck _. refuse n more (omega (arith, check_few s n ck)) (record {
+      (λ n more ck _. refuse n more (λ e. of_check n e (check_numbers s n ck)) (record {
         start = start_refused_lem us s n ck;
         reading = reading_refused us s n ck;
       }))
       (λ mains ck _. by_test (eqb (length us) table_length)
       (λ e. taken mains ck (eqb-true (length us) table_length e))
       (λ e. let h = eqb-false (length us) table_length e in
-      refuse 6 (omega arith) (omega arith) (record {
+      refuse 6 (omega arith) (λ e. omega arith) (record {
         start = start_six us s (agreement_of s) mains ck h;
         reading = reading_six us s (agreement_of s) mains ck h;
       })))
+    where
+      of_check : (n : ℕ) → n ≡ 11 → (n ≤ 5) ⊎ (n ≡ 15) → ⊥
+      of_check n e (inl few) = omega arith
+      of_check n e (inr size) = omega arith
 
-  -- a reading is refused with 1 to 7, or the table shows a run
-  pub by_run : ((n : ℕ) → 0 < n → n ≤ 7 → ((bytes : List ℕ) → read_of s us bytes ≡ unread n us) → C)
+  -- a reading is refused with 1 to 7 or 15, or the table shows a run
+  pub by_run : ((n : ℕ) → 0 < n → n ≢ 11 → ((bytes : List ℕ) → read_of s us bytes ≡ unread n us) → C)
       → ((mains : List ℕ) (q : Run) → checked s ≡ accepted (agreement_of s) mains → length us ≡ table_length
       → run_of (agreement_of s) mains us ≡ some q → C) → C
-  by_run refuse shown = by_table (λ n more few x. refuse n more (omega arith) x.reading)
+  by_run refuse shown = by_table (λ n more other x. refuse n more other x.reading)
       (λ mains ck l. go mains ck l (run_of (agreement_of s) mains us) refl)
     where
       go : (mains : List ℕ) → checked s ≡ accepted (agreement_of s) mains → length us ≡ table_length
           → (o : Option Run) → run_of (agreement_of s) mains us ≡ o → C
-      go mains ck l none e = refuse 7 (omega arith) (omega arith)
+      go mains ck l none e = refuse 7 (omega arith) (λ h. omega arith)
           (λ bytes. reading_seven us s (agreement_of s) mains ck l bytes e)
       go mains ck l (some q) e = shown mains q ck l e
 

@@ -1,8 +1,10 @@
 -- The reviewer's checklist, "Tried and found unprovable": six wrong monitors, and that none meets the contracts; three
--- that are wrong in the forecast that they tell; and three that preview wrongly.
+-- that are wrong in the forecast that they tell; three that preview wrongly; and two that are wrong about size.
 -- Each is any monitor that does the wrong thing with whatever it is lent; the paper's trials, computed, refute it.
 use mathlib.Core.Path.{◌≡◌, refl, sym, ap, ◌∙◌, subst}
-use mathlib.Core.List.{List, []}
+use mathlib.Core.Bool.{true}
+use mathlib.Core.List.{List, [], ◌∷◌}
+use mathlib.Core.Logic.{◌≢◌}
 use Prim.Native.Nat.{ℕ}
 use native.Mathlib.Omega.{arith}
 use lib.IntN.{ℤ, pos, nat_abs}
@@ -12,7 +14,9 @@ use Rattle.csl.specs.Check.{CheckAnswer, check_of}
 use Rattle.csl.specs.Entries.{Forecast, ReadingAnswer, StartAnswer, breach_at, forecast_of, no_breach, no_forecast}
 use Rattle.csl.specs.Entries.{reading_of, start_of, untold}
 use Rattle.csl.specs.Preview.{preview_of, previews_compute}
-use Rattle.csl.specs.Build.{sample, agreement, all', simply, zeros}
+use Rattle.csl.specs.Decode.{agreement_of}
+use Rattle.csl.specs.Sizes.{sized}
+use Rattle.csl.specs.Build.{sample, agreement, all', simply, sized_with, zeros}
 use Rattle.csl.specs.Build as Build
 use Rattle.csl.specs.Trials.{computes}
 
@@ -191,3 +195,19 @@ module _ (preview : List ℕ → List ℤ → List ℤ → List ℕ → ReadingA
     where
       earlier : List ℕ
       earlier = Build.reading 105 (pos 250)
+
+-- ---- paper 02, No. 7: any monitor that checks as its contract says
+module _ (check : List ℕ → CheckAnswer) (checks : (s : List ℕ) → check s ≡ check_of s) where
+  -- a template with an obligation that declares so many units
+  declaring : ℕ → List ℕ
+  declaring units = agreement (sized_with [] 0 1 units (simply 0 (pos 60)) ∷ []) (simply 0 (pos 60))
+
+  -- one that declares none is refused with 15
+  pub fifteen_never : ((s : List ℕ) → (check s).number ≢ 15) → ⊥
+  unfolding computes declaring
+  fifteen_never wrong = wrong (declaring 0) (ap (λ a. a.number) (checks (declaring 0)))
+
+  -- and one that declares what it needs is accepted
+  pub sized_refused : ((s : List ℕ) → sized (agreement_of s) ≡ true → (check s).number ≢ 0) → ⊥
+  unfolding computes declaring
+  sized_refused wrong = wrong (declaring 1) refl (ap (λ a. a.number) (checks (declaring 1)))

@@ -6,7 +6,7 @@ use Rattle.csl.specs.Entries.{StartAnswer, ReadingAnswer}
 use Rattle.csl.specs.Early.{mark_of}
 use Rattle.monitor.specs.declared.Refusal.{Refusal}
 use Rattle.monitor.specs.declared.Refusal.TheVariants.{AgreementLength, AgreementForm, AgreementTyping}
-use Rattle.monitor.specs.declared.Refusal.TheVariants.{AgreementGuards, AgreementWidth, TableLength}
+use Rattle.monitor.specs.declared.Refusal.TheVariants.{AgreementGuards, AgreementWidth, AgreementSize, TableLength}
 use Rattle.monitor.specs.declared.Refusal.TheVariants.{TableContent, ReadingForm, ReadingTyping, ReadingTime}
 use Rattle.monitor.specs.declared.Refusal.TheVariants.{Units}
 use Rattle.monitor.specs.declared.Taken.{Taken}
@@ -25,13 +25,14 @@ Started = Result (Option BreachAhead) Refusal
 abbrev pub TakenOrRefused : Type 0
 TakenOrRefused = Result Taken Refused
 
--- "Refusal table"
+-- "Refusal table"; 15 is of paper 02, No. 7
 abbrev pub number_of : Refusal → ℕ
 number_of AgreementLength = 1
 number_of AgreementForm = 2
 number_of AgreementTyping = 3
 number_of AgreementGuards = 4
 number_of AgreementWidth = 5
+number_of AgreementSize = 15
 number_of TableLength = 6
 number_of TableContent = 7
 number_of ReadingForm = 8

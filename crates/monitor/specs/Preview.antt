@@ -40,9 +40,9 @@ pub record AsOnACopy (p : Preview) (one : Call) : Type 0 where
   -- "On a refusal the second table is untouched."
   pub untouched : number_in one ≢ 0 → p.left ≡ p.second
 
--- "A second table of wrong length counts under 6.", which comes after 1 to 5: its other results are zero
+-- "A second table of wrong length counts under 6.", which comes after 1 to 5 and 15: its other results are zero
 pub record UnderSix (s : List ℕ) (p : Preview) : Type 0 where
-  pub one_to_five : (n : ℕ) → checked s ≡ refused n → (answer_in p).number ≡ n
+  pub by_check : (n : ℕ) → checked s ≡ refused n → (answer_in p).number ≡ n
   pub six : (a : Agreement) (mains : List ℕ) → checked s ≡ accepted a mains → (answer_in p).number ≡ 6
   pub untold : (answer_in p).forecast ≡ entries.untold
   pub early : (answer_in p).early ≡ 0

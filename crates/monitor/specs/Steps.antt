@@ -35,9 +35,9 @@ abbrev pub Shown : List ℕ → List ℤ → Type 0
 Shown s us = (q : Run) × (run_in s us ≡ some q)
 
 -- ---- what is lent
--- 1 and 2: the agreement in the bytes, which are sized and well formed
+-- 1 and 2: the agreement in the bytes, which are as long as they say and well formed
 pub record Formed (s : List ℕ) : Type 0 where
-  pub sized : decode.sized s ≡ true
+  pub length_ok : decode.length_ok s ≡ true
   pub formed : decode.well_formed s ≡ true
 
 abbrev pub Read : List ℕ → Result (List ℕ) Refusal → Type 0

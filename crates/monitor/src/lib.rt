@@ -38,6 +38,7 @@ pub enum Refusal {
     AgreementTyping,
     AgreementGuards,
     AgreementWidth,
+    AgreementSize,
     TableLength,
     TableContent,
     ReadingForm,
@@ -57,6 +58,7 @@ impl From<Refusal> for u32 {
             Refusal::AgreementTyping => 3,
             Refusal::AgreementGuards => 4,
             Refusal::AgreementWidth => 5,
+            Refusal::AgreementSize => 15,
             Refusal::TableLength => 6,
             Refusal::TableContent => 7,
             Refusal::ReadingForm => 8,
@@ -157,13 +159,13 @@ impl From<TooMany> for Refused {
 fn read(bytes: &[u8]) -> Result<Agreement<'_>, Refusal>
     ensures { Read bytes.now result }
 {
-    if !records::sized(bytes) {
+    if !records::length_ok(bytes) {
         return Err(Refusal::AgreementLength);
     }
     formed::well_formed(bytes).ok_or(Refusal::AgreementForm)
 }
 
-// Refusals 1 to 5, each judged over the whole agreement before the next.
+// Refusals 1 to 5 and 15, each judged over the whole agreement before the next.
 #[tactic(auto, using(crate::proofs::Checks::verifying))]
 fn verify(bytes: &[u8]) -> Result<places::Accepted<'_>, Refusal>
     ensures { Verified bytes.now result }
@@ -175,6 +177,9 @@ fn verify(bytes: &[u8]) -> Result<places::Accepted<'_>, Refusal>
     }
     if !guards::narrow(&agreement) {
         return Err(Refusal::AgreementWidth);
+    }
+    if !sizes::fits(&agreement) {
+        return Err(Refusal::AgreementSize);
     }
     Ok(places::Accepted::new(agreement, parties))
 }

@@ -34,7 +34,7 @@ use Rattle.std.specs.Prelude.{MatchOption}
 use Rattle.std.specs.List.{AllWithin, HoldsAt, range_with_len}
 use Rattle.std.proofs.lemmas.List.FromFn.{length-range_with_len, get_or-range_with_len}
 use native.Mathlib.Numerals.{add-one}
-use Rattle.csl.specs.Decode.{sized, between}
+use Rattle.csl.specs.Decode.{length_ok, between}
 use Rattle.kinds.specs.declared.WaitKind.{WaitKind}
 use Rattle.places.specs.declared.Located.{Located}
 use Rattle.places.specs.declared.Step.{Step}
@@ -99,10 +99,10 @@ pub fairly : {A : List ℕ} → Accepted A → Fair (agreement_of A) (mains_of A
 fairly {A} h = fair A (agreement_of A) (mains_of A) (passed A (agreement_of A) (mains_of A) h.is)
 
 pub accepted_short : {A : List ℕ} → Accepted A → length A ≤ 16_384
-unfolding sized between
+unfolding length_ok between
 accepted_short {A} h =
     let p = passed A (agreement_of A) (mains_of A) h.is in
-    both_true (between 4 16_384 (length A)) _ p.sized λ a b.
+    both_true (between 4 16_384 (length A)) _ p.length_ok λ a b.
     both_true (leb 4 (length A)) (leb (length A) 16_384) a λ c d. leb→le (length A) 16_384 d
 
 -- what is found is the clause recorded at the place, and whole

@@ -223,12 +223,12 @@ module _ (s : List ℕ) (hs : List Head) (rs : List (List Ty)) (p : ℕ) (f : Fo
   in_templates : (n i : ℕ) → i ≤ length s → T (all (λ q. template_ok q.bytes) (pieces n s i))
       → T (all (λ q. whole (body_of hs q)) (pieces n s i)) → find_in rs p (map (template_of hs) (pieces n s i)) ≡ some f
       → RecordAt s hs rs 0 p f
-  unfolding pieces all template_of find_in body_of body_place
+  unfolding pieces all template_of find_in body_of
   in_templates zero i l ok t h = none_some h
   in_templates (suc n) i l ok t h =
       let e = record_end s i in
       let q = part s i e in
-      let x = 8 + byte q 4 in
+      let x = body_place q in
       both_true (template_ok q) _ ok λ ok₁ ok₂.
       both_true (whole (clause hs 22 (i + x) (part q x (length q)))) _ t λ t₁ t₂.
       let long = length_part s i e (record_end_within s i) in

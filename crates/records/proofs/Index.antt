@@ -18,10 +18,12 @@ use Rattle.csl.specs.Bytes.{byte, le16, part, is_record, kind_number, record_end
 use Rattle.csl.specs.Syntax.{Head}
 use Rattle.csl.specs.Decode.{Piece, records_end, pieces, templates_place, main_place, reading_pieces, template_pieces}
 use Rattle.csl.specs.Decode.{heads_of, body_place, body_of, clause, template_of, agreement_of, is_type, ty_of, tys_of}
-use Rattle.csl.specs.Decode.{reading_type_ok, reading_type, template_ok, template_head}
+use Rattle.csl.specs.Decode.{reading_type_ok, reading_type, template_ok, template_head, declares_units}
+use Rattle.csl.specs.Decode.{units_declared, few_units, all_of_kind}
 use Rattle.csl.specs.Typing.{heads_in}
 use Rattle.records.specs.Index.{Lists, ReadingTypes, ValueTypes, reading_place, template_place, piece_at, head_at}
-use Rattle.records.specs.Index.{template_piece}
+use Rattle.records.specs.Index.{template_piece, DeclaredUnits}
+use Rattle.std.specs.Prelude.{Some}
 use Rattle.records.specs.Index.{value_count, body_from, body_to, Spans, first_clause}
 use Rattle.laws.proofs.Bools.{both_true, T→true}
 use Rattle.laws.proofs.RecordEnds.{record_end_from, wait_within, wait_from, pieces_within}
@@ -91,6 +93,15 @@ module _ (p : Piece → Bool) where
   pieces_ranged s i (suc n) a = ap (λ b. p (piece s (records_end a s i)) && b)
       (pieces_ranged s i n (a + 1) ∙ ap (λ e. all p (pieces n s e)) (pieces_more a s i))
 
+-- the same of the kinds of all templates
+pub kinds_ranged : (s : List ℕ) (wanted : ℕ) {n : ℕ} → n ≡ byte s 10
+    → list_all (λ k. eqb (kind_number (piece_at s (template_place s k))) wanted) (range_with_len 0 n)
+    ≡ all_of_kind wanted s
+unfolding all_of_kind template_pieces
+kinds_ranged s wanted {n} e =
+    let i = templates_place s in
+    pieces_ranged (λ q. eqb (kind_number q.bytes) wanted) s i n 0 ∙ rw (e, pieces_none s i)
+
 -- ---- the lists of an agreement, by the count of each
 module _ (s : List ℕ) (k : ℕ) where
   pub heads_at : k < byte s 10 → at (heads_of s) k ≡ some (head_at s k)
@@ -157,42 +168,47 @@ reading_holds q t =
     }
 
 -- ---- a template whose head is as listed
+-- behind the declared parties stand the units of one of kind 4
+pub head_long : (q : List ℕ) → 8 + byte q 4 ≤ body_place q
+unfolding body_place
+head_long q = omega arith
+
 pub record TemplateHolds (q : List ℕ) : Type 0 where
   pub is_one : is_record q ≡ true
-  pub kind : kind_number q ≡ 3
   pub few : byte q 4 ≤ 8
-  pub long : 8 + byte q 4 ≤ length q
+  pub long : body_place q ≤ length q
   pub types : T (all is_type (part q 5 (5 + byte q 4)))
   pub few_params : byte q (5 + byte q 4) ≤ 4
+  pub units : T (few_units (units_declared q))
 
 pub template_holds : (q : List ℕ) → T (template_ok q) → TemplateHolds q
-unfolding template_ok body_place
+unfolding template_ok
 template_holds q t =
     let a = is_record q in
-    let b = eqb (kind_number q) 3 in
-    let c = leb (byte q 4) 8 in
-    let d = leb (8 + byte q 4) (length q) in
-    let e = all is_type (part q 5 (5 + byte q 4)) in
-    let f = leb (byte q (5 + byte q 4)) 4 in
-    both_true (a && b && c && d && e) f t λ t₁ h₆.
+    let b = leb (byte q 4) 8 in
+    let c = leb (body_place q) (length q) in
+    let d = all is_type (part q 5 (5 + byte q 4)) in
+    let e = leb (byte q (5 + byte q 4)) 4 in
+    both_true (a && b && c && d && e) (few_units (units_declared q)) t λ t₁ h₆.
     both_true (a && b && c && d) e t₁ λ t₂ h₅.
     both_true (a && b && c) d t₂ λ t₃ h₄.
     both_true (a && b) c t₃ λ t₄ h₃.
     both_true a b t₄ λ h₁ h₂.
     record {
       is_one = T→true a h₁;
-      kind = eqb→eq (kind_number q) 3 h₂;
-      few = leb→le (byte q 4) 8 h₃;
-      long = leb→le (8 + byte q 4) (length q) h₄;
-      types = h₅;
-      few_params = leb→le (byte q (5 + byte q 4)) 4 h₆;
+      few = leb→le (byte q 4) 8 h₂;
+      long = leb→le (body_place q) (length q) h₃;
+      types = h₄;
+      few_params = leb→le (byte q (5 + byte q 4)) 4 h₅;
+      units = h₆;
     }
 
 pub values_length : (q : List ℕ) → T (template_ok q) → length (template_head q).values ≡ byte q 4
 unfolding template_head tys_of
 values_length q t =
     let h = template_holds q t in
-    length-map (part q 5 (5 + byte q 4)) ty_of ∙ omega (arith, length_part q 5 (5 + byte q 4) (omega (arith, h.long)))
+    let room : 5 + byte q 4 ≤ length q = omega (arith, h.long, head_long q) in
+    length-map (part q 5 (5 + byte q 4)) ty_of ∙ omega (arith, length_part q 5 (5 + byte q 4) room)
 
 pub params_is : (q : List ℕ) → (template_head q).params ≡ byte q (5 + byte q 4)
 unfolding template_head
@@ -254,9 +270,10 @@ body_there {s = s} {k} x = record {
 
 -- a, n, h and e are what calls gave
 pub spans : {s : List ℕ} {k a n h e : ℕ} → Lists s × (k < byte s 10) → a ≡ template_place s k
-    → n ≡ value_count s k → h ≡ 8 + n → e ≡ record_end s a → Spans s k (a + h) e
-unfolding body_place
-spans x p q m o = rw (o, m, q, p) (body_there x)
+    → n ≡ value_count s k → h ≡ 8 + n + cond (eqb (kind_number (part s a e)) 4) 1 0 → e ≡ record_end s a
+    → Spans s k (a + h) e
+unfolding body_place declares_units
+spans x p q m o = rw (m, o, q, p) (body_there x)
 
 -- from and to are the ends of what `body_span` gave
 module _ {s : List ℕ} {k from to : ℕ} (b : Spans s k from to) where
@@ -319,23 +336,26 @@ module _ {s : List ℕ} {k a : ℕ} (x : Lists s × (k < byte s 10)) (p : a ≡ 
   abbrev head : List ℕ
   head = piece_at s (template_place s k)
 
-  inside : template_place s k + (8 + byte head 4) ≤ record_end s (template_place s k)
-  unfolding body_place
-  inside = body_within x.0 k x.1
+  whole : template_place s k + body_place head ≤ record_end s (template_place s k)
+  whole = body_within x.0 k x.1
 
-  at_byte : (i : ℕ) → i < 8 + byte head 4 → byte s (a + i) ≡ byte head i
+  inside : template_place s k + (8 + byte head 4) ≤ record_end s (template_place s k)
+  inside = omega (arith, whole, head_long head)
+
+  at_byte : (i : ℕ) → i < body_place head → byte s (a + i) ≡ byte head i
   at_byte i h = ap (λ (b : ℕ). byte s (b + i)) p
-      ∙ sym (byte_part s (template_place s k) (record_end s (template_place s k)) i (omega (arith, inside)))
+      ∙ sym (byte_part s (template_place s k) (record_end s (template_place s k)) i (omega (arith, whole)))
 
   pub count_read : {r : ℕ} → r ≡ byte s (a + 4) → (r ≡ byte head 4) × (r ≡ length (head_at s k).values) × (r ≤ 8)
   count_read h =
-      let g = h ∙ at_byte 4 (omega arith) in
+      let g = h ∙ at_byte 4 (omega (arith, head_long head)) in
       (g, g ∙ sym (value_count_lem x.0 k x.1), omega (arith, (template_facts x.0 k x.1).few))
 
   module _ {n : ℕ} (m : n ≡ byte head 4) where
     pub params_read : {r : ℕ} → r ≡ byte s (a + (5 + n)) → (r ≡ (head_at s k).params) × (r ≤ 4)
     params_read h =
-        let g = h ∙ at_byte (5 + n) (omega arith) ∙ ap (λ (i : ℕ). byte head (5 + i)) m ∙ sym (params_is head) in
+        let g = h ∙ at_byte (5 + n) (omega (arith, head_long head)) ∙ ap (λ (i : ℕ). byte head (5 + i)) m
+        ∙ sym (params_is head) in
         (g, omega (arith, few_params_lem x.0 k x.1))
 
     pub declared_read : {r : ℕ} → r ≡ le16 s (a + (6 + n)) → r ≡ le16 head (6 + byte head 4)
@@ -343,6 +363,18 @@ module _ {s : List ℕ} {k a : ℕ} (x : Lists s × (k < byte s 10)) (p : a ≡ 
         h ∙ ap (λ (b : ℕ). le16 s (b + (6 + n))) p
         ∙ sym (le16_part s (template_place s k) (record_end s (template_place s k)) (6 + n) (omega (arith, inside)))
         ∙ ap (λ (i : ℕ). le16 head (6 + i)) m
+
+    -- the units that one of kind 4 declares; r is what stands there
+    pub units_read : {r c : ℕ} → r ≡ byte s (a + (8 + n)) → c ≡ kind_number head → c ≡ 4
+        → DeclaredUnits (head_at s k).units (Some r)
+    unfolding template_head units_declared declares_units few_units body_place
+    units_read {r} {c} h i e =
+        let four : eqb (kind_number head) 4 ≡ true = rw (sym i ∙ e) refl in
+        let f = template_facts x.0 k x.1 in
+        let room : 8 + byte head 4 + 1 ≤ body_place head = rw four (omega arith) in
+        let g : r ≡ byte head (8 + byte head 4) =
+        h ∙ at_byte (8 + n) (omega arith) ∙ ap (λ (j : ℕ). byte head (8 + j)) m in
+        (rw (four, g) refl, rw g (leb→le (byte head (8 + byte head 4)) 128 (rw four at f.units)))
 
     -- its value types
     pub value_types_within : a + 5 + n ≤ length s

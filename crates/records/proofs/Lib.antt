@@ -2,3 +2,4 @@ pub mod Index
 pub mod Listed
 pub mod Trees
 mod TypedValues
+pub mod Units

@@ -17,7 +17,7 @@ use Rattle.octets.proofs.Bytes.{record_end_within}
 use Rattle.csl.specs.Lists.{all}
 use Rattle.csl.specs.Bytes.{byte, part, kind_number, record_end}
 use Rattle.csl.specs.Decode.{pieces, records_end, templates_place, main_place, reading_pieces, template_pieces, between}
-use Rattle.csl.specs.Decode.{reading_type_ok, template_ok, counts_ok, listed}
+use Rattle.csl.specs.Decode.{reading_type_ok, template_ok, counts_ok, one_kind, listed}
 use Rattle.laws.proofs.Bools.{refused, both_true, T→true, true→T}
 use Rattle.records.specs.Index.{Lists, Indexed, piece_at, Computes, all_pass, SomeFails, Placed}
 use Rattle.records.proofs.Index.{all_pieces, pieces_more, reading_holds}
@@ -120,11 +120,9 @@ abbrev templates_ok : List ℕ → Bool
 templates_ok s = all (λ q. template_ok q.bytes) (template_pieces s)
 
 -- what is listed is long: there is room for a first reading type
-pub lists_hold : (s : List ℕ) → listed s ≡ true → Lists s
-unfolding listed reading_pieces records_end
-lists_hold s e =
-    both_true (counted s && readings_ok s) (templates_ok s) (true→T e) λ t₁ h₃.
-    both_true (counted s) (readings_ok s) t₁ λ h₁ h₂.
+lists : (s : List ℕ) → T (counted s) → T (readings_ok s) → T (templates_ok s) → Lists s
+unfolding reading_pieces records_end
+lists s h₁ h₂ h₃ =
     let c = counts_hold s h₁ in
     let readings = range_holds 1 16 (byte s 9) c.readings in
     let first = all_pieces (λ q. reading_type_ok q.bytes) (byte s 9) s 11 0 h₂ readings.0 in
@@ -137,6 +135,14 @@ lists_hold s e =
       readings_ok = h₂;
       templates_ok = h₃;
     }
+
+pub lists_hold : (s : List ℕ) → listed s ≡ true → Lists s
+unfolding listed
+lists_hold s e =
+    both_true (counted s && readings_ok s && templates_ok s) (one_kind s) (true→T e) λ t₁ h₄.
+    both_true (counted s && readings_ok s) (templates_ok s) t₁ λ t₂ h₃.
+    both_true (counted s) (readings_ok s) t₂ λ h₁ h₂.
+    lists s h₁ h₂ h₃
 
 pub listed_short : (s : List ℕ) → length s < 11 → listed s ≡ false
 listed_short s l = sym (refused (listed s) λ t. omega (arith, (lists_hold s (T→true (listed s) t)).long))
@@ -179,22 +185,28 @@ module _ (s : List ℕ) {u : Bool} (e : u ≡ counted s) where
         unfolding templates_place
         first_is = h.ends ∙ ap (λ i. records_end i s 11) p
 
-        listed_is : {m : ℕ} → m ≡ byte s 10 → listed s ≡ all_pass template_ok m s first
+        listed_is : {m : ℕ} → m ≡ byte s 10 → listed s ≡ (all_pass template_ok m s first && one_kind s)
         unfolding listed template_pieces
         listed_is g = rw (sym e ∙ c, sym (readings_are p) ∙ h.passes reading_type_ok y, g, first_is)
 
         pub listed_no_template : {m : ℕ} → m ≡ byte s 10 → SomeFails asked m s first → listed s ≡ false
-        listed_no_template g f = listed_is g ∙ f.fails template_ok z
+        listed_no_template g f = listed_is g ∙ ap (λ b. b && one_kind s) (f.fails template_ok z)
 
         -- so are the templates, and behind the places come cells that are not used
         module _ {two : List ℕ} {main : ℕ} (g : length two ≡ byte s 10) (k : Placed asked s first two main) where
-          pub is_listed : listed s ≡ true
-          is_listed = listed_is g ∙ k.passes template_ok z
+          -- all that is left to ask is whether the templates are of one kind
+          pub listed_as : listed s ≡ one_kind s
+          listed_as = listed_is g ∙ ap (λ b. b && one_kind s) (k.passes template_ok z)
+
+          pub listed_lists : Lists s
+          unfolding reading_pieces template_pieces
+          listed_lists = lists s (true→T (sym e ∙ c)) (true→T (sym (readings_are p) ∙ h.passes reading_type_ok y))
+              (true→T (rw (g, first_is) at (k.passes template_ok z)))
 
           pub indexed : (r q : List ℕ) → Indexed (one ++ r) (two ++ q) main s
           unfolding main_place
           indexed r q = record {
-            lists = lists_hold s is_listed;
+            lists = listed_lists;
             readings_at = λ i l. get_or-append one r 0 i (omega arith) ∙ h.begin_at i (omega arith);
             templates_at = λ i l. get_or-append two q 0 i (omega arith) ∙ k.begin_at i (omega arith)
                 ∙ ap (records_end i s) first_is;

@@ -1,6 +1,8 @@
 -- Where the records of an agreement stand, and what its lists hold to.
+use Rattle.std.specs.Prelude as std
 use Rattle.std.specs.Prelude.{◌≡◌, Bool, true, false, cond, List, ℕ, ◌+◌, ◌≤◌, ◌<◌, T, eqb, length, get_or}
-use Rattle.std.proofs.Math.Option.{some}
+use Rattle.std.specs.Prelude.{MatchOption}
+use Rattle.std.proofs.Math.Option.{Option, none, some}
 use Rattle.csl.specs.Lists.{all, at}
 use Rattle.csl.specs.Bytes.{byte, le16, part, record_end}
 use Rattle.csl.specs.Syntax.{Head}
@@ -80,6 +82,10 @@ pub record ValueTypes (s : List ℕ) (k : ℕ) (types : List ℕ) : Type 0 where
   pub count : length types ≡ value_count s k
   pub few : length types ≤ 8
   pub are_types : T (all is_type types)
+
+-- ---- what code found of the units that a template's head declares
+abbrev pub DeclaredUnits : Option ℕ → std.Option ℕ → Type 0
+DeclaredUnits declared found = MatchOption found (declared ≡ none) (λ n. (declared ≡ some n) × (n ≤ 128))
 
 -- ---- n records from `from`, each tested: `answers` says what the test may answer of one. `t` is what it computes
 abbrev pub Computes : (List ℕ → Bool → Type 0) → (List ℕ → Bool) → Type 0

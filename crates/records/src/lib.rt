@@ -4,7 +4,7 @@
 mod template;
 pub mod values;
 
-ghost use Rattle.std.specs.Prelude.{◌≡◌, true, false, ◌&&◌, ℕ, ◌+◌, ◌≤◌, ◌<◌, min, eqb, length};
+ghost use Rattle.std.specs.Prelude.{◌≡◌, true, false, cond, ◌&&◌, ℕ, ◌+◌, ◌≤◌, ◌<◌, min, eqb, length};
 ghost use Rattle.std.specs.Prelude.{MatchOption, ◌⊎◌, ◌-◌};
 ghost use Rattle.std.specs.Fn.{FnReturnsAt};
 ghost use Rattle.csl.specs.Lists.{all};
@@ -12,9 +12,9 @@ ghost use Rattle.csl.specs.Bytes as bytes;
 ghost use Rattle.csl.specs.Bytes.{kind_number, le32, record_end};
 ghost use Rattle.csl.specs.Decode as decode;
 ghost use Rattle.csl.specs.Decode.{wait_end, main_place, between, is_type, reading_type_ok, template_ok, counts_ok};
-ghost use Rattle.csl.specs.Decode.{listed};
+ghost use Rattle.csl.specs.Decode.{units_declared, few_units, all_of_kind, one_kind, listed};
 ghost use Rattle.records.specs.Index.{Lists, reading_place, template_place, ReadingTypes, main_bytes, first_clause};
-ghost use Rattle.records.specs.Index.{Placed, SomeFails};
+ghost use Rattle.records.specs.Index.{Placed, SomeFails, piece_at};
 
 use octets::{byte, is_record, kind, record_end, unsigned16, unsigned32};
 use std::marker::Model;
@@ -38,6 +38,9 @@ const MOST_PARTIES: usize = 16;
 const MOST_READINGS: usize = 16;
 
 pub const MOST_TEMPLATES: usize = 32;
+
+// The most units that a template declares.
+const MOST_DECLARED: usize = 128;
 
 // 'Records nest at most 24 deep, the agreement being depth 1': so deep may the main clause be, and a template's body.
 pub const MAIN_DEPTH: usize = 23;
@@ -122,12 +125,17 @@ impl<'a> Agreement<'a> {
         let m = byte(bytes, TEMPLATES_AT);
         let first = place_records(bytes, &mut readings[..n], READINGS_FROM, reading_ok)?;
         let main = place_records(bytes, &mut templates[..m], first, template_ok)?;
-        Some(Agreement {
+        let agreement = Agreement {
             bytes,
             readings,
             templates,
             main,
-        })
+        };
+        if agreement.one_kind() {
+            Some(agreement)
+        } else {
+            None
+        }
     }
 
     pub fn bytes(&self) -> &'a [u8]
@@ -178,6 +186,28 @@ impl<'a> Agreement<'a> {
         places[k]
     }
 
+    // The kind of template k, and whether all are of one, 3 or 4.
+    fn template_kind(&self, k: usize) -> usize
+        requires { k < bytes.byte self.now 10 }
+        ensures { (result ≡ kind_number (piece_at self.now (template_place self.now k))) × Lists self.now }
+    {
+        let a = self.template_place(k);
+        let e = record_end(self.bytes, a);
+        kind(&self.bytes[a..e])
+    }
+
+    fn all_of_kind(&self, wanted: usize) -> bool
+        ensures { (result ≡ all_of_kind wanted self.now) × Lists self.now }
+    {
+        (0..self.template_count()).all(|k| self.template_kind(k) == wanted)
+    }
+
+    fn one_kind(&self) -> bool
+        ensures { (result ≡ one_kind self.now) × Lists self.now }
+    {
+        self.all_of_kind(3) || self.all_of_kind(4)
+    }
+
     pub fn main_place(&self) -> usize
         ensures { (result ≡ main_place self.now) × (result ≤ length self.now) × Lists self.now }
     {
@@ -212,12 +242,13 @@ impl<'a> Agreement<'a> {
     }
 }
 
-// A template's head has so many bytes, with n values; its body stands behind it.
-fn head_size(n: usize) -> usize
+// A template's head has so many bytes, with n values; its body stands behind it. One of kind 4 declares its units last.
+fn head_size(kind: usize, n: usize) -> usize
     requires { n ≤ 8 }
-    ensures { result ≡ 8 + n }
+    ensures { result ≡ 8 + n + cond (eqb kind 4) 1 0 }
 {
-    8 + n
+    let units_at = 8 + n;
+    if kind == 4 { units_at + 1 } else { units_at }
 }
 
 fn between(low: usize, high: usize, n: usize) -> bool
@@ -227,8 +258,8 @@ fn between(low: usize, high: usize, n: usize) -> bool
 }
 
 // The bytes are one record, of at most 16,384 bytes: what refusal 1 asks.
-pub fn sized(agreement: &[u8]) -> bool
-    ensures { result ≡ decode.sized agreement.now }
+pub fn length_ok(agreement: &[u8]) -> bool
+    ensures { result ≡ decode.length_ok agreement.now }
 {
     between(4, MOST_BYTES, agreement.len()) && unsigned16(agreement, 0) == agreement.len()
 }
@@ -251,11 +282,17 @@ fn template_ok(piece: &[u8]) -> bool
 {
     let n = byte(piece, 4);
     is_record(piece)
-        && kind(piece) == 3
         && n <= 8
-        && head_size(n) <= piece.len()
+        && head_size(kind(piece), n) <= piece.len()
         && types_ok(&piece[5..5 + n])
         && byte(piece, 5 + n) <= 4
+        && few_units(piece)
+}
+
+fn few_units(piece: &[u8]) -> bool
+    ensures { result ≡ few_units (units_declared piece.now) }
+{
+    kind(piece) != 4 || byte(piece, 8 + byte(piece, 4)) <= MOST_DECLARED
 }
 
 // Stores where each of the records that begin at `from` begins, one for each place, and gives where the last one ends.

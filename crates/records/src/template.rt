@@ -2,10 +2,10 @@
 ghost use Rattle.std.specs.Prelude.{◌≡◌, ◌≤◌, ◌<◌, length};
 ghost use Rattle.csl.specs.Bytes as bytes;
 ghost use Rattle.records.specs.Index.{Lists, template_place, head_at, value_count, declared_bits, Spans, ValueTypes};
-ghost use Rattle.records.specs.Index.{body_bytes};
+ghost use Rattle.records.specs.Index.{body_bytes, DeclaredUnits};
 
 use super::{Agreement, head_size};
-use octets::{byte, record_end, unsigned16};
+use octets::{byte, kind, record_end, unsigned16};
 use std::ops::Range;
 
 // Template `number` of the agreement, which has more than so many.
@@ -59,14 +59,28 @@ impl<'a> Template<'a> {
         unsigned16(bytes, self.place() + (6 + n))
     }
 
+    // The units that it declares, where it is of kind 4.
+    pub fn units(&self) -> Option<usize>
+        ensures { DeclaredUnits (head_at self.now.agreement.now self.now.number).units result × Lists self.now.agreement.now }
+    {
+        let bytes = self.agreement.bytes();
+        let n = self.value_count();
+        if self.agreement.template_kind(self.number) == 4 {
+            Some(byte(bytes, self.place() + (8 + n)))
+        } else {
+            None
+        }
+    }
+
     // Where its body stands.
     pub fn body_span(&self) -> Range<usize>
         ensures { Spans self.now.agreement.now self.now.number result.start result.end × Lists self.now.agreement.now }
     {
         let a = self.place();
         let n = self.value_count();
-        let e = record_end(self.agreement.bytes(), a);
-        a + head_size(n)..e
+        let bytes = self.agreement.bytes();
+        let e = record_end(bytes, a);
+        a + head_size(kind(&bytes[a..e]), n)..e
     }
 
     pub fn body(&self) -> &'a [u8]

@@ -5,6 +5,7 @@ pub mod Forecast
 pub mod Early
 pub mod Cost
 pub mod Preview
+pub mod KnownSize
 pub mod Monitors
 pub mod Rules
 pub mod Quotients

@@ -1,11 +1,16 @@
--- The checklist's six wrong monitors, three that are wrong in the forecast that they tell and three that preview
--- wrongly, each shown to break the contracts; and that no two answers of an entry mean the same.
+-- The checklist's six wrong monitors, three that are wrong in the forecast that they tell, three that preview wrongly
+-- and two that are wrong about size, each shown to break the contracts; and that no two answers of an entry mean the
+-- same.
 use mathlib.Core.Path.{◌≡◌}
+use mathlib.Core.Bool.{true}
 use mathlib.Core.List.{List}
+use mathlib.Core.Logic.{◌≢◌}
 use Prim.Native.Nat.{ℕ}
 use lib.IntN.{ℤ, pos}
 use lib.ListN.{get_or, set}
 use Rattle.csl.specs.Bytes.{le32}
+use Rattle.csl.specs.Decode.{agreement_of}
+use Rattle.csl.specs.Sizes.{sized}
 use Rattle.csl.specs.Check.{CheckAnswer, check_of}
 use Rattle.csl.specs.Entries.{ReadingAnswer, StartAnswer, forecast_of, no_breach, no_forecast, reading_of, start_of}
 use Rattle.csl.specs.Preview.{preview_of}
@@ -17,6 +22,7 @@ use Rattle.monitor.proofs.WrongMonitors.{refuses_all_lem, eleven_at_once, invent
 use Rattle.monitor.proofs.WrongMonitors.{live_always, table_left_alone, works_at_the_first_reading}
 use Rattle.monitor.proofs.WrongMonitors.{none_always, refusals_told, table_before}
 use Rattle.monitor.proofs.WrongMonitors.{first_copied, refusal_written, refuses_all_previews, second_left_alone}
+use Rattle.monitor.proofs.WrongMonitors.{fifteen_never, sized_refused}
 
 module _ (check : List ℕ → CheckAnswer) (checks : (s : List ℕ) → check s ≡ check_of s)
     (start : List ℕ → List ℤ → StartAnswer) (starts : (s : List ℕ) (us : List ℤ) → start s us ≡ start_of s us)
@@ -66,6 +72,14 @@ module _ (reading : List ℕ → List ℤ → List ℕ → ReadingAnswer)
   telling_refused : ((s : List ℕ) (us : List ℤ) (r : List ℕ)
       → (reading s us r).forecast ≡ forecast_of s (reading s us r).table) → ⊥
   telling_refused = refusals_told reading reads
+
+-- paper 02, No. 7
+module _ (check : List ℕ → CheckAnswer) (checks : (s : List ℕ) → check s ≡ check_of s) where
+  never_fifteen : ((s : List ℕ) → (check s).number ≢ 15) → ⊥
+  never_fifteen = fifteen_never check checks
+
+  refusing_sized : ((s : List ℕ) → sized (agreement_of s) ≡ true → (check s).number ≢ 0) → ⊥
+  refusing_sized = sized_refused check checks
 
 -- paper 02, No. 6
 module _ (preview : List ℕ → List ℤ → List ℤ → List ℕ → ReadingAnswer)

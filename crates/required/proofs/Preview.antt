@@ -58,9 +58,9 @@ module _ (s : List ℕ) (us : List ℤ) (p : Preview)
     under : UnderSix s p
     under = claim.1 short
 
-    one_to_five : (n : ℕ) → checked s ≡ refused n → (taken_answer p.answer p.left).number ≡ n
+    by_check : (n : ℕ) → checked s ≡ refused n → (taken_answer p.answer p.left).number ≡ n
     unfolding answer_in
-    one_to_five = under.one_to_five
+    by_check = under.by_check
 
     six : (a : Agreement) (mains : List ℕ) → checked s ≡ accepted a mains
         → (taken_answer p.answer p.left).number ≡ 6

@@ -1,5 +1,5 @@
--- The trials that must be there: P1 to P15 by name, those of paper 02, Nos. 2, 6, 8 and 9 by name, the second list, and
--- that all pass.
+-- The trials that must be there: P1 to P15 by name, those of paper 02, Nos. 2, 6, 7, 8 and 9 by name, the second list,
+-- and that all pass.
 use mathlib.Core.Path.{◌≡◌, refl}
 use mathlib.Core.List.{List, [], ◌∷◌, map}
 use Prim.Native.String.{String}
@@ -9,13 +9,15 @@ use Rattle.csl.proofs.Joined.{joined_pass}
 use Rattle.csl.proofs.TooEarly.{too_early_pass}
 use Rattle.csl.proofs.Costs.{costs_pass}
 use Rattle.csl.proofs.Previews.{previews_pass}
+use Rattle.csl.proofs.KnownSizes.{known_sizes_pass}
 use Rattle.csl.specs.Trials.{Trial, trials, p1to4, p5and6, p7, p8, p9, p10, p11, p12a, p12b, p13, p14}
 use Rattle.csl.specs.Trials.{p15, follows}
-use Rattle.csl.specs.Further.{further, obeys, shows}
+use Rattle.csl.specs.Further.{further, obeys, shows, accepts, refuses, refuses_all}
 use Rattle.csl.specs.Joined.{joined_trials}
 use Rattle.csl.specs.TooEarly.{too_earlies, tells}
 use Rattle.csl.specs.Costs.{costing, costs, takes, lapses}
 use Rattle.csl.specs.Previews.{previewed, overwrites, keeps, misses}
+use Rattle.csl.specs.KnownSizes.{known_sizes, limits, needing}
 
 abbrev names : List Trial → List String
 names ts = map (λ t. t.name) ts
@@ -114,6 +116,33 @@ preview_names = refl
 
 previews_hold : map (λ t. t.shown) previewed ≡ map (λ t. t.expected) previewed
 previews_hold = previews_pass
+
+known_size_names : names known_sizes
+    ≡ "fulfilled needs nothing" ∷ "an if of two fulfilled needs nothing" ∷ "an obligation: 1"
+    ∷ "an obligation: its `then`" ∷ "a choice: 1" ∷ "a choice: its `then`" ∷ "a choice: its else"
+    ∷ "an if: its first clause" ∷ "an if: its second clause, though it is never followed" ∷ "`and`: 1 of its own"
+    ∷ "`and`: both together" ∷ "`or`: both together"
+    ∷ "an instance: what its template declares, not what its body needs" ∷ "an instance of the second template"
+    ∷ "an instance of a template without units needs nothing"
+    ∷ "an instance of its own template behind a reading: all that it declares"
+    ∷ "a clause that begins anew beside itself" ∷ "declared more than is needed" ∷ "the main clause: 128"
+    ∷ "the main clause: 129" ∷ "a body that is not used, before 6" ∷ "a preview: 15 before 7" ∷ "a preview: 15 before 6"
+    ∷ "128 units" ∷ "129 units" ∷ "255 units" ∷ "kind 4 behind kind 3" ∷ "kind 3 behind kind 4" ∷ "kind 5"
+    ∷ "kind 5 with units" ∷ "kind 2 for the only template" ∷ "kind 4 without its units" ∷ "kind 3 with units"
+    ∷ "kind 4 with 8 values and 4 parameters" ∷ "kind 4 with 129 units behind a value" ∷ "kind 4 with 9 values"
+    ∷ "kind 4 with a type byte 4" ∷ "kind 4 with 5 parameters"
+    ∷ "no template, or templates of kind 3: not sized, whatever is needed"
+    ∷ "one template that declares units, and one that does not: not sized" ∷ "sized: the main clause and each body"
+    ∷ "3, 4 and 5 before 15" ∷ "a run that uses its whole need" ∷ "it needs 3 all the way, and nothing once breached"
+    ∷ "fulfilled needs nothing, whatever the templates declare" ∷ "an `or` needs both together"
+    ∷ "an instance with values and a parameter: what its template declares" ∷ "a choice that is taken, then fulfilled"
+    ∷ "a unit that vanishes takes its join with it" ∷ "units behind values and a party parameter"
+    ∷ "where no accepted agreement leads, and where nothing waits" ∷ []
+unfolding known_sizes limits needing accepts refuses refuses_all keeps misses follows obeys shows
+known_size_names = refl
+
+known_sizes_hold : map (λ t. t.shown) known_sizes ≡ map (λ t. t.expected) known_sizes
+known_sizes_hold = known_sizes_pass
 
 further_hold : map (λ t. t.shown) further ≡ map (λ t. t.expected) further
 further_hold = further_pass

@@ -11,11 +11,12 @@ use lib.ListN.{length}
 use Rattle.csl.specs.Lists.{all, at}
 use Rattle.csl.specs.Parties.{member}
 use Rattle.csl.specs.Syntax.{Agreement, Head, Template, Ty}
-use Rattle.csl.specs.Decode.{decode, sized}
+use Rattle.csl.specs.Decode.{decode, length_ok}
 use Rattle.csl.specs.Typing.{heads_in, is_constant, names_of, type_clause, type_template, type_templates, typed}
 use Rattle.csl.specs.Guards.{guarded_from, guarded_in}
 use Rattle.csl.specs.Widths.{narrow_all}
-use Rattle.csl.specs.Check.{CheckResult, accepted, check_decoded, check_typed, checked, refused}
+use Rattle.csl.specs.Sizes.{fits}
+use Rattle.csl.specs.Check.{CheckResult, accepted, check_decoded, check_narrow, check_typed, checked, refused}
 use Rattle.csl.specs.Places.{clause_at, find_in}
 use Rattle.laws.proofs.Bools.{T-left, T-right}
 use Rattle.laws.proofs.Options.{from_bind, from_need, need_true, some_inj}
@@ -65,29 +66,32 @@ have none n f a ms e = impossible cc
 have (some x) n f a ms e = (x, refl, e)
 
 pub record Passed (bytes : List ℕ) (a : Agreement) (mains : List ℕ) : Type 0 where
-  pub sized : T (sized bytes)
+  pub length_ok : T (length_ok bytes)
   pub decodes : decode bytes ≡ some a
   pub types : typed a ≡ some mains
   pub guarded : T (guarded_from 0 a.templates)
   pub narrow : T (narrow_all a)
+  pub fits : T (fits a)
 
 -- what each of check's tests says of an accepted agreement
 pub passed : (bytes : List ℕ) (a : Agreement) (mains : List ℕ) → checked bytes ≡ accepted a mains → Passed bytes a mains
-unfolding checked check_decoded check_typed
+unfolding checked check_decoded check_typed check_narrow
 passed bytes a mains e =
-    let p₁ = pass (sized bytes) 1 _ a mains e in
+    let p₁ = pass (length_ok bytes) 1 _ a mains e in
     let p₂ = have (decode bytes) 2 check_decoded a mains p₁.1 in
     let p₃ = have (typed p₂.0) 3 (check_typed p₂.0) a mains p₂.2 in
     let p₄ = pass (guarded_from 0 p₂.0.templates) 4 _ a mains p₃.2 in
     let p₅ = pass (narrow_all p₂.0) 5 _ a mains p₄.1 in
-    let ea : p₂.0 ≡ a = same_a _ a _ mains p₅.1 in
-    let em : p₃.0 ≡ mains = same_m _ a _ mains p₅.1 in
+    let p₆ = pass (fits p₂.0) 15 _ a mains p₅.1 in
+    let ea : p₂.0 ≡ a = same_a _ a _ mains p₆.1 in
+    let em : p₃.0 ≡ mains = same_m _ a _ mains p₆.1 in
     record {
-      sized = p₁.0;
+      length_ok = p₁.0;
       decodes = p₂.1 ∙ ap some ea;
       types = subst (λ z. typed z ≡ some mains) ea (p₃.1 ∙ ap some em);
       guarded = subst (λ z. T (guarded_from 0 z.templates)) ea p₄.0;
       narrow = subst (λ z. T (narrow_all z)) ea p₅.0;
+      fits = subst (λ z. T (fits z)) ea p₆.0;
     }
   where
     same_a : (a b : Agreement) (m n : List ℕ) → accepted a m ≡ accepted b n → a ≡ b

@@ -16,7 +16,7 @@ use Rattle.csl.specs.Syntax.{Agreement, Clause, Expr, Head, Template, bad_clause
 use Rattle.csl.specs.Decode.{ClauseKind, Piece, agreement_of, records_end, between, body_of, body_place, choice_kind}
 use Rattle.csl.specs.Decode.{clause, clause_body, clause_head, clause_kind, counts_ok, decode, expr, fulfilled_kind}
 use Rattle.csl.specs.Decode.{heads_of, if_kind, instance_kind, instance_of, join_kind, listed, main_of, main_place}
-use Rattle.csl.specs.Decode.{no_clause}
+use Rattle.csl.specs.Decode.{no_clause, one_kind}
 use Rattle.csl.specs.Decode.{obligation_kind, pieces, reading_pieces, reading_type_ok, template_of, template_ok}
 use Rattle.csl.specs.Decode.{template_pieces, templates_place, wait_at, wait_end, well_formed, whole}
 use Rattle.laws.proofs.RecordEnds.{record_end_within, record_end_from, wait_within, wait_from, record_end_after}
@@ -186,6 +186,7 @@ pub record WellFormed (s : List ℕ) : Type 0 where
   pub templates : T (leb (byte s 10) 32)
   pub readings_ok : T (all (λ q. reading_type_ok q.bytes) (reading_pieces s))
   pub templates_ok : T (all (λ q. template_ok q.bytes) (template_pieces s))
+  pub one_kind : T (one_kind s)
   pub main : T (whole (main_of s))
   pub bodies : T (all (λ q. whole (body_of (heads_of s) q)) (template_pieces s))
 
@@ -198,15 +199,17 @@ well_formed_lem s t =
     let n = leb (byte s 10) 32 in
     let rs = all (λ q. reading_type_ok q.bytes) (reading_pieces s) in
     let ts = all (λ q. template_ok q.bytes) (template_pieces s) in
+    let o = one_kind s in
     let m = whole (main_of s) in
     let bs = all (λ q. whole (body_of (heads_of s) q)) (template_pieces s) in
-    both_true (a && (p && r && n) && rs && ts && m) bs t λ t₁ h₈.
-    both_true (a && (p && r && n) && rs && ts) m t₁ λ t₂ h₇.
-    both_true (a && (p && r && n) && rs) ts t₂ λ t₃ h₆.
-    both_true (a && (p && r && n)) rs t₃ λ t₄ h₅.
-    both_true a (p && r && n) t₄ λ h₁ t₅.
-    both_true (p && r) n t₅ λ t₆ h₄.
-    both_true p r t₆ λ h₂ h₃.
+    both_true (a && (p && r && n) && rs && ts && o && m) bs t λ t₁ h₉.
+    both_true (a && (p && r && n) && rs && ts && o) m t₁ λ t₂ h₈.
+    both_true (a && (p && r && n) && rs && ts) o t₂ λ t₃ h₇.
+    both_true (a && (p && r && n) && rs) ts t₃ λ t₄ h₆.
+    both_true (a && (p && r && n)) rs t₄ λ t₅ h₅.
+    both_true a (p && r && n) t₅ λ h₁ t₆.
+    both_true (p && r) n t₆ λ t₇ h₄.
+    both_true p r t₇ λ h₂ h₃.
     record {
       kind = h₁;
       parties = h₂;
@@ -214,8 +217,9 @@ well_formed_lem s t =
       templates = h₄;
       readings_ok = h₅;
       templates_ok = h₆;
-      main = h₇;
-      bodies = h₈;
+      one_kind = h₇;
+      main = h₈;
+      bodies = h₉;
     }
 
 -- What decoding gives: at most 16 parties, and templates and main clause one behind another in the bytes.

@@ -9,7 +9,7 @@ use mathlib.Core.Option.{Option, none, some}
 use mathlib.Core.Path.{ap, refl, subst, sym, ◌∙◌, ◌≡◌}
 use Prim.Native.Nat.{◌<◌, ◌^◌, suc, zero, ℕ, ◌≤◌}
 use native.Mathlib.Omega.{arith}
-use lib.Dec.{T, nltb→le}
+use lib.Dec.{T, ltb→lt, nltb→le}
 use lib.IntN.{pos}
 use lib.ListN.{drop, length}
 use Rattle.csl.specs.Lists.{◌>>=◌, all, at}
@@ -246,7 +246,7 @@ module _ (bytes : List ℕ) (a : Agreement) (mains : List ℕ) (ck : checked byt
       go (final d f le ib nd e) = absurd (nb ib)
 
   -- ---- the start
-  first : Outcome
+  abbrev pub first : Outcome
   first = activate a.templates a.main (record { params = []; values = [] }) a.start
 
   mains_stand : Sub (stand_for [] mains) mains
@@ -255,22 +255,39 @@ module _ (bytes : List ℕ) (a : Agreement) (mains : List ℕ) (ck : checked byt
       subst (λ z. In z mains) (sym (r.2 ∙ stands_blamed [] r.0 r.0
       (blamed_constant [] r.0 (omega (arith, few_mains bytes a mains ck r.0 r.1))))) r.1
 
-  first_good : Good a (Since a a.start) mains first
-  unfolding first HaveTy all
+  pub first_good : Good a (Since a a.start) mains first
+  unfolding HaveTy all
   first_good = good_sub a (Since a a.start) (stand_for [] mains) mains first mains_stand
       (activate_good a mains (is_fair bytes a mains ck) (Since a a.start) a.main 0 []
       (record { params = []; values = [] }) a.start mains
       (record { count = refl; few_params = omega arith; range = tt; values = tt }) (omega arith, omega arith)
       (is_fair bytes a mains ck).main (is_fair bytes a mains ck).main_placed)
 
-  begun : Run
+  abbrev begun : Run
   begun = run_at a.start a.start first
 
   choose : Bool → Stepped
   choose b = elim b [ true ↦ stepped 11 begun | false ↦ stepped 0 begun ]
 
+  -- whatever its number
+  pub started_run : (started a).run ≡ begun
+  unfolding started kept choose
+  started_run = go (too_many first)
+    where
+      go : (b : Bool) → (choose b).run ≡ begun
+      go true = refl
+      go false = refl
+
+  pub start_small : needed first ≤ 128 → (started a).number ≡ 0
+  unfolding started kept choose
+  start_small h = go (too_many first) refl
+    where
+      go : (b : Bool) → too_many first ≡ b → (choose b).number ≡ 0
+      go true e = absurd (omega (arith, ltb→lt 128 (needed first) (subst T (sym e ∙ too_many_is first) tt)))
+      go false e = refl
+
   pub start_inv_soon : a.start < 2 ^ 32 → (started a).number ≡ 0 → Sound (started a).run
-  unfolding started kept first begun choose
+  unfolding started kept choose
   start_inv_soon soon h = go (too_many first) refl h
     where
       go : (b : Bool) → too_many first ≡ b → (choose b).number ≡ 0 → Sound (choose b).run
@@ -287,24 +304,15 @@ module _ (bytes : List ℕ) (a : Agreement) (mains : List ℕ) (ck : checked byt
   start_inv hb = start_inv_soon (start_lt bytes a hb (is_passed bytes a mains ck).decodes)
 
   first_unbreached : Unbreached first
-  unfolding first activate during
+  unfolding activate during
   first_unbreached = walk_in_unbreached a.templates (length a.templates) a.main _ a.start
 
   pub start_unbreached : IsBreach (started a).run.outcome → ⊥
-  unfolding started kept first begun choose Unbreached
-  start_unbreached = go (too_many first)
-    where
-      go : (b : Bool) → IsBreach (choose b).run.outcome → ⊥
-      go true = first_unbreached
-      go false = first_unbreached
+  unfolding Unbreached
+  start_unbreached = subst (λ q. IsBreach q.outcome → ⊥) (sym started_run) first_unbreached
 
   pub start_moved : (started a).run.last_moved ≡ a.start
-  unfolding started kept first begun choose
-  start_moved = go (too_many first)
-    where
-      go : (b : Bool) → (choose b).run.last_moved ≡ a.start
-      go true = refl
-      go false = refl
+  start_moved = ap (λ q. q.last_moved) started_run
 
   -- ---- every list of readings, whatever their bytes
   pub after_inv : (q : Run) (rs : List (List ℕ)) → AllBytes rs → Sound q → Sound (run_after a q rs)

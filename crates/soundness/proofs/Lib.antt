@@ -27,3 +27,5 @@ pub mod CostUnits
 pub mod CostStages
 pub mod CostElse
 pub mod CostNumbers
+pub mod Needs
+pub mod KnownSize

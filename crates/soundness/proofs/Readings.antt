@@ -99,6 +99,11 @@ raw_time s w h e =
 pub start_lt : (bytes : List ℕ) (a : Agreement) → Bytes bytes → decode bytes ≡ some a → a.start < 2 ^ 32
 start_lt s a h e = subst (λ t. t < 2 ^ 32) (sym (decoded s a e).start) (time_below s 4 h)
 
+-- a reading that fits is one that 9 does not refuse
+pub fitting_ok : (a : Agreement) (m : List ℕ) (d : Reading) → fitting a m ≡ some d → ReadingOk a d
+unfolding fitting
+fitting_ok a m d e = from_bind (raw_reading m) _ d e λ w p q. (reading_ok a w d q).0
+
 -- the time of a reading that fits is the one that its bytes give
 pub fitting_time : (a : Agreement) (m : List ℕ) (d : Reading) → fitting a m ≡ some d → d.time ≡ time_in m
 unfolding fitting raw_reading time_in

@@ -20,8 +20,8 @@ use Rattle.csl.specs.Bytes.{le32}
 use Rattle.csl.specs.Entries.{Forecast}
 use Rattle.monitor.specs.declared.Refusal.{Refusal}
 use Rattle.monitor.specs.declared.Refusal.TheVariants.{AgreementLength, AgreementForm, AgreementTyping}
-use Rattle.monitor.specs.declared.Refusal.TheVariants.{AgreementGuards, AgreementWidth, TableLength, TableContent}
-use Rattle.monitor.specs.declared.Refusal.TheVariants.{ReadingForm, ReadingTyping, ReadingTime, Units}
+use Rattle.monitor.specs.declared.Refusal.TheVariants.{AgreementGuards, AgreementWidth, AgreementSize, TableLength}
+use Rattle.monitor.specs.declared.Refusal.TheVariants.{TableContent, ReadingForm, ReadingTyping, ReadingTime, Units}
 use Rattle.monitor.specs.Answers.{number_of}
 use Rattle.lines.specs.Text.{decimal, dash, live, done, breach, fields, newline, space}
 use Rattle.lines.specs.Lines.{forecast_fields, state_by, state_fields, verdict_fields, refusal_fields, answer_fields}
@@ -77,6 +77,7 @@ not_zero AgreementForm = refl
 not_zero AgreementTyping = refl
 not_zero AgreementGuards = refl
 not_zero AgreementWidth = refl
+not_zero AgreementSize = refl
 not_zero TableLength = refl
 not_zero TableContent = refl
 not_zero ReadingForm = refl
@@ -90,6 +91,7 @@ not_eight AgreementForm f = refl
 not_eight AgreementTyping f = refl
 not_eight AgreementGuards f = refl
 not_eight AgreementWidth f = refl
+not_eight AgreementSize f = refl
 not_eight TableLength f = refl
 not_eight TableContent f = refl
 not_eight ReadingForm f = absurd (f refl)

@@ -42,7 +42,7 @@ pub fn refused(number: u32) -> &'static str {
         9 => "0: refused with 9",
         10 => "0: refused with 10",
         11 => "0: refused with 11",
-        _ => "0: refused with 1 to 7",
+        _ => "0: refused with 1 to 7 or 15",
     }
 }
 

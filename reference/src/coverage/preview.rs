@@ -2,6 +2,7 @@
 //! table holds before. "It answers as the reading itself would on a copy, refusals included, and the first table is
 //! only read. On a refusal the second table is untouched. A second table of wrong length counts under 6."
 
+use super::is_of_agreement;
 use super::moved::{self, state_name, Effect};
 use crate::generate::{Aim, Answer, Call, Entry};
 use crate::table::{self, BLAMED, BREACHED, CELLS, FULFILLED, HEAD, LAST, MOVED, RUNNING, STATE, TIME, UNIT, USED};
@@ -41,10 +42,10 @@ impl<'t> Previewed<'t> {
         self.second.len() == CELLS
     }
 
-    /// "It answers as the reading itself would on a copy". "A second table of wrong length counts under 6": 1 to 5 are
-    /// lower.
+    /// "It answers as the reading itself would on a copy". "A second table of wrong length counts under 6": 1 to 5 and
+    /// 15 come before.
     fn expected(&self) -> Taken {
-        if self.second_is_right() || (1..=5).contains(&self.itself.number) {
+        if self.second_is_right() || is_of_agreement(self.itself.number) {
             return self.itself;
         }
         Taken { number: Refusal::Cells.number(), early: 0, cost: 0, forecast: None }
@@ -221,7 +222,7 @@ pub fn lengths() -> Vec<String> {
 }
 
 pub fn otherwise() -> Vec<String> {
-    (0..=11).map(otherwise_name).collect()
+    (0..=11).chain([15]).map(otherwise_name).collect()
 }
 
 pub fn cases() -> Vec<String> {
@@ -232,7 +233,8 @@ pub fn cases() -> Vec<String> {
 pub fn contents() -> Vec<String> {
     let over = [ZEROS, OUTCOME, FIRST, WELL_TYPED, DAMAGED, NO_STATE];
     let over = STATES.iter().flat_map(|state| over.map(|held| over_name(*state, held)));
-    over.chain((1..=11).flat_map(|number| [ZEROS, SOMETHING].map(|held| kept_name(number, held)))).collect()
+    let numbers = (1..=11).chain([15]);
+    over.chain(numbers.flat_map(|number| [ZEROS, SOMETHING].map(|held| kept_name(number, held)))).collect()
 }
 
 /// Where a careless monitor might preview otherwise than it reads, or leave something of what the second held.

@@ -3,13 +3,14 @@
 
 use super::eventful::{costly, eventful};
 use super::random::Random;
+use super::sized::{at_its_limits, sized};
 use crate::agreement::{Operator, Type};
 use crate::build;
 use crate::check::FIRST_PARAMETER;
 
 const DEEPEST: usize = 24;
 const SIGHT: usize = 16;
-const LONGEST: usize = 16_384;
+pub const LONGEST: usize = 16_384;
 const TYPES: [Type; 3] = [Type::Number, Type::Truth, Type::Party];
 
 /// What an agreement is made to look like.
@@ -34,8 +35,21 @@ const CHAINED: Shape = Shape { weights: [1, 3, 14, 2, 2, 2, 4], templates: 4, ro
 const JOINED: Shape = Shape { weights: [0, 6, 2, 0, 5, 6, 2], templates: 2, room: 1_200, width: 40, fuel: 1 };
 const MANY: Shape = Shape { weights: [1, 5, 2, 2, 3, 2, 9], templates: 32, room: 6_000, width: 200, fuel: 1 };
 
-/// Makes a valid agreement.
+/// Makes a valid agreement, often a sized one.
 pub fn agreement(random: &mut Random) -> Vec<u8> {
+    if random.chance(8) {
+        return at_its_limits(random);
+    }
+    let bytes = with_any_size(random);
+    if random.chance(30) {
+        sized(&bytes).unwrap_or(bytes)
+    } else {
+        bytes
+    }
+}
+
+/// One whose templates, if it has any, are of kind 3.
+fn with_any_size(random: &mut Random) -> Vec<u8> {
     match random.below(100) {
         0..=6 => return growing(random),
         7..=10 => return crowded(random),

@@ -1,9 +1,10 @@
-//! Damaged agreements. Each is made from an accepted one and aims at something that check looks
-//! for; a few happen to stay acceptable.
+//! Damaged agreements. Each is made from an accepted one, or from one whose needs are too big, and aims at something
+//! that check looks for; a few happen to stay acceptable.
 
 use super::random::Random;
 use super::records::{exchange, spans, word, Span};
-use crate::agreement::Operator;
+use super::sized::Templates;
+use crate::agreement::{Operator, MOST_UNITS};
 use crate::build;
 use crate::check::FIRST_PARAMETER;
 
@@ -40,10 +41,14 @@ pub enum Damage {
     SelfNamingElse,
     Wide,
     WideThen,
+    MixedKinds,
+    UnitsAboveMost,
+    UnitsTooFew,
+    NeedsMore,
 }
 
 impl Damage {
-    pub const ALL: [Damage; 30] = [
+    pub const ALL: [Damage; 34] = [
         Damage::Short,
         Damage::Long,
         Damage::Full,
@@ -74,9 +79,17 @@ impl Damage {
         Damage::SelfNamingElse,
         Damage::Wide,
         Damage::WideThen,
+        Damage::MixedKinds,
+        Damage::UnitsAboveMost,
+        Damage::UnitsTooFew,
+        Damage::NeedsMore,
     ];
 
-    /// The agreement with this damage, if it has a place for it.
+    /// Those of the kinds of templates, of their units and of needs.
+    pub const OF_SIZES: [Damage; 4] =
+        [Damage::MixedKinds, Damage::UnitsAboveMost, Damage::UnitsTooFew, Damage::NeedsMore];
+
+    /// The agreement, whose records can be parsed, with this damage, if it has a place for it.
     pub fn of(self, random: &mut Random, agreement: &[u8]) -> Option<Vec<u8>> {
         let mut patient = Patient { random, bytes: agreement.to_vec(), spans: spans(agreement) };
         patient.damage(self)
@@ -110,6 +123,8 @@ impl Patient<'_> {
             Damage::Exchanged => self.exchanged(),
             Damage::TooDeep => self.too_deep(),
             Damage::NoTemplate => self.no_template(),
+            Damage::MixedKinds => self.mixed_kinds(),
+            Damage::UnitsAboveMost => self.units(|random, _| Some(random.pick(&[MOST_UNITS + 1, 200, 255]))),
             _ => self.ill_formed(damage),
         }
     }
@@ -129,6 +144,11 @@ impl Patient<'_> {
             Damage::SelfNaming => self.self_naming(|named, _| named),
             Damage::SelfNamingElse => self.self_naming(|named, wait| wait.choice(&named)),
             Damage::Wide => self.clause(wide),
+            Damage::UnitsTooFew => self.units(|random, units| {
+                let fewer = units.checked_sub(1)?;
+                Some(random.pick(&[fewer, fewer, fewer / 2]))
+            }),
+            Damage::NeedsMore => self.needs_more(),
             _ => self.clause(|random| {
                 let then = wide(random);
                 build::Wait { then, ..build::simple(5) }.choice(&build::fulfilled())
@@ -240,7 +260,7 @@ impl Patient<'_> {
 
     /// A count or type byte of a reading type or template is another.
     fn head_byte(&mut self) -> Option<Vec<u8>> {
-        let span = self.any_span(|span| span.kind == 2 || span.kind == 3)?;
+        let span = self.any_span(|span| span.kind == 2 || span.is_template())?;
         let count = usize::from(self.bytes[span.start + 4]);
         let last = if span.kind == 2 { count } else { count + 1 };
         let at = span.start + 4 + self.random.below(last + 1);
@@ -320,7 +340,7 @@ impl Patient<'_> {
     }
 
     fn declared(&mut self) -> Option<Vec<u8>> {
-        let span = self.any_span(|span| span.kind == 3)?;
+        let span = self.any_span(Span::is_template)?;
         let at = span.start + 4 + 1 + usize::from(self.bytes[span.start + 4]) + 1;
         let bit = 1 << self.random.below(16);
         Some(self.put_word(at, &[word(&self.bytes, at) ^ bit]))
@@ -345,7 +365,7 @@ impl Patient<'_> {
     /// The blame bytes, from `least` on, that may stand in a clause: in the main clause every party's, in a template
     /// those of its declared parties and its parameters.
     fn members(&self, clause: &Span, least: u8) -> Vec<u8> {
-        let around = |span: &&Span| span.kind == 3 && span.start < clause.start && clause.end <= span.end;
+        let around = |span: &&Span| span.is_template() && span.start < clause.start && clause.end <= span.end;
         let (parties, parameters) = match self.spans.iter().find(around) {
             Some(template) => {
                 let (_, parameters, declared) = self.template_head(*template);
@@ -359,7 +379,7 @@ impl Patient<'_> {
 
     /// The body of a template is made to name itself or a later one, by `shape`.
     fn self_naming(&mut self, shape: impl FnOnce(Vec<u8>, build::Wait) -> Vec<u8>) -> Option<Vec<u8>> {
-        let templates: Vec<_> = self.spans.iter().copied().filter(|span| span.kind == 3).collect();
+        let templates: Vec<_> = self.spans.iter().copied().filter(Span::is_template).collect();
         let n = self.random.below(templates.len().max(1));
         let template = templates.get(n)?;
         let later = n + self.random.below(templates.len() - n);
@@ -382,6 +402,40 @@ impl Patient<'_> {
         let values: Vec<_> = types.iter().map(literal).collect();
         let blame = if own_parameters > 0 { 128 } else { declared.trailing_zeros() as u8 };
         build::instance(number, &values, &vec![blame; usize::from(parameters)])
+    }
+
+    /// Some template is of the other kind than the rest.
+    fn mixed_kinds(&mut self) -> Option<Vec<u8>> {
+        let templates = Templates::of(&self.bytes)?;
+        if templates.records.len() < 2 {
+            return None;
+        }
+        let index = self.random.below(templates.records.len());
+        let template = templates.records[index];
+        let record = match template.units() {
+            Some(_) => template.without_units(),
+            None => template.with_units(self.random.pick(&[0, 1, MOST_UNITS])),
+        };
+        Some(templates.with_one(index, record))
+    }
+
+    /// Some template of a sized agreement declares other units.
+    fn units(&mut self, other: impl FnOnce(&mut Random, u8) -> Option<u8>) -> Option<Vec<u8>> {
+        let templates = Templates::of(&self.bytes)?;
+        let index = self.random.below(templates.records.len().max(1));
+        let template = templates.records.get(index)?;
+        let units = other(self.random, template.units()?)?;
+        Some(templates.with_one(index, template.with_units(units)))
+    }
+
+    /// Some clause of a sized agreement stands beside fulfilled: one unit more for those that it decides.
+    fn needs_more(&mut self) -> Option<Vec<u8>> {
+        Templates::of(&self.bytes)?.records.first()?.units()?;
+        // The main clause or a body, then any clause of it: a large one is not taken more often.
+        let whole = self.any_span(|span| span.is_clause() && span.depth == 2 || span.is_template())?;
+        let old = self.any_span(|span| span.is_clause() && whole.start <= span.start && span.end <= whole.end)?;
+        let joined = build::and(&self.bytes[old.start..old.end], &build::fulfilled());
+        Some(exchange(&self.bytes, &self.spans, old, &joined))
     }
 
     /// The value types, parameter count and declared parties of a template.
@@ -419,7 +473,12 @@ fn conjunction(count: usize) -> Vec<u8> {
 
 /// A clause about as wide as may be, or wider.
 fn wide(random: &mut Random) -> Vec<u8> {
-    let wide = balanced(127 + random.below(6));
+    let leaves = 127 + random.below(6);
+    // An if needs no unit of its own.
+    let wide = match random.chance(70) {
+        true => balanced(leaves, build::and),
+        false => balanced(leaves, |left, right| build::if_clause(&build::truth(1), left, right)),
+    };
     if random.chance(50) {
         wide
     } else {
@@ -427,10 +486,10 @@ fn wide(random: &mut Random) -> Vec<u8> {
     }
 }
 
-/// So many fulfilled joined by `and` in balance.
-fn balanced(leaves: usize) -> Vec<u8> {
+/// So many fulfilled joined in balance.
+fn balanced(leaves: usize, join: fn(&[u8], &[u8]) -> Vec<u8>) -> Vec<u8> {
     match leaves {
         1 => build::fulfilled(),
-        _ => build::and(&balanced(leaves / 2), &balanced(leaves - leaves / 2)),
+        _ => join(&balanced(leaves / 2, join), &balanced(leaves - leaves / 2, join)),
     }
 }

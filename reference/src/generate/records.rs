@@ -16,6 +16,11 @@ impl Span {
         (16..=22).contains(&self.kind)
     }
 
+    /// Of kind 3 or 4.
+    pub fn is_template(&self) -> bool {
+        self.kind == 3 || self.kind == 4
+    }
+
     pub fn is_expression(&self) -> bool {
         (32..=43).contains(&self.kind)
     }
@@ -48,6 +53,7 @@ fn fields(bytes: &[u8], start: usize, kind: u16, heads: &[&Head]) -> (usize, usi
     match kind {
         1 => (7, 0),
         3 => (1 + usize::from(bytes[body]) + 3, 0),
+        4 => (1 + usize::from(bytes[body]) + 4, 0),
         17 => (2, 0),
         18 => (1, 0),
         22 => (1, usize::from(heads[usize::from(bytes[body])].parameters)),

@@ -9,10 +9,11 @@ use tools::files::read;
 use tools::output::{complain, result};
 use tools::readings::readings;
 use tools::shown::printable;
-use tools::{disassemble, examples, explain, run, timeline};
+use tools::{disassemble, examples, explain, run, sizes, timeline};
 
 const USAGE: &str = "\
 usage: agreement check FILE                     what is wrong with the text of an agreement, and where
+       agreement sizes [--json] FILE            the least units that its templates can declare
        agreement assemble FILE                  text to an agreement record, if it is accepted
        agreement disassemble FILE               an agreement record to text with invented names
        agreement readings [--for TEXT] FILE     lines `TIME TYPE VALUE..` to reading records
@@ -63,6 +64,7 @@ fn main() -> ExitCode {
         ["run", ref rest @ ..] => return run::command(rest),
         ["test", ref rest @ ..] => return examples::command(rest),
         ["timeline", ref rest @ ..] => return timeline::command(rest),
+        ["sizes", ref rest @ ..] => return sizes::command(rest),
         ["check", file] => accepted(file).map(|accepted| accepted.told(file).into_bytes()),
         ["assemble", file] => accepted(file).map(|accepted| accepted.assembled.bytes),
         ["disassemble", file] => disassembled(file).map(String::into_bytes),

@@ -9,14 +9,13 @@ const REFUSAL: u32 = 4;
 
 /// Every unguarded instance of its own or a later template.
 pub fn faults(tree: &Agreement) -> Vec<Fault> {
-    let number = |name: &Name| tree.templates.iter().position(|template| template.name.text == name.text);
-    let named = |clause: &Clause| -> Vec<usize> { unguarded(clause).into_iter().filter_map(number).collect() };
+    let named = |clause: &Clause| unguarded(clause).into_iter().filter_map(|name| tree.template(name)).collect();
     let edges: Vec<Vec<usize>> = tree.templates.iter().map(|template| named(&template.body)).collect();
     let guards = Guards { tree, order: whole_order(&edges), edges };
     let mut faults = Vec::new();
     for (n, template) in tree.templates.iter().enumerate() {
         for name in unguarded(&template.body) {
-            if let Some(m) = number(name).filter(|m| *m >= n) {
+            if let Some(m) = tree.template(name).filter(|m| *m >= n) {
                 faults.push(name.fault(guards.told(n, m)).refused(REFUSAL));
             }
         }

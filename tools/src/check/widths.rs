@@ -52,8 +52,7 @@ impl Widths<'_> {
             Form::If(_, then, otherwise) => 1 + self.of(then) + optional(otherwise),
             Form::And(left, right) | Form::Or(left, right) => 1 + self.of(left) + self.of(right),
             Form::Instance(instance) => {
-                let name = &instance.template.text;
-                let known = self.tree.templates.iter().position(|template| template.name.text == *name);
+                let known = self.tree.template(&instance.template);
                 // A later template's width is not known yet: that it is named here is refusal 4.
                 1 + known.and_then(|number| self.bodies.get(number)).unwrap_or(&0)
             }

@@ -1,7 +1,8 @@
 //! The words for a refused and for an accepted text.
 
 use super::{Accepted, Refused, Verdict};
-use crate::fault::unmarked;
+use crate::fault::{unmarked, Fault};
+use crate::limits;
 use crate::shown::{excerpt, printable};
 use givuntha::{Parties, Refusal};
 
@@ -18,25 +19,16 @@ impl Accepted {
         let parties: Vec<String> = parties.collect();
         let blamed = if parties.is_empty() { "nobody".to_string() } else { parties.join(", ") };
         let bytes = self.assembled.bytes.len();
-        format!("{}: accepted; {bytes} bytes; it can blame {blamed}\n", printable(file))
+        let sized = self.need.map(|need| format!("; sized, it needs {need} of {} units", limits::UNITS));
+        let sized = sized.unwrap_or_default();
+        format!("{}: accepted; {bytes} bytes; it can blame {blamed}{sized}\n", printable(file))
     }
 }
 
 impl Refused {
     /// Each fault with its place, its line and what is wrong; then the verdict.
     pub fn told(&self, file: &str, text: &[u8]) -> String {
-        let (file, text) = (printable(file), String::from_utf8_lossy(unmarked(text)));
-        let mut lines = Vec::new();
-        for fault in self.faults.iter().take(MOST) {
-            let refusal = fault.refusal.map(|number| format!(" (refusal {number})")).unwrap_or_default();
-            lines.push(format!("{file}:{fault}{refusal}"));
-            lines.push(excerpt(&text, fault.at, fault.length));
-        }
-        if let Some(more) = self.faults.len().checked_sub(MOST).filter(|more| *more > 0) {
-            lines.push(format!("{file}: {more} more mistakes are not told"));
-        }
-        lines.push(format!("{file}: {}", self.verdict_told()));
-        lines.join("\n")
+        told(file, text, &self.faults, &self.verdict_told())
     }
 
     fn verdict_told(&self) -> String {
@@ -51,6 +43,22 @@ impl Refused {
             }
         }
     }
+}
+
+/// Each fault with its place, its line and what is wrong; then what they come to.
+pub fn told(file: &str, text: &[u8], faults: &[Fault], verdict: &str) -> String {
+    let (file, text) = (printable(file), String::from_utf8_lossy(unmarked(text)));
+    let mut lines = Vec::new();
+    for fault in faults.iter().take(MOST) {
+        let refusal = fault.refusal.map(|number| format!(" (refusal {number})")).unwrap_or_default();
+        lines.push(format!("{file}:{fault}{refusal}"));
+        lines.push(excerpt(&text, fault.at, fault.length));
+    }
+    if let Some(more) = faults.len().checked_sub(MOST).filter(|more| *more > 0) {
+        lines.push(format!("{file}: {more} more mistakes are not told"));
+    }
+    lines.push(format!("{file}: {verdict}"));
+    lines.join("\n")
 }
 
 fn answer_told(answer: Result<Parties, Refusal>) -> String {

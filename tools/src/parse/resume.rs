@@ -75,7 +75,7 @@ impl Cursor {
         self.after_values(0).is_some_and(|next| self.is_name(next) || self.is(next, "letrec") || self.is(next, "in"))
     }
 
-    /// `t(..)`, perhaps `<..>`, and `=` or `declares`.
+    /// `t(..)`, perhaps `<..>`, and `=`, `declares` or `sized`.
     fn template_at(&self, at: usize) -> bool {
         let Some(mut next) = self.after_values(at) else { return false };
         if self.is(next, "<") {
@@ -89,7 +89,7 @@ impl Cursor {
             }
             next += usize::from(self.is(next, ">"));
         }
-        self.is(next, "=") || self.is(next, "declares")
+        self.is(next, "=") || self.is(next, "declares") || self.is(next, "sized")
     }
 
     /// How far ahead the token after `name(..)` is, with no parenthesis inside.

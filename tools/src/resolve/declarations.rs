@@ -6,7 +6,7 @@ use super::Resolver;
 use crate::fault::Fault;
 use crate::limits;
 use crate::model::{Head, Reading, Value};
-use crate::syntax::{self, Agreement, Name, Parameter, Template};
+use crate::syntax::{self, Agreement, Name, Parameter, Template, Units};
 use std::collections::BTreeSet;
 
 impl Resolver {
@@ -27,6 +27,7 @@ impl Resolver {
         }
         resolver.readings = tree.readings.iter().map(|reading| resolver.reading_type(reading)).collect();
         resolver.heads = tree.templates.iter().map(|template| resolver.head(template, tree)).collect();
+        resolver.of_one_kind(&tree.templates);
         resolver
     }
 
@@ -44,10 +45,29 @@ impl Resolver {
         self.limited(&tree.values, limits::TEMPLATE_VALUES, "values of a template", |value| &value.name);
         self.limited(&tree.parameters, limits::PARAMETERS, "party parameters", |name| name);
         self.distinct_values(&tree.values, &tree.parameters);
-        self.room(tree.name.at, 2, 1 + tree.values.len() + 3);
+        self.room(tree.name.at, 2, 1 + tree.values.len() + 3 + usize::from(tree.units.is_some()));
         let declared = self.declared(tree, agreement);
         let parameters = tree.parameters.iter().map(|name| name.text.clone()).collect();
-        Head { name: tree.name.text.clone(), values: values(&tree.values), parameters, declared }
+        let units = tree.units.as_ref().map(|units| self.units(units));
+        Head { name: tree.name.text.clone(), values: values(&tree.values), parameters, declared, units }
+    }
+
+    fn units(&mut self, units: &Units) -> u8 {
+        if usize::from(units.byte()) > limits::UNITS {
+            let what = format!("too many units: {}, at most {}", units.number, limits::UNITS);
+            self.faults.push(units.fault(what).refused(2));
+        }
+        units.byte()
+    }
+
+    /// "Mixing kinds 3 and 4 [..] is refusal 2."
+    fn of_one_kind(&mut self, templates: &[Template]) {
+        let Some(sized) = templates.iter().find(|template| template.units.is_some()) else { return };
+        for template in templates.iter().filter(|template| template.units.is_none()) {
+            let (one, other) = (&sized.name.text, &template.name.text);
+            let what = format!("`{other}` declares no units, and `{one}` does: all templates are sized or none is");
+            self.faults.push(template.name.fault(what).refused(2));
+        }
     }
 
     /// The declared parties by bit.

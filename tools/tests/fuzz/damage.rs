@@ -3,13 +3,15 @@
 use super::random::Random;
 
 /// Words of the language, ends of ranges, and characters that are seldom met.
-const WORDS: [&str; 40] = [
+const WORDS: [&str; 42] = [
     " parties ",
     " readings ",
     " letrec ",
     " in ",
     " starting ",
     " declares ",
+    " sized ",
+    " sized 3 ",
     " fulfilment ",
     " if ",
     " then ",

@@ -2,17 +2,20 @@
 
 use super::corpus::Corpus;
 use super::damage::{damaged, jumbled};
+use super::json;
 use super::random::Random;
 use super::runs::{follow, picture, preview, records, run, test};
 use tools::check::{check, Verdict};
 use tools::explain::Context;
 use tools::readings::readings;
+use tools::sizes::Sizes;
 use tools::{assemble, disassemble, explain};
 
 type Trial = fn(&mut Random, &Corpus) -> bool;
 
-pub const TRIALS: [(&str, Trial); 10] = [
+pub const TRIALS: [(&str, Trial); 11] = [
     ("text", text as Trial),
+    ("sizes", sizes),
     ("record", record),
     ("lines", lines),
     ("table", table),
@@ -41,6 +44,23 @@ fn text(random: &mut Random, corpus: &Corpus) -> bool {
             assert!(told.chars().all(|c| c == '\n' || !c.is_control()), "{told:?}");
             false
         }
+    }
+}
+
+/// Sizes that are found are the library's too, and what is not found is told.
+fn sizes(random: &mut Random, corpus: &Corpus) -> bool {
+    let (text, other) = (random.pick(&corpus.texts), random.pick(&corpus.texts));
+    let found = Sizes::of("text", &damaged(random, text, other));
+    let object = found.object().to_string();
+    let object = json::parse(&object).unwrap_or_else(|what| panic!("{what}: {object}"));
+    assert_eq!(object.get("templates").list().len(), found.templates.len());
+    match found.because {
+        Some(told) => {
+            assert!(!told.contains("a mistake of this tool"), "{told}");
+            assert!(told.chars().all(|c| c == '\n' || !c.is_control()), "{told:?}");
+            false
+        }
+        None => found.main.is_some_and(|need| need <= 128),
     }
 }
 

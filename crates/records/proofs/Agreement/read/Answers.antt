@@ -5,7 +5,7 @@ use Rattle.std.proofs.Common.{rules}
 use Rattle.std.proofs.lemmas.List.{length-take-le}
 use Rattle.records.proofs.Listed.{listed_short, listed_uncounted, few_readings_lem, few_templates_lem}
 use Rattle.records.proofs.Listed.{readings_room, templates_room, listed_no_reading, listed_no_template}
-use Rattle.records.proofs.Listed.{is_listed, indexed}
+use Rattle.records.proofs.Listed.{listed_as, indexed}
 use Rattle.records.proofs.Agreement.read.Goals as goal
 
 pub returns-then-bytes-lt-READINGS_FROM : goal.returns-then-bytes-lt-READINGS_FROM
@@ -48,8 +48,8 @@ returns-in_err-main c =
     (listed_no_template s c.counts_ok.ensures told (λ q b r. search rules) room c.in_ok-first.ensures.answer
     (λ q b r. search rules) room₂ c.in_err-main.ensures.answer)
 
-pub invariant_of-result : goal.invariant_of-result
-invariant_of-result c =
+pub invariant_of-agreement : goal.invariant_of-agreement
+invariant_of-agreement c =
     let s = c.args.bytes.now in
     let told = c.if-not-counts_ok.false in
     let room = c.in_ok-first.ensures.room
@@ -59,14 +59,27 @@ invariant_of-result c =
     indexed s c.counts_ok.ensures told (λ q b r. search rules) room c.in_ok-first.ensures.answer
     (λ q b r. search rules) room₂ c.in_ok-main.ensures.answer _ _
 
-pub returns : goal.returns
-returns c =
+pub returns-then-one_kind : goal.returns-then-one_kind
+returns-then-one_kind c =
+    let s = c.args.bytes.now in
+    let told = c.if-not-counts_ok.false in
+    let room = c.in_ok-first.ensures.room
+    ∙ readings_room s c.counts_ok.ensures told _ (le_refl 16) c.byte-n.ensures.0 in
+    let room₂ = c.in_ok-main.ensures.room
+    ∙ templates_room s c.counts_ok.ensures told _ (le_refl 32) c.byte-m.ensures.0 in (
+      refl,
+      listed_as s c.counts_ok.ensures told (λ q b r. search rules) room c.in_ok-first.ensures.answer
+          (λ q b r. search rules) room₂ c.in_ok-main.ensures.answer ∙ sym c.one_kind.ensures.0 ∙ c.if-one_kind.true,
+      c.one_kind.ensures.1,
+    )
+
+pub returns-else-one_kind : goal.returns-else-one_kind
+returns-else-one_kind c =
     let s = c.args.bytes.now in
     let told = c.if-not-counts_ok.false in
     let room = c.in_ok-first.ensures.room
     ∙ readings_room s c.counts_ok.ensures told _ (le_refl 16) c.byte-n.ensures.0 in
     let room₂ = c.in_ok-main.ensures.room
     ∙ templates_room s c.counts_ok.ensures told _ (le_refl 32) c.byte-m.ensures.0 in
-    let listed = is_listed s c.counts_ok.ensures told (λ q b r. search rules) room c.in_ok-first.ensures.answer
-    (λ q b r. search rules) room₂ c.in_ok-main.ensures.answer in
-    (refl, listed, (invariant_of-result c).lists)
+    listed_as s c.counts_ok.ensures told (λ q b r. search rules) room c.in_ok-first.ensures.answer
+    (λ q b r. search rules) room₂ c.in_ok-main.ensures.answer ∙ sym c.one_kind.ensures.0 ∙ c.if-one_kind.false
