@@ -21,6 +21,7 @@ use Rattle.residues.specs.declared.Reduced.{Reduced}
 use Rattle.residues.specs.declared.Reduced.TheVariants.{Done, Breach, Running}
 use Rattle.residues.specs.declared.Reckoned.{Reckoned}
 use Rattle.residues.specs.declared.Tally.{Tally}
+use Rattle.waits.specs.Fates.{mode_at}
 use Rattle.waits.specs.declared.Event.{Event}
 use Rattle.waits.specs.declared.Event.TheVariants.{Activate, Forecast, Follow}
 use Rattle.activation.specs.declared.sites.Site.{Site}
@@ -33,7 +34,7 @@ module _ (e : Event) (t : Site) {w : Site} where
   lighter_within x b ew n m h = rw ew (omega arith)
 
 -- what follows a reading is heavier than what takes none
-pub heavy : (e : Event) → Follows e → (t : Site) (n : ℕ) → 64 * (farthest + 1) ≤ weight e t n
+pub heavy : (e : Event) → Follows (mode_at e) → (t : Site) (n : ℕ) → 64 * (farthest + 1) ≤ weight e t n
 heavy Activate f t n = absurd f
 heavy Forecast f t n = absurd f
 heavy (Follow r) f t n = omega arith
@@ -45,7 +46,7 @@ few_sorts Choice = omega arith
 
 -- what a clause at its site does
 pub stood : (e : Event) {ag : List ℕ} {t : Site} {s : List ℕ} {ps vs : List ℤ} {c : Here} → StandsAt ag t s ps vs c
-    → does e c ≡ reckon_at e ag t s ps vs
+    → does e c ≡ reckon_at (mode_at e) ag t s ps vs
 stood e h = rw (h.agreement, h.site, h.bytes, h.params, h.values)
 
 -- ---- what an answer within says of the whole

@@ -31,8 +31,8 @@ use Rattle.csl.specs.Cost.{Tally, both_at_once, tally_join, nothing_yet, one_mor
 use Rattle.cells.specs.Evaluate.{eval_cells, evals_cells, is_true_cell}
 use Rattle.cells.specs.Reduce as cells
 use Rattle.cells.proofs.Unfolds.{unfold_at, unfold_past}
-use Rattle.cells.specs.Reduce.{Mode, activating, fate, waits, late, taken, last_of, then_values, blamed_cells}
-use Rattle.cells.specs.Reduce.{blame_bits}
+use Rattle.cells.specs.Reduce.{Mode, activating, forecasting, following, fate, waits, late, taken, last_of}
+use Rattle.cells.specs.Reduce.{then_values, blamed_cells, blame_bits}
 use Rattle.records.proofs.Trees.{clause_zero, clause_none, clause_at_lem, kind_no_clause_low, kind_no_clause_high}
 use Rattle.records.proofs.Trees.{kind_fulfilled, kind_obligation}
 use denote.Ref.{Bor}
@@ -42,13 +42,11 @@ use Rattle.kinds.specs.declared.Join.{Join}
 use Rattle.kinds.specs.declared.Join.TheVariants.{And, Or}
 use Rattle.kinds.specs.declared.WaitKind.TheVariants.{Obligation, Choice}
 use Rattle.readings.specs.declared.reading.Reading.{Reading}
-use Rattle.waits.specs.Fates.{mode_at, mode_of, FateIs}
+use Rattle.waits.specs.Fates.{mode_of, FateIs}
 use Rattle.residues.specs.Tallies.{ended_by}
 use Rattle.activation.specs.Leads.{Leads, Shaped, Outlined, Acting, Told, Ended, reckon_at, reckon_below, body_in}
 use Rattle.activation.specs.Leads.{templates_of, Follows, BreaksAhead}
-use Rattle.waits.specs.declared.Event.{Event}
 use Rattle.activation.specs.declared.sites.Site.{Site}
-use Rattle.waits.specs.declared.Event.TheVariants.{Activate, Forecast, Follow}
 use Rattle.waits.specs.declared.Fate.{Fate}
 use Rattle.waits.specs.declared.Fate.TheVariants.{Waits as WaitsOn, Late, Taken}
 use Rattle.activation.proofs.Recursion.{breach_is}
@@ -77,26 +75,26 @@ module _ (m : Mode) (vs : List ℤ) (a : ℕ) (w : Wait) {f : Fate} (h : FateIs 
   is_taken e = rw e at h
 
 -- only a reading that is followed takes
-taken_follows : (e : Event) (vs : List ℤ) (a : ℕ) (w : Wait) → fate (mode_at e) vs a w ≡ taken → Follows e
+taken_follows : (mode : Mode) (vs : List ℤ) (a : ℕ) (w : Wait) → fate mode vs a w ≡ taken → Follows mode
 unfolding fate
-taken_follows Activate vs a w q = impossible cc
-taken_follows Forecast vs a w q = impossible cc
-taken_follows (Follow r) vs a w q = tt
+taken_follows activating vs a w q = impossible cc
+taken_follows forecasting vs a w q = impossible cc
+taken_follows (following t k rs) vs a w q = tt
 
 -- ---- obligations and choices
-module _ (e : Event) (ag : List ℕ) (below : ℕ) (s : List ℕ) (place : ℕ) (ps vs : List ℤ) (a depth : ℕ)
+module _ (mode : Mode) (ag : List ℕ) (below : ℕ) (s : List ℕ) (place : ℕ) (ps vs : List ℤ) (a depth : ℕ)
     (deep : 1 ≤ depth) where
   abbrev wait_of : ℕ → Wait
   wait_of i = wait_at (expr (depth - 1)) place s i
 
   abbrev LeadsTo : ClauseKind → Next → Type 0
-  LeadsTo k r = Leads e ag below s place ps vs a depth (body_in ag (depth - 1) place s k) r
+  LeadsTo k r = Leads mode ag below s place ps vs a depth (body_in ag (depth - 1) place s k) r
 
-  pub obligation_waits : fate (mode_at e) vs a (wait_of 5) ≡ waits → LeadsTo obligation_kind (Waits Obligation)
+  pub obligation_waits : fate mode vs a (wait_of 5) ≡ waits → LeadsTo obligation_kind (Waits Obligation)
   unfolding Leads reckon_below cells.walk clause_body wait_at
   obligation_waits f = rw (f, cells.walk)
 
-  pub obligation_late : fate (mode_at e) vs a (wait_of 5) ≡ late → {l : ℤ} → l ≡ last_of vs a (wait_of 5)
+  pub obligation_late : fate mode vs a (wait_of 5) ≡ late → {l : ℤ} → l ≡ last_of vs a (wait_of 5)
       → (b : Broken) → b.time ≡ pos (later_of a l) → b.parties ≡ blame_bits ps (byte s 4)
       → LeadsTo obligation_kind (Breaks b)
   unfolding Leads reckon_below cells.walk clause_body
@@ -104,8 +102,8 @@ module _ (e : Event) (ag : List ℕ) (below : ℕ) (s : List ℕ) (place : ℕ) 
 
   -- a `then` at c
   module _ {c z : ℕ} (o : (c ≤ z) × (z ≤ length s)) {l : ℤ} (near : Near (a + 2_000_000_000) l) (r : Bor Reading)
-      (m : mode_at e ≡ mode_of r.now) where
-    pub obligation_taken : c ≡ wait_end s 5 → z ≡ length s → fate (mode_at e) vs a (wait_of 5) ≡ taken
+      (m : mode ≡ mode_of r.now) where
+    pub obligation_taken : c ≡ wait_end s 5 → z ≡ length s → fate mode vs a (wait_of 5) ≡ taken
         → l ≡ last_of vs a (wait_of 5) → LeadsTo obligation_kind (Takes r c z l)
     unfolding Leads reckon_below cells.walk cells.on_taken clause_body
     obligation_taken ec ez f el =
@@ -115,10 +113,10 @@ module _ (e : Event) (ag : List ℕ) (below : ℕ) (s : List ℕ) (place : ℕ) 
           inside = o.1;
           deep = deep;
           near = near;
-          follows = taken_follows e vs a (wait_of 5) f;
+          follows = taken_follows mode vs a (wait_of 5) f;
         }
 
-    pub choice_taken : c ≡ wait_end s 4 → z ≡ record_end s c → fate (mode_at e) vs a (wait_of 4) ≡ taken
+    pub choice_taken : c ≡ wait_end s 4 → z ≡ record_end s c → fate mode vs a (wait_of 4) ≡ taken
         → l ≡ last_of vs a (wait_of 4) → LeadsTo choice_kind (Takes r c z l)
     unfolding Leads reckon_below cells.walk cells.on_taken clause_body
     choice_taken ec ez f el =
@@ -128,16 +126,16 @@ module _ (e : Event) (ag : List ℕ) (below : ℕ) (s : List ℕ) (place : ℕ) 
           inside = o.1;
           deep = deep;
           near = near;
-          follows = taken_follows e vs a (wait_of 4) f;
+          follows = taken_follows mode vs a (wait_of 4) f;
         }
 
-  pub choice_waits : fate (mode_at e) vs a (wait_of 4) ≡ waits → LeadsTo choice_kind (Waits Choice)
+  pub choice_waits : fate mode vs a (wait_of 4) ≡ waits → LeadsTo choice_kind (Waits Choice)
   unfolding Leads reckon_below cells.walk clause_body wait_at
   choice_waits f = rw (f, cells.walk)
 
   -- the else at z
   pub choice_late : {c z y b : ℕ} → c ≡ wait_end s 4 → z ≡ record_end s c → y ≡ length s → (4 ≤ z) × (z ≤ y)
-      → fate (mode_at e) vs a (wait_of 4) ≡ late → {l : ℤ} → l ≡ last_of vs a (wait_of 4) → (b ≡ later_of a l)
+      → fate mode vs a (wait_of 4) ≡ late → {l : ℤ} → l ≡ last_of vs a (wait_of 4) → (b ≡ later_of a l)
       × (b ≤ a + 2_000_000_000) → LeadsTo choice_kind (Lapses z y b)
   unfolding Leads reckon_below cells.walk clause_body
   choice_late ec ez ey o f el eb = record {
@@ -202,21 +200,21 @@ instance_walk : (m : Mode) (ag : List ℕ) (below k : ℕ) (es : List Expr) (bs 
 unfolding reckon_below cells.walk
 instance_walk m ag below k es bs ps vs a = refl
 
-module _ (e : Event) (ag : List ℕ) (below : ℕ) (s : List ℕ) (place : ℕ) (ps vs : List ℤ) (a d : ℕ)
+module _ (mode : Mode) (ag : List ℕ) (below : ℕ) (s : List ℕ) (place : ℕ) (ps vs : List ℤ) (a d : ℕ)
   where
     abbrev LeadsOn : Next → Type 0
-    LeadsOn r = Leads e ag below s place ps vs a d (body_in ag (d - 1) place s instance_kind) r
+    LeadsOn r = Leads mode ag below s place ps vs a d (body_in ag (d - 1) place s instance_kind) r
 
     ends_past : (o : Option Head) → below ≤ byte s 4
-        → reckon_below (mode_at e) ag below (instance_of (expr (d - 1)) s o) ps vs a ≡ ended_by 1
+        → reckon_below mode ag below (instance_of (expr (d - 1)) s o) ps vs a ≡ ended_by 1
     unfolding instance_of reckon_below cells.walk
     ends_past none h = ended_once
     ends_past (some hd) h = by_length (eqb (records_end (length hd.values) s 5 + hd.params) (length s))
       where
-        by_length : (b : Bool) → reckon_below (mode_at e) ag below
+        by_length : (b : Bool) → reckon_below mode ag below
             (cond b (Clause.instance (byte s 4) (arguments (expr (d - 1)) (length hd.values) s 5)
             (part s (records_end (length hd.values) s 5) (length s))) bad_clause) ps vs a ≡ ended_by 1
-        by_length true = ap cells.reaches (unfold_past (mode_at e) (cells.activate (templates_of ag))
+        by_length true = ap cells.reaches (unfold_past mode (cells.activate (templates_of ag))
             (templates_of ag) (blamed_cells ps (part s (records_end (length hd.values) s 5) (length s)))
             (evals_cells vs (arguments (expr (d - 1)) (length hd.values) s 5)) a below (byte s 4) h) ∙ ended_once
         by_length false = ended_once
@@ -240,9 +238,9 @@ module _ (e : Event) (ag : List ℕ) (below : ℕ) (s : List ℕ) (place : ℕ) 
       pub instance_is : m ≤ 4 → i + m ≡ length s → LeadsOn (Unfolds k i)
       unfolding Leads clause_body
       instance_is fm f = record {
-        is = ap (λ c. reckon_below (mode_at e) ag below c ps vs a) (named ∙ rw (eq-eqb (i + m) (length s) f))
-            ∙ instance_walk (mode_at e) ag below k (arguments (expr (d - 1)) n s 5) (part s i (length s)) ps vs a
-            ∙ ap cells.reaches (body_below x k (omega arith) (mode_at e) below
+        is = ap (λ c. reckon_below mode ag below c ps vs a) (named ∙ rw (eq-eqb (i + m) (length s) f))
+            ∙ instance_walk mode ag below k (arguments (expr (d - 1)) n s 5) (part s i (length s)) ps vs a
+            ∙ ap cells.reaches (body_below x k (omega arith) mode below
             (blamed_cells ps (part s i (length s))) (evals_cells vs (arguments (expr (d - 1)) n s 5)) a h)
             ∙ rw en;
         less = h;
@@ -325,10 +323,10 @@ then_is ag c ps vs a =
     vs a) (templates_length ag)
 
 -- ---- by the record's kind
-module _ (e : Event) (ag : List ℕ) (below : ℕ) (s : List ℕ) (place : ℕ) (ps vs : List ℤ) (a depth : ℕ)
+module _ (mode : Mode) (ag : List ℕ) (below : ℕ) (s : List ℕ) (place : ℕ) (ps vs : List ℤ) (a depth : ℕ)
   where
     abbrev comes_to : Clause → cells.Reckoned
-    comes_to c = reckon_below (mode_at e) ag below c ps vs a
+    comes_to c = reckon_below mode ag below c ps vs a
 
     abbrev here : Clause
     here = clause (heads_of ag) depth place s
@@ -366,9 +364,9 @@ module _ (e : Event) (ag : List ℕ) (below : ℕ) (s : List ℕ) (place : ℕ) 
       ends_high l = ap comes_to (sym (clause_is (kind_no_clause_high m l))) ∙ ended_once
 
     pub leads_body : Acting depth s → {m : ℕ} → m ≡ kind_number s → {k : ClauseKind} → clause_kind m ≡ k
-        → (r : Next) → Leads e ag below s place ps vs a depth (body_in ag (depth - 1) place s k) r
-        → Leads e ag below s place ps vs a depth here r
-    leads_body t em q r x = subst (λ c. Leads e ag below s place ps vs a depth c r)
+        → (r : Next) → Leads mode ag below s place ps vs a depth (body_in ag (depth - 1) place s k) r
+        → Leads mode ag below s place ps vs a depth here r
+    leads_body t em q r x = subst (λ c. Leads mode ag below s place ps vs a depth c r)
         (clause_is (record { deep = t.deep; is_whole = t.is_whole; kind = em }) q) x
 
 -- an obligation's breach, if only time goes on
@@ -385,8 +383,8 @@ breaks_ahead s ps vs a whole {m} em e el b is = λ ag place.
       to = omega arith;
       single = λ x y. omega arith;
     } in
-    let h = leads_body Forecast ag below s place ps vs a 23 acts em (kind_obligation e) (Breaks b)
-    (obligation_late Forecast ag below s place ps vs a 23 (omega arith) refl (el place) b is.0 is.1) in
+    let h = leads_body forecasting ag below s place ps vs a 23 acts em (kind_obligation e) (Breaks b)
+    (obligation_late forecasting ag below s place ps vs a 23 (omega arith) refl (el place) b is.0 is.1) in
     breach_is [] b (h.0, ap (λ x. x.outcome) h.1, h.2)
 
 -- the last kind of a clause that acts
@@ -400,48 +398,48 @@ acting_last {s = s} t {m} em f g h = by_number (dec_le m 21)
 
 -- a record of no kind that does anything, at any depth and of any length
 pub ended : (s : List ℕ) {m : ℕ} → m ≡ kind_number s → (17 ≤ m → m < 23 → ⊥) → Ended s
-ended s {m} em f = record { is = λ e ag t ps vs. by_depth e ag t ps vs t.depth refl }
+ended s {m} em f = record { is = λ mode ag t ps vs. by_depth mode ag t ps vs t.depth refl }
   where
-    by_record : (e : Event) (ag : List ℕ) (t : Site) (ps vs : List ℤ) → 1 ≤ t.depth → (b : Bool)
-        → is_record s ≡ b → reckon_at e ag t s ps vs ≡ ended_by 1
-    by_record e ag t ps vs d false g = ends_none e ag t.below s t.place ps vs t.a t.depth
+    by_record : (mode : Mode) (ag : List ℕ) (t : Site) (ps vs : List ℤ) → 1 ≤ t.depth → (b : Bool)
+        → is_record s ≡ b → reckon_at mode ag t s ps vs ≡ ended_by 1
+    by_record mode ag t ps vs d false g = ends_none mode ag t.below s t.place ps vs t.a t.depth
         (λ z. omega arith) g
-    by_record e ag t ps vs d true g = by_number (dec_le m 16) (dec_le 23 m)
+    by_record mode ag t ps vs d true g = by_number (dec_le m 16) (dec_le 23 m)
       where
         told : Told s t.depth m
         told = record { deep = d; is_whole = g; kind = em }
 
-        by_number : Dec (m ≤ 16) → Dec (23 ≤ m) → reckon_at e ag t s ps vs ≡ ended_by 1
-        by_number (yes p) q = ends_low e ag t.below s t.place ps vs t.a t.depth told p
-        by_number (no p) (yes q) = ends_high e ag t.below s t.place ps vs t.a t.depth told q
+        by_number : Dec (m ≤ 16) → Dec (23 ≤ m) → reckon_at mode ag t s ps vs ≡ ended_by 1
+        by_number (yes p) q = ends_low mode ag t.below s t.place ps vs t.a t.depth told p
+        by_number (no p) (yes q) = ends_high mode ag t.below s t.place ps vs t.a t.depth told q
         by_number (no p) (no q) = absurd (f (omega arith) (omega arith))
 
-    by_depth : (e : Event) (ag : List ℕ) (t : Site) (ps vs : List ℤ) (d : ℕ) → t.depth ≡ d
-        → reckon_at e ag t s ps vs ≡ ended_by 1
-    by_depth e ag t ps vs zero h = ends_zero e ag t.below s t.place ps vs t.a t.depth h
-    by_depth e ag t ps vs (suc d) h = by_record e ag t ps vs (omega arith) (is_record s) refl
+    by_depth : (mode : Mode) (ag : List ℕ) (t : Site) (ps vs : List ℤ) (d : ℕ) → t.depth ≡ d
+        → reckon_at mode ag t s ps vs ≡ ended_by 1
+    by_depth mode ag t ps vs zero h = ends_zero mode ag t.below s t.place ps vs t.a t.depth h
+    by_depth mode ag t ps vs (suc d) h = by_record mode ag t ps vs (omega arith) (is_record s) refl
 
 -- ---- what a record shows
 module _ (s : List ℕ) (depth : ℕ) where
   pub shows_zero : depth ≡ 0 → Outlined s depth (Shape.Ends 1)
   unfolding Shaped
-  shows_zero h = λ e ag below place ps vs a. (ends_zero e ag below s place ps vs a depth h, omega arith)
+  shows_zero h = λ mode ag below place ps vs a. (ends_zero mode ag below s place ps vs a depth h, omega arith)
 
   pub shows_none : (depth ≡ 0 → ⊥) → is_record s ≡ false → Outlined s depth (Shape.Ends 1)
   unfolding Shaped
-  shows_none n h = λ e ag below place ps vs a. (ends_none e ag below s place ps vs a depth n h, omega arith)
+  shows_none n h = λ mode ag below place ps vs a. (ends_none mode ag below s place ps vs a depth n h, omega arith)
 
 pub shows_idle : {s : List ℕ} {depth m : ℕ} → Told s depth m → (17 ≤ m → m < 23 → ⊥) → Outlined s depth (Shape.Ends 1)
 unfolding Shaped
-shows_idle {s} {depth} t f = λ e ag below place ps vs a. (
-  (ended s t.kind f).is e ag (record { below = below; place = place; a = a; depth = depth }) ps vs,
+shows_idle {s} {depth} t f = λ mode ag below place ps vs a. (
+  (ended s t.kind f).is mode ag (record { below = below; place = place; a = a; depth = depth }) ps vs,
   omega arith,
 )
 
 pub shows_acts : {s : List ℕ} {depth m : ℕ} → Told s depth m → 17 ≤ m → m < 23 → (20 ≤ m → m < 22 → ⊥)
     → Outlined s depth Shape.Acts
 unfolding Shaped
-shows_acts t l u f = λ e ag below place ps vs a. record {
+shows_acts t l u f = λ mode ag below place ps vs a. record {
   deep = t.deep;
   is_whole = t.is_whole;
   from = omega (arith, t.kind);
@@ -490,23 +488,23 @@ pub record Paired (s : List ℕ) (depth : ℕ) (j : Join) (f : ℕ) : Type 0 whe
   pub inside : f ≤ length s
 
 module _ {s : List ℕ} {depth : ℕ} {j : Join} {f : ℕ} (p : Paired s depth j f) where
-  module _ (e : Event) (ag : List ℕ) (below place : ℕ) (ps vs : List ℤ) (a : ℕ) where
+  module _ (mode : Mode) (ag : List ℕ) (below place : ℕ) (ps vs : List ℤ) (a : ℕ) where
     abbrev side_site : ℕ → Site
     side_site x = record { below = below; place = place + x; a = a; depth = depth - 1 }
 
     abbrev side : ℕ → ℕ → cells.Reckoned
-    side x y = reckon_at e ag (side_site x) (part s x y) ps vs
+    side x y = reckon_at mode ag (side_site x) (part s x y) ps vs
 
-    two : reckon_below (mode_at e) ag below (clause (heads_of ag) depth place s) ps vs a ≡ cells.reaches
+    two : reckon_below mode ag below (clause (heads_of ag) depth place s) ps vs a ≡ cells.reaches
         (cells.joins (join_in j) (side 4 f) (side f (length s)))
     unfolding reckon_below cells.walk clause_body
-    two = ap (λ c. reckon_below (mode_at e) ag below c ps vs a)
-        (sym (clause_is e ag below s place ps vs a depth p.told (join_is j))) ∙ rw p.begins
+    two = ap (λ c. reckon_below mode ag below c ps vs a)
+        (sym (clause_is mode ag below s place ps vs a depth p.told (join_is j))) ∙ rw p.begins
 
   pub shows_sides : Outlined s depth (Shape.Joins j f)
   unfolding Shaped
-  shows_sides = λ e ag below place ps vs a. record {
-    is = two e ag below place ps vs a;
+  shows_sides = λ mode ag below place ps vs a. record {
+    is = two mode ag below place ps vs a;
     order = p.order;
     inside = p.inside;
     deep = p.told.deep;
@@ -514,19 +512,19 @@ module _ {s : List ℕ} {depth : ℕ} {j : Join} {f : ℕ} (p : Paired s depth j
 
   pub shows_both_ended : Ended (part s 4 f) → Ended (part s f (length s)) → Outlined s depth (Shape.Ends 3)
   unfolding Shaped
-  shows_both_ended l r = λ e ag below place ps vs a. (
-    two e ag below place ps vs a ∙ rw (
-      l.is e ag (side_site e ag below place ps vs a 4) ps vs,
-      r.is e ag (side_site e ag below place ps vs a f) ps vs,
+  shows_both_ended l r = λ mode ag below place ps vs a. (
+    two mode ag below place ps vs a ∙ rw (
+      l.is mode ag (side_site mode ag below place ps vs a 4) ps vs,
+      r.is mode ag (side_site mode ag below place ps vs a f) ps vs,
     ) (ended_both (join_in j)),
     omega arith,
   )
 
   pub shows_right : Ended (part s 4 f) → j ≡ And → Outlined s depth (Shape.Goes f (length s))
   unfolding Shaped
-  shows_right l x = λ e ag below place ps vs a. record {
-    is = two e ag below place ps vs a
-        ∙ rw (x, l.is e ag (side_site e ag below place ps vs a 4) ps vs);
+  shows_right l x = λ mode ag below place ps vs a. record {
+    is = two mode ag below place ps vs a
+        ∙ rw (x, l.is mode ag (side_site mode ag below place ps vs a 4) ps vs);
     past = p.order;
     order = p.inside;
     inside = omega arith;
@@ -536,10 +534,10 @@ module _ {s : List ℕ} {depth : ℕ} {j : Join} {f : ℕ} (p : Paired s depth j
 
   pub shows_left : Ended (part s f (length s)) → j ≡ And → Outlined s depth (Shape.Goes 4 f)
   unfolding Shaped
-  shows_left r x = λ e ag below place ps vs a. record {
-    is = two e ag below place ps vs a
-        ∙ rw (x, r.is e ag (side_site e ag below place ps vs a f) ps vs)
-        (ap cells.reaches (and_ended (side e ag below place ps vs a 4 f)));
+  shows_left r x = λ mode ag below place ps vs a. record {
+    is = two mode ag below place ps vs a
+        ∙ rw (x, r.is mode ag (side_site mode ag below place ps vs a f) ps vs)
+        (ap cells.reaches (and_ended (side mode ag below place ps vs a 4 f)));
     past = omega arith;
     order = p.order;
     inside = p.inside;

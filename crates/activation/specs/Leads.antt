@@ -8,10 +8,12 @@ use Rattle.records.specs.Index.{head_at, body_from, body_bytes}
 use Rattle.arith.specs.Near.{Near}
 use Rattle.cells.specs.Evaluate.{evals_cells}
 use Rattle.cells.specs.Reduce as cells
-use Rattle.cells.specs.Reduce.{Mode, activating, unit_of, joins, reaches, becomes, then_values, blamed_cells}
+use Rattle.cells.specs.Reduce.{Mode, activating, forecasting, following, unit_of, joins, reaches, becomes}
+use Rattle.cells.specs.Reduce.{then_values, blamed_cells}
 use Rattle.kinds.specs.Kinds.{join_in, wait_number}
 use Rattle.kinds.specs.declared.Join.{Join}
 use Rattle.readings.specs.declared.reading.Reading.{Reading}
+use Rattle.readings.specs.Values.{values_read}
 use Rattle.waits.specs.Fates.{mode_at}
 use Rattle.waits.specs.declared.Event.{Event}
 use Rattle.waits.specs.declared.Event.TheVariants.{Activate, Forecast, Follow}
@@ -29,10 +31,10 @@ abbrev pub templates_of : List ℕ → List Template
 templates_of ag = (agreement_of ag).templates
 
 -- ---- a reading is followed
-abbrev pub Follows : Event → Type 0
-Follows Activate = ⊥
-Follows Forecast = ⊥
-Follows (Follow r) = Unit {0}
+abbrev pub Follows : Mode → Type 0
+Follows activating = ⊥
+Follows forecasting = ⊥
+Follows (following t k rs) = Unit {0}
 
 -- the rules, with instances of the templates below n
 unfoldable pub reckon_below : Mode → List ℕ → ℕ → Clause → List ℤ → List ℤ → ℕ → cells.Reckoned
@@ -52,10 +54,10 @@ pub record Acting (depth : ℕ) (s : List ℕ) : Type 0 where
   pub single : 20 ≤ kind_number s → kind_number s < 22 → ⊥
 
 -- what the clause c does, which stands in the record s
-module _ (e : Event) (ag : List ℕ) (below : ℕ) (s : List ℕ) (place : ℕ) (ps vs : List ℤ) (a depth : ℕ)
+module _ (m : Mode) (ag : List ℕ) (below : ℕ) (s : List ℕ) (place : ℕ) (ps vs : List ℤ) (a depth : ℕ)
     (c : Clause) where
   abbrev reckoned : Clause → ℕ → cells.Reckoned
-  reckoned x b = reckon_below (mode_at e) ag below x ps vs b
+  reckoned x b = reckon_below m ag below x ps vs b
 
   abbrev inner : ℕ → ℕ → Clause
   inner x y = clause (heads_of ag) (depth - 1) (place + x) (part s x y)
@@ -85,16 +87,16 @@ module _ (e : Event) (ag : List ℕ) (below : ℕ) (s : List ℕ) (place : ℕ) 
   -- a `then` that the reading r activates, l being the wait's last minute
   pub record IsTaken (r : Reading) (x y : ℕ) (l : ℤ) : Type 0 where
     pub is : reckoned c a ≡ reaches (becomes (cells.activate (templates_of ag) (inner x y) ps
-        (then_values vs r.values.items (l -ℤ pos r.time)) r.time))
+        (then_values vs (values_read r) (l -ℤ pos r.time)) r.time))
     pub order : x ≤ y
     pub inside : y ≤ length s
     pub deep : 1 ≤ depth
     pub near : Near (a + 2_000_000_000) l
-    pub follows : Follows e
+    pub follows : Follows m
 
   -- an instance of template k whose parties begin at i
   pub record IsInstance (k i : ℕ) : Type 0 where
-    pub is : reckoned c a ≡ reaches (reckon_below (mode_at e) ag k
+    pub is : reckoned c a ≡ reaches (reckon_below m ag k
         (clause (heads_of ag) 22 (body_from ag k) (body_bytes ag k)) (blamed_cells ps (part s i (length s)))
         (evals_cells vs (arguments (expr (depth - 1)) (length (head_at ag k).values) s 5)) a)
     pub less : k < below
@@ -112,8 +114,8 @@ module _ (e : Event) (ag : List ℕ) (below : ℕ) (s : List ℕ) (place : ℕ) 
 
 -- what a record shows by kinds alone, wherever it stands and whatever is in sight
 abbrev pub Outlined : List ℕ → ℕ → Shape → Type 0
-Outlined s depth r = (e : Event) (ag : List ℕ) (below place : ℕ) (ps vs : List ℤ) (a : ℕ)
-    → Shaped e ag below s place ps vs a depth (clause (heads_of ag) depth place s) r
+Outlined s depth r = (m : Mode) (ag : List ℕ) (below place : ℕ) (ps vs : List ℤ) (a : ℕ)
+    → Shaped m ag below s place ps vs a depth (clause (heads_of ag) depth place s) r
 
 -- a record of kind m, with depths left
 pub record Told (s : List ℕ) (depth m : ℕ) : Type 0 where
@@ -152,11 +154,11 @@ pub record StandsAt (ag : List ℕ) (t : Site) (s : List ℕ) (ps vs : List ℤ)
 
 -- ---- what a clause does
 -- in the record s at a site
-abbrev pub reckon_at : Event → List ℕ → Site → List ℕ → List ℤ → List ℤ → cells.Reckoned
-reckon_at e ag t s ps vs = reckon_below (mode_at e) ag t.below (clause (heads_of ag) t.depth t.place s) ps vs t.a
+abbrev pub reckon_at : Mode → List ℕ → Site → List ℕ → List ℤ → List ℤ → cells.Reckoned
+reckon_at m ag t s ps vs = reckon_below m ag t.below (clause (heads_of ag) t.depth t.place s) ps vs t.a
 
 abbrev pub does : Event → Here → cells.Reckoned
-does e c = reckon_at e c.agreement.now c.site c.bytes.now c.params.now c.values.cells.now
+does e c = reckon_at (mode_at e) c.agreement.now c.site c.bytes.now c.params.now c.values.cells.now
 
 -- what it decodes to, and what it decodes to as of a kind
 abbrev pub clause_at : Here → Clause
@@ -165,14 +167,14 @@ clause_at c = clause (heads_of c.agreement.now) c.site.depth c.site.place c.byte
 abbrev pub body_at : Here → ClauseKind → Clause
 body_at c k = body_in c.agreement.now (c.site.depth - 1) c.site.place c.bytes.now k
 
-abbrev pub LeadsFrom : Event → Here → Clause → Next → Type 0
-LeadsFrom e c x r = Leads e c.agreement.now c.site.below c.bytes.now c.site.place c.params.now
+abbrev pub LeadsFrom : Mode → Here → Clause → Next → Type 0
+LeadsFrom m c x r = Leads m c.agreement.now c.site.below c.bytes.now c.site.place c.params.now
     c.values.cells.now c.site.a c.site.depth x r
 
 -- its part from x to y, at the time a
 abbrev pub part_reckoned : Event → Here → ℕ → ℕ → ℕ → cells.Reckoned
-part_reckoned e c x y a = reckon_at e c.agreement.now (inner_site c.site x a) (part c.bytes.now x y) c.params.now
-    c.values.cells.now
+part_reckoned e c x y a = reckon_at (mode_at e) c.agreement.now (inner_site c.site x a) (part c.bytes.now x y)
+    c.params.now c.values.cells.now
 
 -- its two sides, of which the right one begins at f
 abbrev pub sides_reckoned : Event → Here → Join → ℕ → cells.Reckoned
@@ -183,11 +185,11 @@ sides_reckoned e c j f = reaches (joins (join_in j) (part_reckoned e c 4 f c.sit
 abbrev pub then_reckoned : Reading → Here → ℕ → ℕ → ℤ → cells.Reckoned
 then_reckoned r c x y l = reckon_below activating c.agreement.now (byte c.agreement.now 10)
     (clause (heads_of c.agreement.now) (c.site.depth - 1) (c.site.place + x) (part c.bytes.now x y)) c.params.now
-    (then_values c.values.cells.now r.values.items (l -ℤ pos r.time)) r.time
+    (then_values c.values.cells.now (values_read r) (l -ℤ pos r.time)) r.time
 
 -- the body of template k, the clause being an instance of it whose parties begin at i
 abbrev pub instance_reckoned : Event → Here → ℕ → ℕ → cells.Reckoned
-instance_reckoned e c k i = reckon_at e c.agreement.now (body_site c.agreement.now c.site k)
+instance_reckoned e c k i = reckon_at (mode_at e) c.agreement.now (body_site c.agreement.now c.site k)
     (body_bytes c.agreement.now k)
     (blamed_cells c.params.now (part c.bytes.now i (length c.bytes.now))) (evals_cells c.values.cells.now
     (arguments (expr (c.site.depth - 1)) (length (head_at c.agreement.now k).values) c.bytes.now 5))
@@ -202,11 +204,11 @@ pub record OfInstance (c : Here) (k i : ℕ) : Type 0 where
 unfoldable pub BreaksAhead : List ℕ → List ℤ → List ℤ → ℕ → Option Broken → Type 0
 BreaksAhead s ps vs a None = Unit {0}
 BreaksAhead s ps vs a (Some b) = (ag : List ℕ) (place : ℕ)
-    → Is (reckon_at Forecast ag (whole_site ag place a) s ps vs).outcome (Breach b) []
+    → Is (reckon_at forecasting ag (whole_site ag place a) s ps vs).outcome (Breach b) []
 
 -- there is nothing to do in the record s, wherever it stands
 pub record Ended (s : List ℕ) : Type 0 where
-  pub is : (e : Event) (ag : List ℕ) (t : Site) (ps vs : List ℤ) → reckon_at e ag t s ps vs ≡ ended_by 1
+  pub is : (m : Mode) (ag : List ℕ) (t : Site) (ps vs : List ℤ) → reckon_at m ag t s ps vs ≡ ended_by 1
 
 -- a reading that is followed activates a `then` anew, with every template in reach: its step stands before the pair
 -- that falls

@@ -1,15 +1,14 @@
 // What an instance names: its template's number, its values and its parties.
-ghost use Rattle.std.specs.Prelude.{◌≡◌, List, ℕ, ◌+◌, ◌-◌, ◌≤◌, ◌<◌, ℤ, length};
+ghost use Rattle.std.specs.Prelude.{◌≡◌, List, ℕ, ◌+◌, ◌-◌, ◌≤◌, ℤ, length};
 ghost use Rattle.csl.specs.Bytes as bytes;
 ghost use Rattle.csl.specs.Decode.{expr, records_end, instance_kind};
 ghost use Rattle.csl.specs.Decode as decode;
 ghost use Rattle.cells.specs.Evaluate.{evals_cells};
+ghost use Rattle.cells.specs.Reduce.{Mode};
 ghost use Rattle.records.specs.Index.{head_at};
 ghost use Rattle.activation.specs.Leads.{Leads, body_in};
-ghost use Rattle.waits.specs.declared.Event.{Event};
 
 use crate::Next;
-use crate::sites::Clause;
 use arrayvec::ArrayVec;
 use evaluation::eval;
 use octets::{byte, record_end};
@@ -27,29 +26,32 @@ fn arguments_end(s: &[u8], n: usize) -> usize
     (0..n).fold(5, |at, _| record_end(s, at))
 }
 
-// The values that the clause gives, an instance of the template. (They go one after another, each beginning where the
-// one before ends: an iterator of records would be a type with laws of its own, for loops of a few lines.)
-pub fn arguments(clause: &Clause<'_>, template: &Template<'_>) -> ArrayVec<i64, MOST_ARGUMENTS>
-    requires { 1 ≤ clause.now.site.depth }
-    ensures { result.items ≡ evals_cells clause.now.values.cells.now (decode.arguments (expr (clause.now.site.depth - 1))
-        (length (head_at template.now.agreement.now template.now.number).values) clause.now.bytes.now 5) }
+// The values that an instance of the template in the record s gives, with so many depths left within it. (They go one
+// after another, each beginning where the one before ends: an iterator of records would be a type with laws of its own,
+// for loops of a few lines.)
+pub fn arguments(
+    s: &[u8],
+    values: &[i64],
+    depth: usize,
+    template: &Template<'_>,
+) -> ArrayVec<i64, MOST_ARGUMENTS>
+    ensures { result.items ≡ evals_cells values.now (decode.arguments (expr depth)
+        (length (head_at template.now.agreement.now template.now.number).values) s.now 5) }
 {
-    let s = clause.bytes;
-    let depth = clause.site.depth - 1;
-    let mut values = ArrayVec::new();
+    let mut given = ArrayVec::new();
     let mut at = 5;
     for _ in 0..template.value_count() {
         let e = record_end(s, at);
-        values.push(eval(&s[at.min(s.len())..e], clause.values.cells, depth));
+        given.push(eval(&s[at.min(s.len())..e], values, depth));
         at = e;
     }
-    values
+    given
 }
 
 // The template that the record s names, an instance of one below a number, and where its parties begin.
 pub fn instance<'a>(agreement: &Agreement<'_>, below: usize, s: &[u8]) -> Next<'a>
     requires { below ≤ bytes.byte agreement.now 10 }
-    ensures { (e : Event) (place : ℕ) (ps vs : List ℤ) (a depth : ℕ) → Leads e agreement.now below s.now place ps vs a
+    ensures { (m : Mode) (place : ℕ) (ps vs : List ℤ) (a depth : ℕ) → Leads m agreement.now below s.now place ps vs a
         depth (body_in agreement.now (depth - 1) place s.now instance_kind) result }
 {
     let number = byte(s, 4);

@@ -5,7 +5,8 @@ ghost use Rattle.csl.specs.Numbers.{later_of};
 ghost use Rattle.csl.specs.Decode.{if_kind, obligation_kind, choice_kind};
 ghost use Rattle.arith.specs.Near.{Near};
 ghost use Rattle.kinds.specs.Kinds.{join_number};
-ghost use Rattle.cells.specs.Reduce.{blame_bits};
+ghost use Rattle.cells.specs.Reduce.{Mode, blame_bits};
+ghost use Rattle.waits.specs.Fates.{mode_at};
 ghost use Rattle.residues.specs.Reduces.{farthest};
 ghost use Rattle.activation.specs.Leads.{LeadsFrom, Outlined, Acting, Told, Ended, body_at, clause_at, BreaksAhead};
 
@@ -43,7 +44,7 @@ fn breach(s: &[u8], params: &[i64], a: usize, last: i64) -> Breach
 // (What `Acting` leaves for the clause of one kind is asked by itself here and below: four bytes and a depth.)
 fn chosen<'a>(clause: &Clause<'_>) -> Next<'a>
     requires { (4 ≤ length clause.now.bytes.now) × (1 ≤ clause.now.site.depth) }
-    ensures { (e : Event) → LeadsFrom e clause.now (body_at clause.now if_kind) result }
+    ensures { (m : Mode) → LeadsFrom m clause.now (body_at clause.now if_kind) result }
 {
     let s = clause.bytes;
     let c = record_end(s, 4);
@@ -60,7 +61,7 @@ fn chosen<'a>(clause: &Clause<'_>) -> Next<'a>
 // (`obligation` and `choice` stay two: their windows, `then` and else stand at other places.)
 fn obligation<'a>(event: Event<'a>, clause: &Clause<'_>) -> Next<'a>
     requires { (4 ≤ length clause.now.bytes.now) × (1 ≤ clause.now.site.depth) }
-    ensures { LeadsFrom event.entry clause.now (body_at clause.now obligation_kind) result }
+    ensures { LeadsFrom (mode_at event.entry) clause.now (body_at clause.now obligation_kind) result }
 {
     let s = clause.bytes;
     let a = clause.site.a;
@@ -85,7 +86,7 @@ fn obligation<'a>(event: Event<'a>, clause: &Clause<'_>) -> Next<'a>
 
 fn choice<'a>(event: Event<'a>, clause: &Clause<'_>) -> Next<'a>
     requires { (4 ≤ length clause.now.bytes.now) × (1 ≤ clause.now.site.depth) }
-    ensures { LeadsFrom event.entry clause.now (body_at clause.now choice_kind) result }
+    ensures { LeadsFrom (mode_at event.entry) clause.now (body_at clause.now choice_kind) result }
 {
     let s = clause.bytes;
     let a = clause.site.a;
@@ -137,7 +138,7 @@ pub fn breach_ahead(s: &[u8], params: &[i64], values: Values<'_>, a: usize) -> O
 // rule of the project.
 pub fn leads_to<'a>(event: Event<'a>, clause: &Clause<'_>) -> Next<'a>
     requires { Acting clause.now.site.depth clause.now.bytes.now }
-    ensures { LeadsFrom event.entry clause.now (clause_at clause.now) result }
+    ensures { LeadsFrom (mode_at event.entry) clause.now (clause_at clause.now) result }
 {
     match kind(clause.bytes) {
         17 => obligation(event, clause),

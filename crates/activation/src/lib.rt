@@ -187,7 +187,12 @@ fn unfold(
         agreement: clause.agreement,
         number: template,
     };
-    let values = arguments(clause, &named);
+    let values = arguments(
+        clause.bytes,
+        clause.values.cells,
+        clause.site.depth - 1,
+        &named,
+    );
     let named_parties = &clause.bytes[parties..];
     let mut params = [0; MOST_PARAMS];
     blames(named_parties, clause.params, &mut params);

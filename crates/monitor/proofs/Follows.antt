@@ -49,6 +49,7 @@ use Rattle.cells.specs.Tables.{alters, head_of, reduced_table, stepped_table}
 use Rattle.bridge.proofs.Entries.{kept_cells, reading_eight, reading_nine, reading_ten, reading_done, reading_breach}
 use Rattle.bridge.proofs.Entries.{early_cells, marks_later, reading_running}
 use Rattle.readings.specs.Taking.{TakenIs, FittingRead}
+use Rattle.readings.specs.Values.{values_read}
 use Rattle.readings.specs.declared.reading.Reading.{Reading}
 use Rattle.readings.specs.declared.Misfit.{Misfit}
 use Rattle.readings.specs.declared.Misfit.TheVariants.{Malformed, Untyped}
@@ -86,7 +87,7 @@ fits_as f = rw f.is f.typed
 
 mode_as : {s bytes : List ℕ} {r : Reading} (f : FittingRead s bytes r)
     → mode_of r ≡ cells.following f.reading.time f.reading.type (cells_of f.reading.values)
-mode_as f = rw (f.time, f.type, f.cells) refl
+mode_as f = rw (f.cells, f.time, f.type) refl
 
 pub time_fits : {t : ℕ} → t < 4_294_967_296 → SFits w64 (pos t)
 time_fits h = small (omega arith)
@@ -132,8 +133,8 @@ across_as m s us e f h = rw (e, f) h
 later_by : (s : List ℕ) (us : List ℤ) {a bytes : List ℕ} {r : Reading} (f : FittingRead a bytes r)
     {sights seen : List ℕ} {n k : ℕ} → n ≡ k → sights ≡ seen
     → some_open_later f.reading.time f.reading.type (cells_of f.reading.values) s k seen us
-    ≡ some_open_later r.time r.tag r.values.items s n sights us
-later_by s us f e g = rw (e, g, f.time, f.type, f.cells) refl
+    ≡ some_open_later r.time r.tag (values_read r) s n sights us
+later_by s us f e g = rw (e, g, f.cells, f.time, f.type) refl
 
 abbrev replied : List ℤ → cells.Reckoned → ℕ → ℕ → Bool → ReadAnswer
 replied us x time n later =
@@ -275,7 +276,7 @@ module _ {s : List ℕ} {us : List ℤ} {sights : List Sight} {n : ℕ} (o : Ope
           (ap (λ k. alters k us (reduced s sights us n e)) (sym runs.count) ∙ sym a.told ∙ h)
 
       later_as : w.altered ≡ false → some_later s n sights left rr.now ≡ later rr.now
-      later_as h = ap (λ cs. some_open_later rr.now.time rr.now.tag rr.now.values.items s n (flat sights) cs)
+      later_as h = ap (λ cs. some_open_later rr.now.time rr.now.tag (values_read rr.now) s n (flat sights) cs)
           (same_units h)
 
       pub judge_due : SomeReading s us rr.now → w.altered ≡ false → Judged s sights left n rr.now

@@ -8,6 +8,7 @@ use Rattle.csl.specs.Entries.{ReadAnswer, read_of, reading_of}
 use Rattle.csl.specs.Early.{mark_of}
 use Rattle.csl.specs.Table.{Run, table_length}
 use Rattle.readings.specs.Taking.{FittingRead}
+use Rattle.readings.specs.Values.{values_read}
 use Rattle.readings.specs.declared.reading.Reading.{Reading}
 use Rattle.readings.specs.declared.Misfit.{Misfit}
 use Rattle.readings.specs.declared.Misfit.TheVariants.{Malformed, Untyped}
@@ -94,7 +95,7 @@ pub record ReadsOn (s : List ℕ) (us lent : List ℤ) (bytes : List ℕ) (answe
 
 -- some unit opens later than the reading, which it waits for
 abbrev pub some_later : List ℕ → ℕ → List Sight → List ℤ → Reading → Bool
-some_later s n sights us r = some_open_later r.time r.tag r.values.items s n (flat sights) (drop 8 us)
+some_later s n sights us r = some_open_later r.time r.tag (values_read r) s n (flat sights) (drop 8 us)
 
 -- what is asked of a table that a step has left as it was: it has the n units, and a mark waits for none of them
 pub record Judged (s : List ℕ) (sights : List Sight) (us : List ℤ) (n : ℕ) (r : Reading) : Type 0 where

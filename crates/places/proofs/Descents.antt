@@ -28,8 +28,7 @@ use Rattle.soundness.proofs.Places.{Out, find_none, or_else_none, none_or_else}
 use Rattle.soundness.proofs.Decoding.{clause_ranged, decode_is}
 use Rattle.soundness.proofs.Checked.{passed, fair}
 use Rattle.soundness.proofs.Walks.{Fair}
-use Rattle.std.specs.Prelude.{Option as Maybe, Some, None, Result, Ok, Err, MatchResult, IsOk}
-use Rattle.arrayvec.specs.ArrayVec.{ArrayVec}
+use Rattle.std.specs.Prelude.{Option as Maybe, Some, None}
 use Rattle.std.specs.Prelude.{MatchOption}
 use Rattle.std.specs.List.{AllWithin, HoldsAt, range_with_len}
 use Rattle.std.proofs.lemmas.List.FromFn.{length-range_with_len, get_or-range_with_len}
@@ -43,6 +42,7 @@ use Rattle.places.proofs.Found.{found_is}
 use Rattle.places.proofs.Steps.{TypedSide, obligation_typed, choice_typed, if_typed, join_typed}
 use Rattle.places.specs.Locate.{Finds, Locates, TypedAt, Typed, GoesInto, StepAt, StepIs, DescentIs}
 use Rattle.places.specs.Locate.{in_template, Stands}
+use Rattle.places.specs.Sight.{types_in}
 use Rattle.csl.specs.Check.{mains_of, Accepted}
 
 module _ {A : List ℕ} {p : ℕ} {s : List ℕ} {place : ℕ} {types out : List ℕ} {r : Maybe Step}
@@ -83,16 +83,10 @@ pub finds_none : (o : Option Found) (out : List ℕ) (n : ℕ) {r : Maybe WaitKi
 unfolding Finds Locates
 finds_none o out n h e = rw e at h
 
-pub finds_some : (o : Option Found) (l : Located) {n : ℕ} {r : Maybe WaitKind} → Finds o l.sight.items n r
+pub finds_some : (o : Option Found) (l : Located) {n : ℕ} {r : Maybe WaitKind} → Finds o (types_in l.sight) n r
     → l.params ≡ n → r ≡ Some l.wait → Locates o (Some l)
 unfolding Finds Locates
 finds_some o l h i e = rw i (rw e at h)
-
--- ---- a list of few elements fits
-pub made : {E : Type 0} (xs : List ℕ) (r : Result (ArrayVec ℕ) E)
-    → MatchResult r (λ v. (v.items ≡ xs) × (length xs ≤ 16)) (λ _. 16 < length xs) → length xs ≤ 16 → IsOk r
-made xs (Ok v) h l = refl
-made xs (Err e) h l = absurd (omega arith)
 
 -- ---- what check established
 pub fairly : {A : List ℕ} → Accepted A → Fair (agreement_of A) (mains_of A)

@@ -1,11 +1,11 @@
--- The types that bytes are, put behind one another.
+-- The types that bytes are, put behind one another, and the bytes of a sight.
 use mathlib.Core.Path.{◌≡◌, sym, ap, ◌∙◌}
 use mathlib.Core.List.{List, [], ◌∷◌, ◌++◌}
 use mathlib.Core.Option.{some}
 use Prim.Native.Nat.{ℕ, zero, suc, ◌+◌, ◌-◌, ◌≤◌, ◌<◌}
 use native.Mathlib.Decide.{dec_le}
 use native.Mathlib.Omega.{arith}
-use lib.ListN.{length, length-append, length-map}
+use lib.ListN.{length, length-append, length-map, length-take}
 use Rattle.csl.specs.Lists.{or_nil, at}
 use Rattle.csl.specs.Bytes.{byte}
 use Rattle.csl.specs.Syntax.{Ty, number}
@@ -16,7 +16,14 @@ use Rattle.laws.proofs.Options.{some_inj}
 use Rattle.laws.proofs.Types.{types_append}
 use Rattle.records.specs.Index.{ReadingTypes}
 use Rattle.records.proofs.Index.{readings_past}
+use Rattle.places.specs.declared.sight.SightTypes.{SightTypes}
+use Rattle.places.specs.Sight.{types_in}
 use Rattle.places.specs.Locate.{SeesIn}
+
+-- ---- how many there are in a sight
+pub types_count : (s : SightTypes) → length (types_in s) ≡ s.count
+unfolding types_in
+types_count s = omega (arith, length-take s.count s.bytes, s.few, s.room)
 
 -- ---- the types that bytes are
 then_length : (env vs : List Ty) → length (then_sight env vs) ≡ length env + length vs + 1

@@ -12,6 +12,7 @@ use Rattle.kinds.specs.Kinds.{sort_in}
 use Rattle.kinds.specs.declared.WaitKind.{WaitKind}
 use Rattle.records.specs.Index.{template_place, piece_at, head_at}
 use Rattle.places.specs.declared.Located.{Located}
+use Rattle.places.specs.Sight.{types_in}
 use Rattle.places.specs.declared.Step.{Step}
 use Rattle.places.specs.declared.Step.TheVariants.{Here, Into}
 
@@ -25,7 +26,7 @@ pub record FoundAt (o : Option Found) (types : List ℕ) (wait : WaitKind) (n : 
 
 unfoldable pub Locates : Option Found → Maybe Located → Type 0
 Locates o None = o ≡ none
-Locates o (Some l) = FoundAt o l.sight.items l.wait l.params
+Locates o (Some l) = FoundAt o (types_in l.sight) l.wait l.params
 
 -- ---- the clause that the bytes s at a place say, d depths being left
 abbrev pub clause_in : List ℕ → ℕ → ℕ → List ℕ → Clause

@@ -2,26 +2,28 @@
 #![tactic(auto)]
 
 mod accepted;
+mod sight;
 
 ghost use Rattle.std.specs.Prelude.{◌≡◌, Some, List, ℕ, ◌+◌, ◌^◌, ◌≤◌, ◌<◌, length};
 ghost use Rattle.csl.specs.Bytes.{kind_number};
 ghost use Rattle.csl.specs.Check as check;
 ghost use Rattle.csl.specs.Decode.{tys_of, agreement_of};
 ghost use Rattle.csl.specs.Places.{clause_at};
+ghost use Rattle.places.specs.Sight.{types_in};
 ghost use Rattle.places.specs.Locate.{seen_in, SeesIn, Stands, StepIs, DescentIs, Locates, in_template};
 
 pub use accepted::Accepted;
-use arrayvec::ArrayVec;
 use kinds::{Type, WaitKind};
 use octets::{byte, kind, record_end};
-use records::{Agreement, IN_SIGHT, Template, first_clause, sides_at};
+use records::{Agreement, Template, first_clause, sides_at};
+pub use sight::SightTypes;
 
 // The waiting clause at a place: how it waits, how many party parameters it has, and the types in sight.
-#[derive(Drop)]
+#[derive(Clone, Copy)]
 pub struct Located {
     pub wait: WaitKind,
     pub params: usize,
-    pub sight: ArrayVec<u8, IN_SIGHT>,
+    pub sight: SightTypes,
 }
 
 // Where the search goes on: at this clause, which waits, or in the clause from a place up to a place.
@@ -41,22 +43,22 @@ struct Search<'a> {
 
 impl Search<'_> {
     // What `then` sees: the reading's values, and behind them the remaining time.
-    fn then_sight(&self, wanted: usize, sight: &mut ArrayVec<u8, IN_SIGHT>)
-        requires { SeesIn self.now.agreement.now sight.old.items wanted }
-        ensures { tys_of sight.new.items ≡ seen_in self.now.agreement.now sight.old.items wanted }
+    fn then_sight(&self, wanted: usize, sight: &mut SightTypes)
+        requires { SeesIn self.now.agreement.now (types_in sight.old) wanted }
+        ensures { tys_of (types_in sight.new) ≡ seen_in self.now.agreement.now (types_in sight.old) wanted }
     {
         let types = self.agreement.reading_types(wanted - 1);
         // types stand as the format's bytes, as in the agreement
-        sight.try_extend_from_slice(types).unwrap();
+        sight.extend(types);
         sight.push(usize::from(Type::Number) as u8);
     }
 
     // One step towards the place, from an obligation s that stands at `base`. (Three functions and not one: an
     // obligation has no else, and a clause with two sides neither waits nor lets its first side see more.)
-    fn from_obligation(&self, s: &[u8], base: usize, sight: &mut ArrayVec<u8, IN_SIGHT>) -> Step
-        requires stands { Stands self.now.agreement.now base s.now sight.old.items }
+    fn from_obligation(&self, s: &[u8], base: usize, sight: &mut SightTypes) -> Step
+        requires stands { Stands self.now.agreement.now base s.now (types_in sight.old) }
         requires is_obligation { kind_number s.now ≡ 17 }
-        ensures { StepIs self.now.agreement.now base s.now self.now.place sight.old.items sight.new.items (Some result) }
+        ensures { StepIs self.now.agreement.now base s.now self.now.place (types_in sight.old) (types_in sight.new) (Some result) }
     {
         if self.place == base {
             return Step::Here(WaitKind::Obligation);
@@ -70,10 +72,10 @@ impl Search<'_> {
     }
 
     // The same from a choice.
-    fn from_choice(&self, s: &[u8], base: usize, sight: &mut ArrayVec<u8, IN_SIGHT>) -> Step
-        requires stands { Stands self.now.agreement.now base s.now sight.old.items }
+    fn from_choice(&self, s: &[u8], base: usize, sight: &mut SightTypes) -> Step
+        requires stands { Stands self.now.agreement.now base s.now (types_in sight.old) }
         requires is_choice { kind_number s.now ≡ 18 }
-        ensures { StepIs self.now.agreement.now base s.now self.now.place sight.old.items sight.new.items (Some result) }
+        ensures { StepIs self.now.agreement.now base s.now self.now.place (types_in sight.old) (types_in sight.new) (Some result) }
     {
         if self.place == base {
             return Step::Here(WaitKind::Choice);
@@ -106,9 +108,9 @@ impl Search<'_> {
 
     // The same from any clause; one that has no clause parts and does not wait has no step. (A record's kind is decided
     // by its number: a rule of the project.)
-    fn step_down(&self, s: &[u8], base: usize, sight: &mut ArrayVec<u8, IN_SIGHT>) -> Option<Step>
-        requires { Stands self.now.agreement.now base s.now sight.old.items }
-        ensures { StepIs self.now.agreement.now base s.now self.now.place sight.old.items sight.new.items result }
+    fn step_down(&self, s: &[u8], base: usize, sight: &mut SightTypes) -> Option<Step>
+        requires { Stands self.now.agreement.now base s.now (types_in sight.old) }
+        ensures { StepIs self.now.agreement.now base s.now self.now.place (types_in sight.old) (types_in sight.new) result }
     {
         let k = kind(s);
         match k {
@@ -120,9 +122,9 @@ impl Search<'_> {
     }
 
     // The waiting clause at the place, in the clause s that stands at `base`: how it waits. The sight becomes its own.
-    fn descend(&self, s: &[u8], base: usize, sight: &mut ArrayVec<u8, IN_SIGHT>) -> Option<WaitKind>
-        requires { Stands self.now.agreement.now base s.now sight.old.items }
-        ensures { DescentIs self.now.agreement.now base s.now self.now.place sight.old.items sight.new.items result }
+    fn descend(&self, s: &[u8], base: usize, sight: &mut SightTypes) -> Option<WaitKind>
+        requires { Stands self.now.agreement.now base s.now (types_in sight.old) }
+        ensures { DescentIs self.now.agreement.now base s.now self.now.place (types_in sight.old) (types_in sight.new) result }
     {
         match self.step_down(s, base, sight)? {
             Step::Here(wait) => Some(wait),
@@ -139,7 +141,8 @@ fn in_template(template: &Template<'_>, place: usize) -> Option<Located>
     requires { check.Accepted template.now.agreement.now }
     ensures { Locates (in_template template.now.agreement.now template.now.number place) result }
 {
-    let mut sight = ArrayVec::try_from(template.value_types()).unwrap();
+    let mut sight = SightTypes::new();
+    sight.extend(template.value_types());
     let agreement = template.agreement;
     let base = template.body_span().start;
     let wait = Search { agreement, place }.descend(template.body(), base, &mut sight)?;
@@ -157,7 +160,7 @@ pub fn locate(agreement: &Agreement<'_>, place: usize) -> Option<Located>
 {
     let m = agreement.main_place();
     if m <= place {
-        let mut sight = ArrayVec::new();
+        let mut sight = SightTypes::new();
         let wait = Search { agreement, place }.descend(agreement.main(), m, &mut sight)?;
         return Some(Located {
             wait,

@@ -14,6 +14,7 @@ use Rattle.std.specs.Prelude.{Option, Some, None, Ok}
 use Rattle.std.specs.Option.{ok_or}
 use Rattle.std.specs.Bool.{then_some}
 use Rattle.readings.specs.declared.Misfit.{Misfit}
+use Rattle.readings.specs.Values.{values_read}
 use Rattle.readings.specs.declared.Misfit.TheVariants.{Untyped}
 use Rattle.csl.specs.Lists.{◌>>=◌, at}
 use Rattle.csl.specs.Bytes.{byte}
@@ -135,7 +136,7 @@ was_read bytes None m e h = absurd cc
 was_read bytes (Some q) m {r} e h = let same : q ≡ r = cc in rw same at h
 
 -- ---- the answer
-module _ {s bytes : List ℕ} {r : Read} {u : Bool} (x : RawRead bytes r) (y : TypedIs s r.tag r.values.items u) where
+module _ {s bytes : List ℕ} {r : Read} {u : Bool} (x : RawRead bytes r) (y : TypedIs s r.tag (values_read r) u) where
   told : u ≡ given (typed_reading (agreement_of s) x.raw)
   told = y.is x.raw x.type x.numbers
 

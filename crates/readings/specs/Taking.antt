@@ -9,6 +9,7 @@ use Rattle.csl.specs.Run as run
 use Rattle.csl.specs.Run.{raw_reading, typed_reading}
 use Rattle.csl.specs.Table.{cells_of}
 use Rattle.readings.specs.declared.reading.Reading.{Reading as Read}
+use Rattle.readings.specs.Values.{values_read}
 use Rattle.readings.specs.declared.Misfit.{Misfit}
 use Rattle.readings.specs.declared.Misfit.TheVariants.{Malformed, Untyped}
 
@@ -29,8 +30,8 @@ pub record RawRead (bytes : List ℕ) (r : Read) : Type 0 where
   pub is : raw_reading bytes ≡ some raw
   pub time : r.time ≡ raw.time
   pub type : r.tag ≡ raw.type
-  pub numbers : r.values.items ≡ raw.numbers
-  pub few : length r.values.items ≤ 4
+  pub numbers : values_read r ≡ raw.numbers
+  pub few : length (values_read r) ≤ 4
   pub small : r.time < 4_294_967_296
 
 abbrev pub RawIs : List ℕ → Option Read → Type 0
@@ -55,9 +56,9 @@ pub record FittingRead (s bytes : List ℕ) (r : Read) : Type 0 where
   pub typed : typed_reading (agreement_of s) raw ≡ some reading
   pub time : r.time ≡ reading.time
   pub type : r.tag ≡ reading.type
-  pub count : length r.values.items ≡ length reading.values
-  pub cells : r.values.items ≡ cells_of reading.values
-  pub few : length r.values.items ≤ 4
+  pub count : length (values_read r) ≡ length reading.values
+  pub cells : values_read r ≡ cells_of reading.values
+  pub few : length (values_read r) ≤ 4
   pub small : r.time < 4_294_967_296
 
 abbrev pub TakenIs : List ℕ → List ℕ → Result Read Misfit → Type 0

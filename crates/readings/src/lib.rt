@@ -3,11 +3,11 @@
 
 mod reading;
 
-ghost use Rattle.std.specs.Prelude.{◌≡◌, ◌≤◌};
+ghost use Rattle.std.specs.Prelude.{◌≡◌, ◌≤◌, take, length};
 ghost use Rattle.csl.specs.Run.{raw_reading, numbers_from};
+ghost use Rattle.readings.specs.Values.{values_read};
 ghost use Rattle.readings.specs.Taking.{CountIs, RawIs, TypedIs, TakenIs};
 
-use arrayvec::ArrayVec;
 use octets::{byte, is_record, kind, signed32, unsigned32};
 pub use reading::{MOST_VALUES, Reading};
 use records::Agreement;
@@ -26,47 +26,49 @@ const SHORTEST: usize = 9;
 const LONGEST: usize = 25;
 
 // How many values the bytes have, where they are a record of kind 64 with 0 to 4.
+#[tactic(auto, using(crate::proofs::Raw::raw_none))]
 fn value_count(bytes: &[u8]) -> Option<usize>
     ensures { CountIs bytes.now result }
 {
-    match bytes.len() {
-        n @ SHORTEST..=LONGEST if is_record(bytes) && kind(bytes) == 64 => {
-            ((n - SHORTEST) % 4 == 0).then_some((n - SHORTEST) / 4)
-        }
-        _ => None,
+    let n = bytes.len();
+    if SHORTEST <= n && n <= LONGEST && is_record(bytes) && kind(bytes) == 64 {
+        ((n - SHORTEST) % 4 == 0).then_some((n - SHORTEST) / 4)
+    } else {
+        None
     }
 }
 
 // The n numbers of a reading. (No plainer by `chunks_exact`: the bytes behind byte 9 are to be cut off first, and each
 // number is then read at place 0 of a part, which the definition reads at its place.)
-fn read_numbers(bytes: &[u8], n: usize) -> ArrayVec<i64, MOST_VALUES>
+fn read_numbers(bytes: &[u8], n: usize) -> [i64; MOST_VALUES]
     requires { n ≤ 4 }
-    ensures { result.items ≡ numbers_from n bytes.now 9 }
+    ensures { (take n result ≡ numbers_from n bytes.now 9) × (length result ≡ 4) }
 {
-    let mut values = ArrayVec::new();
+    let mut cells = [0; MOST_VALUES];
     for i in 0..n {
-        values.push(signed32(bytes, 9 + 4 * i));
+        cells[i] = signed32(bytes, 9 + 4 * i);
     }
-    values
+    cells
 }
 
 // None where refusal 8 is due.
 fn raw_reading(bytes: &[u8]) -> Option<Reading>
     ensures { RawIs bytes.now result }
 {
-    let n = value_count(bytes)?;
+    let count = value_count(bytes)?;
     Some(Reading {
         time: unsigned32(bytes, 4),
         tag: byte(bytes, 8),
-        values: read_numbers(bytes, n),
+        cells: read_numbers(bytes, count),
+        count,
     })
 }
 
 // The values are those of a reading of its type. Type 0 is a time mark.
 fn is_typed(agreement: &Agreement<'_>, reading: &Reading) -> bool
-    ensures { TypedIs agreement.now reading.now.tag reading.now.values.items result }
+    ensures { TypedIs agreement.now reading.now.tag (values_read reading.now) result }
 {
-    let values = reading.values.as_slice();
+    let values = reading.values();
     match agreement.types_wanted(reading.tag) {
         Some(types) => {
             types.len() == values.len() && values_ok(types, values, agreement.parties())

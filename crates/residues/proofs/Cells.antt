@@ -1,12 +1,13 @@
 -- Cells that are copied and filled, and the cells of a unit.
 use mathlib.Core.Path.{◌≡◌, sym, ap, ap₂, ◌∙◌}
 use mathlib.Core.List.{List, [], ◌∷◌, ◌++◌, append-nil, append_assoc}
-use Prim.Native.Nat.{ℕ, ◌+◌, ◌-◌, ◌≤◌}
+use Prim.Native.Nat.{ℕ, suc, ◌+◌, ◌-◌, ◌≤◌, ◌<◌}
+use native.Mathlib.Numerals.{add-one}
 use native.Mathlib.Omega.{arith}
 use lib.IntN.{ℤ, pos}
-use lib.ListN.{length, take, drop, set, replicate, length-drop, length-append, length-take}
+use lib.ListN.{length, get_or, take, drop, set, replicate, length-drop, length-append, length-take}
 use lib.ListN.{length-set, drop_of_length-le}
-use lib.Seq.{length-take-le, take-length, take_at, drop_at}
+use lib.Seq.{set_at, take-suc, drop-cons, append_snoc, length-take-le, take-length, take_at, drop_at}
 use lib.Seq.{sets-eq, drop-drop, take-add}
 use borrow.Rule.Slice.PartMut.{put_mid}
 use Rattle.std.proofs.lemmas.List.{drop-replicate}
@@ -18,6 +19,17 @@ use mir.ValLaws.{to_z_pos}
 use Rattle.residues.specs.Reduces.{farthest}
 use Rattle.csl.specs.Table.{padded}
 use Rattle.cells.specs.Reduce.{unit_of}
+
+module _ {A : Type 0} (z : A) where
+  -- one cell more is copied
+  pub copy_more : (s d : List A) (i : ℕ) → i < length s → i < length d
+      → set (take i s ++ drop i d) i (get_or s i z) ≡ take (i + 1) s ++ drop (i + 1) d
+  copy_more s d i hs hd =
+      ap (λ (x : List A). set (take i s ++ x) i (get_or s i z)) (drop-cons d i z hd)
+      ∙ set_at (take i s) (get_or d i z) (drop (suc i) d) (get_or s i z) i (length-take-le i s (omega arith))
+      ∙ sym (append_snoc (take i s) (get_or s i z) (drop (suc i) d))
+      ∙ ap (λ (x : List A). x ++ drop (suc i) d) (sym (take-suc s i z hs))
+      ∙ ap (λ (k : ℕ). take k s ++ drop k d) (sym (add-one i))
 
 module _ {A : Type 0} where
   pub copied_all : (s d : List A) {i : ℕ} → i ≡ length s → take i s ++ drop i d ≡ s ++ drop (length s) d
@@ -44,10 +56,10 @@ module _ {A : Type 0} where
 
 -- ---- with zeros behind
 -- e is what is cleared; the source is copied to its front
-pub padded_is : (d s : List ℤ) {e v : List ℤ} → e ≡ replicate (length d) (pos 0) → v ≡ s
-    → put_mid 0 (length s) e v ≡ padded (length d) s
+pub padded_is : (d s : List ℤ) {e v : List ℤ} → e ≡ replicate (length d) (pos 0) → v ≡ s ++ drop (length s) e
+    → v ≡ padded (length d) s
 unfolding padded
-padded_is d s e f = ap₂ (λ x y. x ++ drop (length s) y) f e
+padded_is d s e f = f ∙ ap (λ y. s ++ drop (length s) y) e
     ∙ ap (λ x. s ++ x) (drop-replicate (length s) (length d) (pos 0))
 
 -- ---- a unit

@@ -41,13 +41,24 @@ pub struct Reckoned {
     pub tally: Tally,
 }
 
+// src goes to the front of dst. (Cell by cell: std's `copy_from_slice` is `memmove` once compiled, and the library for
+// C needs `memcpy` and `memset` alone from outside.)
+pub fn copy(dst: &mut [i64], src: &[i64])
+    requires { length src.now ≤ length dst.old }
+    ensures { dst.new ≡ src.now ++ drop (length src.now) dst.old }
+{
+    for i in 0..src.len() {
+        dst[i] = src[i];
+    }
+}
+
 // src goes to the front of dst, with zeros behind it to the end.
 pub fn fill(dst: &mut [i64], src: &[i64])
     requires { length src.now ≤ length dst.old }
     ensures { dst.new ≡ padded (length dst.old) src.now }
 {
     dst.fill(0);
-    dst[..src.len()].copy_from_slice(src);
+    copy(dst, src);
 }
 
 // A unit's 24 cells. (A slice, as a part of `out` is: to be an array it would need an `unwrap`. Cells are i64 in the C

@@ -1,7 +1,7 @@
 -- Laws of units that are compared and written one after another.
 use mathlib.Core.Path.{◌≡◌, refl, sym, ap, ap₂, ◌∙◌}
 use mathlib.Core.Bool.{Bool, true, false, not, cond, ◌&&◌, ◌||◌}
-use mathlib.Core.List.{List, [], ◌∷◌, ◌++◌, append_assoc}
+use mathlib.Core.List.{List, [], ◌∷◌, ◌++◌, append-nil, append_assoc}
 use Prim.Native.Nat.{ℕ, ◌+◌, ◌-◌, ◌*◌, ◌≤◌}
 use native.Mathlib.Omega.{arith}
 use Rattle.std.specs.Bool.{Decides}
@@ -9,7 +9,7 @@ use lib.IntN.{ℤ, pos}
 use lib.Dec.{eqb, eqb→eq, eqb_refl}
 use lib.ListN.{get_or-append, length, get_or, take, drop, replicate, length-append, length-drop}
 use lib.ListN.{length-take}
-use lib.Seq.{drop_at, get_or-take, take-add, take_all, take_at, length-take-le}
+use lib.Seq.{drop_at, drop-length, get_or-take, take-add, take_all, take_at, length-take-le}
 use borrow.Rule.Slice.PartMut.{put_mid}
 use Rattle.arith.proofs.Lists.{tail_put}
 use Rattle.csl.specs.Run.{same_numbers}
@@ -25,6 +25,10 @@ altered_in altered cells unit = altered || not (same_numbers cells unit)
 -- csl's test decides whether two lists are one
 pub sameness : (cells unit : List ℤ) → Decides (same_numbers cells unit) (cells ≡ unit)
 sameness cells unit = (same_are cells unit, λ q. rw q (same_self unit))
+
+-- ---- cells that are copied to as many
+pub copied_whole : (s d : List ℤ) → length s ≡ length d → s ++ drop (length s) d ≡ s
+copied_whole s d e = rw (e, drop-length, append-nil)
 
 -- ---- unit by unit
 or_and : (a b c : Bool) → ((a || not b) || not c) ≡ (a || not (b && c))

@@ -5,6 +5,7 @@ ghost use Rattle.std.specs.Prelude.{◌≡◌};
 ghost use Rattle.settling.specs.Before.{read_from};
 
 use cells::TABLE_CELLS;
+use residues::copy;
 
 // The table that is read.
 pub fn table_before<'t>(
@@ -17,10 +18,11 @@ pub fn table_before<'t>(
 }
 
 // The table to be written becomes the one that is read.
+#[tactic(auto, using(crate::proofs::Units::copied_whole))]
 pub fn copy_before(first: Option<&[i64; TABLE_CELLS]>, table: &mut [i64; TABLE_CELLS])
     ensures { table.new ≡ read_from first.entry table.old }
 {
     if let Some(first) = first {
-        *table = *first;
+        copy(table, first);
     }
 }

@@ -15,7 +15,7 @@ pub mod before;
 use cells::{HEAD_CELLS, LAST_MOVED, TABLE_CELLS, UNIT_CELLS};
 use kinds::RunState;
 use parties::Breach;
-use residues::{Reduced, fill};
+use residues::{Reduced, copy, fill};
 
 // The table of a run that ends at `time`, fulfilled or with a breach: a head, and no unit. (Here and below a cell is an
 // i64 as in the C interface, and what is counted or a set's bits are a usize.)
@@ -41,14 +41,14 @@ fn same(cells: &[i64], unit: &[i64]) -> bool
 }
 
 // One unit's 24 cells. They are written where something has altered before them or in them; the answer says so.
-#[tactic(auto, using(crate::proofs::Units::sameness))]
+#[tactic(auto, using(crate::proofs::Units::sameness, crate::proofs::Units::copied_whole))]
 fn put_unit(unit: &mut [i64], cells: &[i64], altered: bool) -> bool
     requires { (length unit.old ≡ 24) × (length cells.now ≡ 24) }
     ensures { (unit.new ≡ cells.now) × (result ≡ (altered || not (same_numbers cells.now unit.old))) }
 {
     let altered = altered || !same(cells, unit);
     if altered {
-        unit.copy_from_slice(cells);
+        copy(unit, cells);
     }
     altered
 }

@@ -1,6 +1,6 @@
 -- A table with the state of a run that goes on shows one exactly where its units are one residue.
 use mathlib.Core.Path.{◌≡◌, refl, sym, ap, ap₂, subst, ◌∙◌}
-use mathlib.Core.Bool.{Bool, true, ◌&&◌}
+use mathlib.Core.Bool.{Bool, true, false, ◌&&◌}
 use mathlib.Core.List.{List, [], ◌∷◌}
 use mathlib.Core.Option.{some}
 use Prim.Native.Nat.{ℕ, ◌+◌, ◌-◌, ◌*◌, ◌≤◌}
@@ -76,6 +76,11 @@ module _ (cells : List ℤ) (l : length cells ≡ 3080) (A : List ℕ) {time : �
   waits_none : (sights : List Sight) → (Waits → ⊥) → Shows (run_in A cells) cells sights None
   waits_none sights k = shown_none cells l A sights λ q f. k (waits_facts f)
 
+  pub running_head : {b : Bool} (sights : List Sight) → b ≡ all is_zero (take 2 (drop 2 cells)) → b ≡ false
+      → Shows (run_in A cells) cells sights None
+  running_head {b} sights e f = waits_none sights λ w. true_not_false
+      (T→true (all is_zero (take 2 (drop 2 cells))) (zeros_two cells l w.timeless w.blameless)) (sym e ∙ f)
+
   pub running_many : (sights : List Sight) → None ≡ number_below 129 (get_or cells 4 (pos 0))
       → Shows (run_in A cells) cells sights None
   running_many sights e = waits_none sights λ w. omega
@@ -125,27 +130,24 @@ module _ (cells : List ℤ) (l : length cells ≡ 3080) (A : List ℕ) {time : �
 
         -- the code's tests, one after the other
         abbrev running_tests : Bool
-        running_tests = eqb tree.units n && all is_zero (take 2 (drop 2 cells))
-            && all is_zero (take (3080 - (8 + 24 * n)) (drop (8 + 24 * n) cells))
+        running_tests = eqb tree.units n && all is_zero (take (3080 - (8 + 24 * n)) (drop (8 + 24 * n) cells))
 
         running_passed : Waits → T running_tests
         running_passed w =
             let is = residue_read w in
             let same = reads_same (agreement_of A) tree_there.residue w.residue (take 3072 (drop 8 cells))
             tree_there.reads is.0 in
-            T-both (eqb tree.units n && all is_zero (take 2 (drop 2 cells))) _
-            (T-both (eqb tree.units n) _ (true→T (eq-eqb tree.units n (tree_there.count ∙ ap units same ∙ is.1)))
-            (zeros_two cells l w.timeless w.blameless))
+            T-both (eqb tree.units n) _ (true→T (eq-eqb tree.units n (tree_there.count ∙ ap units same ∙ is.1)))
             (true→T (ap (all is_zero) (sym rest_cells) ∙ is.2))
 
-        shown : T running_tests → Shows (run_in A cells) cells sights (Some (Running n))
+        shown : all is_zero (take 2 (drop 2 cells)) ≡ true → T running_tests
+            → Shows (run_in A cells) cells sights (Some (Running n))
         unfolding Shows read_state single trees
-        shown t =
-            both_true (eqb tree.units n && all is_zero (take 2 (drop 2 cells))) _ t λ t₁ z.
-            both_true (eqb tree.units n) _ t₁ λ f two.
+        shown two t =
+            both_true (eqb tree.units n) _ t λ f z.
             let same : tree.units ≡ n = eqb→eq tree.units n f in
             let x = tree_there.residue in
-            let head = two_zeros cells l two in
+            let head = two_zeros cells l (true→T two) in
             let count : n ≡ units x = sym same ∙ tree_there.count in
             let count₀ : n ≡ units x + 0 = omega (arith, count) in
             let none-behind : trees (agreement_of A) 0 (drop (24 * units x) (take 3072 (drop 8 cells))) ≡ some
@@ -168,7 +170,7 @@ module _ (cells : List ℤ) (l : length cells ≡ 3080) (A : List ℕ) {time : �
               sighted = subst (λ (k : ℕ). take k sights ≡ sights_in x) same tree_there.sighted;
             }
 
-        pub running_is : {b : Bool} {q : Maybe State} → b ≡ running_tests → q ≡ then_some b (Running n)
-            → Shows (run_in A cells) cells sights q
-        running_is e g = by_then (Shows (run_in A cells) cells sights) g (λ u. shown (true→T (sym e ∙ u)))
+        pub running_is : all is_zero (take 2 (drop 2 cells)) ≡ true → {b : Bool} {q : Maybe State} → b ≡ running_tests
+            → q ≡ then_some b (Running n) → Shows (run_in A cells) cells sights q
+        running_is two e g = by_then (Shows (run_in A cells) cells sights) g (λ u. shown two (true→T (sym e ∙ u)))
             (λ f. waits_none sights λ w. true_not_false (T→true running_tests (running_passed w)) (sym e ∙ f))

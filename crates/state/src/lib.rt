@@ -169,11 +169,12 @@ impl Moment<'_> {
         requires head_at { HeadAt self.now.accepted.now table.now 1 self.now.time }
         ensures { Shows (run_in self.now.accepted.now table.now) table.now sights.new result }
     {
+        if !zeros(&table[2..4]) {
+            return None;
+        }
         let used = number_below(table[4], COUNTS)?;
         let tree = self.walk_tree(&table[HEAD_CELLS..], &mut sights[..used])?;
-        let is_sound = tree.units == used
-            && zeros(&table[2..4])
-            && zeros(&table[HEAD_CELLS + UNIT_CELLS * used..]);
+        let is_sound = tree.units == used && zeros(&table[HEAD_CELLS + UNIT_CELLS * used..]);
         is_sound.then_some(State::Running(used))
     }
 }

@@ -9,12 +9,15 @@ const MOST: usize = 65_535;
 // More cells than a table has.
 const MOST_CELLS: usize = 4096;
 
+// No call is made on a table of so many cells, and of a longer one no more are kept.
+const TOO_MANY: usize = MOST_CELLS + 1;
+
 #[derive(Drop)]
 pub struct Given {
     pub agreement: ArrayVec<u8, MOST>,
     pub reading: ArrayVec<u8, MOST>,
-    pub table: ArrayVec<i64, MOST>,
-    pub second: ArrayVec<i64, MOST>,
+    pub table: ArrayVec<i64, TOO_MANY>,
+    pub second: ArrayVec<i64, TOO_MANY>,
 }
 
 impl Given {
@@ -36,7 +39,7 @@ impl Given {
     }
 
     pub fn take_table<R: Read>(&mut self, input: &mut R) {
-        let length = usize::from(two_bytes(input));
+        let length = usize::from(two_bytes(input)).min(TOO_MANY);
         self.table.clear();
         let _fits = self.table.extend(repeat_n(0i64, length));
     }

@@ -34,6 +34,7 @@ use Rattle.kinds.specs.declared.WaitKind.TheVariants.{Obligation, Choice}
 use Rattle.places.specs.declared.Located.{Located}
 use Rattle.records.specs.TypedValues.{value_ok, values_ok}
 use Rattle.places.specs.Locate.{FoundAt, Locates}
+use Rattle.places.specs.Sight.{types_in}
 use Rattle.csl.specs.Check.{mains_of, Accepted}
 use Rattle.units.specs.declared.Waiting.{Waiting}
 use Rattle.cells.specs.Sights.{sights_in}
@@ -366,11 +367,11 @@ module _ {A : List ℕ} (acc : Accepted A) (now : ℕ) (wait : WaitKind) (zs : L
         wait_nowhere g = damaged λ x. some_none (rw g at h) (rw (same_place x) at x.is_at)
 
         module _ {f : Located} (g : r ≡ Some f) where
-          there : FoundAt (clause_at (agreement_of A) place) f.sight.items f.wait f.params
+          there : FoundAt (clause_at (agreement_of A) place) (types_in f.sight) f.wait f.params
           unfolding Locates
           there = rw g at h
 
-          pub found_there : FoundThere A place f.params f.sight.items
+          pub found_there : FoundThere A place f.params (types_in f.sight)
           found_there = record { found = there.found; is = there.is; params = there.params; sight = there.sight }
 
           same_found : (x : UnitFacts A now (sort_in wait) zs) → x.found ≡ there.found
@@ -384,12 +385,13 @@ module _ {A : List ℕ} (acc : Accepted A) (now : ℕ) (wait : WaitKind) (zs : L
           module _ {start : ℕ} {within : Bool} (a : start ≡ le32 A 4)
               (t : within ≡ (leb start when && leb when now)) (inside : within ≡ true) (m : f.wait ≡ wait)
             where
-              pub wait_located : (w : Maybe Waiting) → LocatedIs A place f.params f.sight.items zs w
+              pub wait_located : (w : Maybe Waiting) → LocatedIs A place f.params (types_in f.sight) zs w
                   → WaitingIs A now (sort_in wait) zs w
               unfolding LocatedIs WaitingIs
               wait_located None y = damaged λ x.
                   let q = same_found x in
-                  y x.params (subst (λ (p : ℕ). UnitHas A p f.params (tys_of f.sight.items) zs x.params) (same_place x)
+                  y x.params (subst (λ (p : ℕ). UnitHas A p f.params (tys_of (types_in f.sight)) zs x.params)
+                  (same_place x)
                   (rw (ap (λ (z : Found). z.params) q ∙ there.params, ap (λ (z : Found). z.sight) q ∙ there.sight) at
                   x.has))
               wait_located (Some w) y =
@@ -410,5 +412,5 @@ module _ {A : List ℕ} (acc : Accepted A) (now : ℕ) (wait : WaitKind) (zs : L
                   rw (
                     y.same,
                     y.counts ∙ ap₂ (λ n c. Waits n c) (sym there.params)
-                        (sym (ap length there.sight ∙ types_length f.sight.items)),
+                        (sym (ap length there.sight ∙ types_length (types_in f.sight))),
                   ) shows

@@ -8,6 +8,7 @@ ghost use Rattle.csl.specs.Bytes.{kind_number};
 ghost use Rattle.csl.specs.Parties.{bits_of};
 ghost use Rattle.csl.specs.Table.{is_zero, stands_for, stand_for};
 ghost use Rattle.kinds.specs.Kinds.{sort_in};
+ghost use Rattle.places.specs.Sight.{types_in};
 ghost use Rattle.units.specs.Cells.{number_below, parties_in, PartiesRead};
 ghost use Rattle.units.specs.Blames.{WholeIn, PartiesAre};
 ghost use Rattle.units.specs.Units.{CellsRead, FoundThere, LocatedIs, WaitingIs};
@@ -154,8 +155,8 @@ fn located_unit(
     cells: &[i64],
 ) -> Option<Waiting>
     requires long { length cells.now ≡ 23 }
-    requires there { FoundThere accepted.now place found.now.params found.now.sight.items }
-    ensures { LocatedIs accepted.now place found.now.params found.now.sight.items cells.now result }
+    requires there { FoundThere accepted.now place found.now.params (types_in found.now.sight) }
+    ensures { LocatedIs accepted.now place found.now.params (types_in found.now.sight) cells.now result }
 {
     let agreement = accepted.agreement();
     let types = found.sight.as_slice();
@@ -184,8 +185,11 @@ pub fn waiting_unit(
     let agreement = accepted.agreement();
     let place = usize::try_from(cells[0]).ok()?;
     let when = usize::try_from(cells[1]).ok()?;
+    if !(agreement.start()..=time).contains(&when) {
+        return None;
+    }
     let found = locate(agreement, place)?;
-    if (agreement.start()..=time).contains(&when) && found.wait == wait {
+    if found.wait == wait {
         located_unit(accepted, place, &found, cells)
     } else {
         None

@@ -2,6 +2,7 @@
 use Rattle.std.specs.Prelude.{◌≡◌, List, ℕ, ◌+◌, ◌≤◌, ℤ, Bool, length}
 use Rattle.cells.specs.Reduce.{Mode, activating, forecasting, following, fate, waits, late, taken, first_of, last_of}
 use Rattle.readings.specs.declared.reading.Reading.{Reading}
+use Rattle.readings.specs.Values.{values_read}
 use Rattle.waits.specs.declared.Event.TheVariants.{Activate, Forecast, Follow}
 use Rattle.csl.specs.Syntax.{Wait}
 use Rattle.csl.specs.Bytes.{record_end}
@@ -25,7 +26,7 @@ timing_is tooLate = rules.late
 
 -- the mode of a clause that follows a reading
 abbrev pub mode_of : Reading → Mode
-mode_of r = following r.time r.tag r.values.items
+mode_of r = following r.time r.tag (values_read r)
 
 -- ---- waits; what the code says of a wait in the record s holds whatever the place of s is
 abbrev pub mode_at : Event → Mode

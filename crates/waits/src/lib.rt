@@ -11,6 +11,7 @@ ghost use Rattle.cells.specs.Evaluate.{eval_cells};
 ghost use Rattle.cells.specs.Reduce.{first_of, last_of, following, opens_later, then_values};
 ghost use Rattle.residues.specs.Reduces.{farthest};
 ghost use Rattle.waits.specs.Fates.{mode_of, mode_at, FateIs, WindowIs, timing_is, condition_of, wait_in, AfterAt};
+ghost use Rattle.readings.specs.Values.{values_read};
 
 use arrayvec::ArrayVec;
 use cells::Values;
@@ -65,11 +66,11 @@ fn minutes_after(from: i64, span: &[u8], values: &[i64], depth: usize) -> i64
 
 // The values in sight and the reading's.
 fn sight(values: Values<'_>, reading: &Reading) -> ArrayVec<i64, SIGHT_CELLS>
-    ensures { (result.items ≡ values.entry.cells.now ++ reading.now.values.items) × (length result.items ≤ 20) }
+    ensures { (result.items ≡ values.entry.cells.now ++ values_read reading.now) × (length result.items ≤ 20) }
 {
     let mut all = ArrayVec::new();
     all.try_extend_from_slice(values.cells).unwrap();
-    all.try_extend_from_slice(&reading.values).unwrap();
+    all.try_extend_from_slice(reading.values()).unwrap();
     all
 }
 
@@ -136,7 +137,7 @@ impl Wait<'_> {
     #[inline(always)]
     fn holds(&self, reading: &Reading) -> bool
         ensures { let w = self.now in
-            result ≡ condition_of w.bytes.now w.at w.depth (w.values.cells.now ++ reading.now.values.items) }
+            result ≡ condition_of w.bytes.now w.at w.depth (w.values.cells.now ++ values_read reading.now) }
     {
         let s = self.bytes;
         let all = sight(self.values, reading);
@@ -163,7 +164,7 @@ impl Wait<'_> {
     // It wants the reading, its `where` is true, and its first minute is later. Only then is `where` asked.
     pub fn opens_later(&self, reading: &Reading) -> bool
         ensures { (p : ℕ) → result ≡ opens_later self.now.values.cells.now self.now.a (wait_in self.now p)
-            reading.now.time reading.now.tag reading.now.values.items }
+            reading.now.time reading.now.tag (values_read reading.now) }
     {
         byte(self.bytes, self.at) == reading.tag
             && (reading.time as i64) < self.first(self.after())
@@ -185,7 +186,7 @@ impl Wait<'_> {
 // The values in sight of a `then`, at most 16: those in sight, the reading's, and the minutes that were left.
 pub fn then_values(values: Values<'_>, reading: &Reading, last: i64) -> ArrayVec<i64, SIGHT_CELLS>
     requires { Near (farthest + 2_000_000_000) last }
-    ensures { (result.items ≡ then_values values.entry.cells.now reading.now.values.items (last -ℤ pos reading.now.time))
+    ensures { (result.items ≡ then_values values.entry.cells.now (values_read reading.now) (last -ℤ pos reading.now.time))
         × (length result.items ≤ 16) }
 {
     let left = last - reading.time as i64;

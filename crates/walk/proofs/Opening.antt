@@ -23,6 +23,7 @@ use Rattle.cells.specs.Sights.{flat}
 use Rattle.cells.specs.declared.Sight.{Sight}
 use Rattle.cells.specs.declared.Sight.TheVariants.{Waits, Joins}
 use Rattle.readings.specs.declared.reading.Reading.{Reading}
+use Rattle.readings.specs.Values.{values_read}
 use Rattle.std.specs.declared.slice.ChunksExact.{ChunksExact}
 use Rattle.std.specs.declared.iter.Zip.{Zip}
 use Rattle.std.proofs.Common.{Iter}
@@ -201,14 +202,14 @@ module _ (r : Reading) (s : List ℕ) (size : ℕ) where
 
   pub some_unit : (m : ℕ) (sights : List Sight) (cs : List ℤ) → length sights ≤ m
       → ((k : ℕ) → k < length sights → UnitAt size k sights cs)
-      → some_open_later r.time r.tag r.values.items s (length sights) (flat sights) cs
+      → some_open_later r.time r.tag (values_read r) s (length sights) (flat sights) cs
       ≡ list_any opens (zip sights (chunks m cs))
   unfolding some_open_later flat chunks
   some_unit m [] cs h each = refl
   some_unit zero (x ∷ sights) cs h each = absurd (not-suc-le-zero h)
   some_unit (suc m) (Waits params values ∷ sights) cs h each =
       let first = (each 0 (omega arith)).is (Waits 0 0) in
-      rw (sort_at cs first.sort) (ap (λ b. unit_opens_later r.time r.tag r.values.items s values (take 24 cs) || b)
+      rw (sort_at cs first.sort) (ap (λ b. unit_opens_later r.time r.tag (values_read r) s values (take 24 cs) || b)
       (some_unit m sights (drop 24 cs) (omega arith) (λ k l. behind (each (suc k) (omega arith)))))
   some_unit (suc m) (Joins join left ∷ sights) cs h each =
       let first = (each 0 (omega arith)).is (Waits 0 0) in

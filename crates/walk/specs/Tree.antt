@@ -13,6 +13,7 @@ use Rattle.cells.specs.declared.Sight.TheVariants.{Waits, Joins}
 use Rattle.csl.specs.Outcomes.{Residue, unit, both, units}
 use Rattle.cells.specs.Reduce.{Mode}
 use Rattle.readings.specs.declared.reading.Reading.{Reading}
+use Rattle.readings.specs.Values.{values_read}
 
 -- a waiting unit of an agreement of so many bytes
 pub record Waiting (size params values : ℕ) (unit : List ℤ) : Type 0 where
@@ -58,5 +59,5 @@ pub record Tree (size : ℕ) (sights : List Sight) (cs : List ℤ) (n : ℕ) : T
 
 -- a unit that is what its sight says wants the reading, and opens later
 abbrev pub opens_at : Reading → List ℕ → Sight → List ℤ → Bool
-opens_at r s (Waits params values) cs = unit_opens_later r.time r.tag r.values.items s values cs
+opens_at r s (Waits params values) cs = unit_opens_later r.time r.tag (values_read r) s values cs
 opens_at r s (Joins join left) cs = false

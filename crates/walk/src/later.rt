@@ -6,6 +6,7 @@ ghost use Rattle.residues.specs.Reduces.{farthest};
 ghost use Rattle.cells.specs.Across.{clause_opens_later, some_open_later};
 ghost use Rattle.cells.specs.Sights.{flat};
 ghost use Rattle.walk.specs.Tree.{Seen, Tree, opens_at};
+ghost use Rattle.readings.specs.Values.{values_read};
 
 use crate::clause_at;
 use crate::tree::{Units, natural};
@@ -19,7 +20,7 @@ use waits::Wait;
 fn clause_opens_later(reading: &Reading, s: &[u8], values: Values<'_>, a: usize) -> bool
     requires { a ≤ farthest }
     ensures { (hs : List Head) (p : ℕ) → result ≡ clause_opens_later reading.now.time reading.now.tag
-        reading.now.values.items (clause hs 23 p s.now) values.entry.cells.now a }
+        (values_read reading.now) (clause hs 23 p s.now) values.entry.cells.now a }
 {
     if !is_record(s) {
         return false;
@@ -59,7 +60,7 @@ fn unit_opens_later(agreement: &[u8], reading: &Reading, sight: Sight, unit: &[i
 pub fn some_open_later(agreement: &[u8], reading: &Reading, units: Units<'_>) -> bool
     requires near { length agreement.now ≤ farthest }
     requires tree { Tree (length agreement.now) units.sights.now units.cells.now (length units.sights.now) }
-    ensures { result ≡ some_open_later reading.now.time reading.now.tag reading.now.values.items agreement.now
+    ensures { result ≡ some_open_later reading.now.time reading.now.tag (values_read reading.now) agreement.now
         (length units.entry.sights.now) (flat units.entry.sights.now) units.entry.cells.now }
 {
     let cells = units.cells.chunks_exact(UNIT_CELLS);

@@ -18,10 +18,12 @@ use Rattle.csl.specs.Decode.{clause, heads_of}
 use Rattle.arith.proofs.Ints.{read! }
 use Rattle.arith.proofs.Lists.{length_part}
 use Rattle.kinds.specs.Kinds.{wait_number}
+use Rattle.waits.specs.Fates.{mode_at}
 use Rattle.cells.specs.Reduce as cells
 use Rattle.cells.specs.Reduce.{unit_of, then_values}
 use Rattle.residues.specs.Tallies.{Reckons, ended_by}
 use Rattle.activation.specs.Leads.{Leads, Shaped, part_reckoned}
+use Rattle.readings.specs.Values.{values_read}
 use Rattle.activation.proofs.+activation.Goals as goal
 use Rattle.activation.proofs.+activation.Goals.{both-After-activate-l}
 
@@ -127,7 +129,7 @@ act-returns-in-Takes t c =
     let h = c.args.placed.now.clause in
     let r = c.in-Takes.reading.now in
     let m = read! {z = c.in-Takes.last} (search rules) in
-    let us = then_values h.values.cells.now r.values.items (c.in-Takes.last -ℤ pos r.time) in
+    let us = then_values h.values.cells.now (values_read r) (c.in-Takes.last -ℤ pos r.time) in
     let activated = then_is h.agreement.now (clause (heads_of h.agreement.now) (h.site.depth - 1)
     (h.site.place + c.in-Takes.from) (part h.bytes.now c.in-Takes.from c.in-Takes.to)) h.params.now us r.time in
     reckons_by later (c.in-Takes.ensures.is ∙ ap later activated) (rw m at c.taken.ensures) c.ended_wait.ensures
@@ -148,24 +150,24 @@ pub activate-ended-requires : goal.activate-ended-requires
 unfolding Shaped
 activate-ended-requires t c =
     let h = c.args.placed.now.clause in
-    let g = c.in-Ends.ensures c.args.event h.agreement.now h.site.below h.site.place h.params.now h.values.cells.now
-    h.site.a in
+    let g = c.in-Ends.ensures (mode_at c.args.event) h.agreement.now h.site.below h.site.place h.params.now
+    h.values.cells.now h.site.a in
     omega (arith, g.1)
 
 pub activate-part-side-requires : goal.activate-part-side-requires
 unfolding Shaped
 activate-part-side-requires t c =
     let h = c.args.placed.now.clause in
-    let g = c.in-Goes.ensures c.args.event h.agreement.now h.site.below h.site.place h.params.now h.values.cells.now
-    h.site.a in
+    let g = c.in-Goes.ensures (mode_at c.args.event) h.agreement.now h.site.below h.site.place h.params.now
+    h.values.cells.now h.site.a in
     (g.deep, g.order, g.inside, g.soon)
 
 pub activate-activate-requires : goal.activate-activate-requires
 unfolding Shaped
 activate-activate-requires t c =
     let h = c.args.placed.now.clause in
-    let g = c.in-Goes.ensures c.args.event h.agreement.now h.site.below h.site.place h.params.now h.values.cells.now
-    h.site.a in
+    let g = c.in-Goes.ensures (mode_at c.args.event) h.agreement.now h.site.below h.site.place h.params.now
+    h.values.cells.now h.site.a in
     let e = c.part-side.ensures in
     let n = length_part h.bytes.now c.in-Goes.from c.in-Goes.to g.inside in
     omega (
@@ -179,32 +181,32 @@ pub activate-both-requires : goal.activate-both-requires
 unfolding Shaped
 activate-both-requires t c =
     let h = c.args.placed.now.clause in
-    let g = c.in-Joins.ensures c.args.event h.agreement.now h.site.below h.site.place h.params.now h.values.cells.now
-    h.site.a in
+    let g = c.in-Joins.ensures (mode_at c.args.event) h.agreement.now h.site.below h.site.place h.params.now
+    h.values.cells.now h.site.a in
     (omega (arith, c.decreases), record { deep = g.deep; order = g.order; inside = g.inside })
 
 pub activate-act-requires : goal.activate-act-requires
 unfolding Shaped
 activate-act-requires t c =
     let h = c.args.placed.now.clause in
-    let g = c.in-Acts.ensures c.args.event h.agreement.now h.site.below h.site.place h.params.now h.values.cells.now
-    h.site.a in
+    let g = c.in-Acts.ensures (mode_at c.args.event) h.agreement.now h.site.below h.site.place h.params.now
+    h.values.cells.now h.site.a in
     (omega (arith, c.decreases), g)
 
 pub activate-returns-in-Ends : goal.activate-returns-in-Ends
 unfolding Shaped
 activate-returns-in-Ends t c =
     let h = c.args.placed.now.clause in
-    let g = c.in-Ends.ensures c.args.event h.agreement.now h.site.below h.site.place h.params.now h.values.cells.now
-    h.site.a in
+    let g = c.in-Ends.ensures (mode_at c.args.event) h.agreement.now h.site.below h.site.place h.params.now
+    h.values.cells.now h.site.a in
     reckons_as g.0 (c.ended.ensures c.args.out.now)
 
 pub activate-returns-in-Goes : goal.activate-returns-in-Goes
 unfolding Shaped
 activate-returns-in-Goes t c =
     let h = c.args.placed.now.clause in
-    let g = c.in-Goes.ensures c.args.event h.agreement.now h.site.below h.site.place h.params.now h.values.cells.now
-    h.site.a in
+    let g = c.in-Goes.ensures (mode_at c.args.event) h.agreement.now h.site.below h.site.place h.params.now
+    h.values.cells.now h.site.a in
     reckons_by (λ x. cells.reaches (cells.joins syntax.and (ended_by 1) x)) g.is
     (rw (stood c.args.event c.part-side.ensures) at c.activate.ensures) (search rules)
 
@@ -212,8 +214,8 @@ pub activate-returns-in-Joins : goal.activate-returns-in-Joins
 unfolding Shaped
 activate-returns-in-Joins t c =
     let h = c.args.placed.now.clause in
-    let g = c.in-Joins.ensures c.args.event h.agreement.now h.site.below h.site.place h.params.now h.values.cells.now
-    h.site.a in
+    let g = c.in-Joins.ensures (mode_at c.args.event) h.agreement.now h.site.below h.site.place h.params.now
+    h.values.cells.now h.site.a in
     reckons_as g.is c.both.ensures
 
 -- ---- both: the right side's answer, then the left side's

@@ -3,17 +3,18 @@ use mathlib.Core.Path.{◌≡◌, ap, ◌∙◌}
 use native.Mathlib.Omega.{arith}
 use Rattle.csl.specs.Decode.{tys_of}
 use Rattle.records.specs.Index.{head_at}
-use Rattle.places.proofs.Descents.{made, body_stands, body_found, finds_none, finds_some}
+use Rattle.places.proofs.Descents.{body_stands, body_found, finds_none, finds_some}
+use Rattle.places.specs.Sight.{types_in}
 use Rattle.places.proofs.in_template.Goals as goal
 use Rattle.places.proofs.in_template.Goals.{After-body_span-base}
 
 -- the sight at the template's body has its values
-sight_is : (c : After-body_span-base) → tys_of c.unwrap-sight.result.items
+sight_is : (c : After-body_span-base) → tys_of (types_in c.extend.new.self)
     ≡ (head_at c.args.template.now.agreement.now c.args.template.now.number).values
-sight_is c = ap tys_of (rw c.unwrap-sight.ensures at c.try_from.ensures).0 ∙ c.value_types.ensures.0.typed
+sight_is c = ap tys_of (rw c.new-sight.ensures at c.extend.ensures) ∙ c.value_types.ensures.0.typed
 
-pub unwrap-sight-requires : goal.unwrap-sight-requires
-unwrap-sight-requires c = made _ _ c.try_from.ensures (omega (arith, c.value_types.ensures.0.few))
+pub extend-requires : goal.extend-requires
+extend-requires c = rw c.new-sight.ensures (omega (arith, c.value_types.ensures.0.few))
 
 pub descend-requires : goal.descend-requires
 descend-requires c =

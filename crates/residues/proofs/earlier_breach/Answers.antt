@@ -13,7 +13,10 @@ use Rattle.residues.proofs.earlier_breach.Goals as goal
 pub returns-in-Less : goal.returns-in-Less
 unfolding Is earlier
 returns-in-Less c = record {
-  is = λ x y e f o. let h = before e f (int_ranked _ _ _ c.in-Less.ensures) in rw (lt-ltb x y h) (e, refl);
+  is = λ x y e f o.
+      let h = before e f (int_ranked _ _ _ c.in-Less.ensures) in
+      let k = read {z = c.args.l.time} (search rules) in
+      rw (lt-ltb x y h) (cc, refl);
 }
 
 pub returns-in-Greater : goal.returns-in-Greater

@@ -3,4 +3,4 @@ use Rattle.residues.proofs.Cells.{padded_is}
 use Rattle.residues.proofs.fill.Goals as goal
 
 pub returns : goal.returns
-returns c = padded_is c.args.dst.now c.args.src.now (c.fill.ensures.after (λ y e. e)) c.copy_from_slice.ensures.after
+returns c = padded_is c.args.dst.now c.args.src.now (c.fill.ensures.after (λ y e. e)) c.copy.ensures

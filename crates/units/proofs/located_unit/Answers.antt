@@ -5,6 +5,7 @@ use native.Mathlib.Omega.{arith}
 use Prim.Native.Nat.{◌+◌, ◌≤◌}
 use Rattle.csl.specs.Bytes.{byte, record_end, part}
 use Rattle.csl.specs.Decode.{tys_of}
+use Rattle.places.specs.Sight.{types_in}
 use Rattle.units.specs.Units.{CellsRead}
 use Rattle.units.specs.Blames.{PartiesAre}
 use Rattle.cells.specs.declared.Sight.TheVariants.{Waits}
@@ -17,7 +18,7 @@ parties_are : (c : After-unit_cells) → c.parties.result ≡ byte c.args.accept
 parties_are c = rw c.agreement-agreement.ensures.0 at c.parties.ensures.0
 
 cells_read : (c : After-unit_cells) → CellsRead c.parties.result c.args.found.now.params
-    (tys_of c.args.found.now.sight.items) c.args.cells.now c.unit_cells.result
+    (tys_of (types_in c.args.found.now.sight)) c.args.cells.now c.unit_cells.result
 cells_read c = rw c.as_slice-types.ensures.value at c.unit_cells.ensures
 
 -- and of its clause

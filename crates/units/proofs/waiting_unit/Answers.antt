@@ -1,4 +1,4 @@
--- Place and time are read as numbers, and the clause found at the place, the time and the sort decide the rest.
+-- Place and time are read as numbers; the time, the clause found at the place and its sort decide the rest.
 use mathlib.Core.Path.{◌≡◌}
 use borrow.Author.Rules.{rules}
 use borrow.Author.Tests.{tests}
@@ -15,7 +15,6 @@ use Rattle.units.proofs.Waits.{wait_negative, wait_timeless, wait_outside, wait_
 use Rattle.units.proofs.Waits.{wait_located}
 use Rattle.units.proofs.waiting_unit.Goals as goal
 use Rattle.units.proofs.waiting_unit.Goals.{In_ok-place, In_ok-when, After-locate, After-start, After-contains}
-use Rattle.units.proofs.waiting_unit.Goals.{else-contains-via-else-contains, else-contains-via-then-contains+else-eq}
 
 -- the place and the time, as the cells say them
 placed : (c : In_ok-place) → get_or c.args.cells.now 0 (pos 0) ≡ pos c.in_ok-place.place
@@ -50,6 +49,12 @@ returns-in_err-when c = rw c.from_residual-in_err-when.ensures
     (not_natural (get_or c.args.cells.now 1 (pos 0)) (search rules) _ c.ok-2.ensures.value c.try_from-2.ensures
     c.in_err-when.was))
 
+pub returns-then-not-contains : goal.returns-then-not-contains
+returns-then-not-contains c =
+    let at = goal.at.returns-then-not-contains c in
+    wait_outside c.agreement-agreement.ensures.1 c.args.time c.args.wait c.args.cells.now c.requires
+    (timed at.In_ok-when) (begins at.After-start) (within at.After-contains) c.if-not-contains.true
+
 pub returns-in_err-found : goal.returns-in_err-found
 returns-in_err-found c =
     let at = goal.at.returns-in_err-found c in
@@ -58,17 +63,12 @@ returns-in_err-found c =
     (timed at.In_ok-when) (placed at.In_ok-place)
     _ (found at.After-locate) c.in_err-found.was)
 
-pub returns-else-contains : goal.returns-else-contains
-returns-else-contains c =
-    let at = goal.at.returns-else-contains c in
-    elim c.else-contains.branch [
-      | else-contains-via-then-contains+else-eq w ↦ wait_other c.agreement-agreement.ensures.1 c.args.time
-          c.args.wait c.args.cells.now c.requires (timed at.In_ok-when) (placed at.In_ok-place) _
-          (found at.After-locate) c.in_ok-found.was (search rules)
-      | else-contains-via-else-contains w ↦ wait_outside c.agreement-agreement.ensures.1 c.args.time c.args.wait
-          c.args.cells.now c.requires (timed at.In_ok-when) (begins at.After-start) (within at.After-contains)
-          w.if-contains.false
-    ]
+pub returns-else-eq : goal.returns-else-eq
+returns-else-eq c =
+    let at = goal.at.returns-else-eq c in
+    wait_other c.agreement-agreement.ensures.1 c.args.time c.args.wait c.args.cells.now c.requires
+    (timed at.In_ok-when) (placed at.In_ok-place)
+    _ (found at.After-locate) c.in_ok-found.was (search rules)
 
 pub located_unit-requires-clause-there : goal.located_unit-requires-clause-there
 located_unit-requires-clause-there c =
@@ -83,5 +83,5 @@ returns-then-eq c =
     wait_located c.agreement-agreement.ensures.1 c.args.time c.args.wait c.args.cells.now c.requires
     (timed at.In_ok-when) (placed at.In_ok-place)
     _ (found at.After-locate) c.in_ok-found.was
-    (begins at.After-start) (within at.After-contains) c.if-contains.true (search rules)
+    (begins at.After-start) (within at.After-contains) c.if-not-contains.false (search rules)
     c.located_unit.result c.located_unit.ensures

@@ -4,5 +4,5 @@ use lib.ListN.{length}
 use Rattle.activation.proofs.instances.arguments.Given as goal
 
 abbrev pub invariant-loop : goal.invariant-loop
-invariant-loop l = (length l.values.items ≡ l.counter)
-    × Argued l.clause.values.cells.now l.depth l.s l.end l.values.items l.counter l.at
+invariant-loop l = (length l.given.items ≡ l.counter)
+    × Argued l.values l.depth l.s l.end l.given.items l.counter l.at

@@ -18,7 +18,7 @@ returns-in-Waits c =
     let f = is_waits (mode_at c.args.event) h.values.cells.now h.site.a
     (wait_at (expr (h.site.depth - 1)) h.site.place h.bytes.now 5) (c.becomes.ensures h.site.place)
     c.in-Waits.is in
-    obligation_waits c.args.event h.agreement.now h.site.below h.bytes.now h.site.place h.params.now
+    obligation_waits (mode_at c.args.event) h.agreement.now h.site.below h.bytes.now h.site.place h.params.now
     h.values.cells.now h.site.a h.site.depth c.requires.1 f
 
 pub breach-requires : goal.breach-requires
@@ -37,7 +37,7 @@ returns-in-Late c =
     (wait_at (expr (h.site.depth - 1)) h.site.place h.bytes.now 5) (c.becomes.ensures h.site.place)
     c.in-Late.is in
     let m = read! {z = c.in-Late.last} (search rules) in
-    obligation_late c.args.event h.agreement.now h.site.below h.bytes.now h.site.place h.params.now
+    obligation_late (mode_at c.args.event) h.agreement.now h.site.below h.bytes.now h.site.place h.params.now
     h.values.cells.now h.site.a h.site.depth c.requires.1 f.0 f.1 c.breach.result (rw m at c.breach.ensures.0)
     c.breach.ensures.1
 
@@ -49,5 +49,5 @@ returns-in-Taken c =
     c.in-Taken.is in
     let m = read! {z = c.in-Taken.last} (search rules) in
     let we = c.wait_end.ensures in
-    obligation_taken c.args.event h.agreement.now h.site.below h.bytes.now h.site.place h.params.now
+    obligation_taken (mode_at c.args.event) h.agreement.now h.site.below h.bytes.now h.site.place h.params.now
     h.values.cells.now h.site.a h.site.depth c.requires.1 (we.1, omega arith) (rw m f.2) _ f.3 we.0 refl f.0 (m ∙ f.1)

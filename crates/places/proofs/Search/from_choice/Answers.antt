@@ -3,6 +3,7 @@ use mathlib.Core.Path.{refl, sym}
 use native.Mathlib.Omega.{arith}
 use Rattle.places.proofs.Steps.{typed_room, choice_here, choice_sees, choice_then, choice_else}
 use Rattle.places.specs.Locate.{StepAt}
+use Rattle.places.specs.Sight.{types_in}
 use Rattle.places.proofs.Search.from_choice.Goals as goal
 
 pub returns-then-self-base : goal.returns-then-self-base
@@ -10,7 +11,8 @@ unfolding StepAt
 returns-then-self-base c =
     record {
       each = λ d t. (
-        choice_here c.args.self.now.place c.args.sight.now.items t (sym c.requires.is_choice) refl c.if-self-base.true,
+        choice_here c.args.self.now.place (types_in c.args.sight.now) t (sym c.requires.is_choice) refl
+            c.if-self-base.true,
         refl,
       );
     }
@@ -21,17 +23,18 @@ sides_at-c-requires c = typed_room c.requires.stands.typed
 pub then_sight-requires : goal.then_sight-requires
 then_sight-requires c =
     record {
-      sees = rw c.byte.ensures.0 (choice_sees c.args.self.now.place c.args.sight.now.items c.requires.stands.typed.at
-          (sym c.requires.is_choice) c.sides_at-c.ensures.first.0 c.sides_at-c.ensures.second.0 refl);
+      sees = rw c.byte.ensures.0 (choice_sees c.args.self.now.place (types_in c.args.sight.now)
+          c.requires.stands.typed.at (sym c.requires.is_choice) c.sides_at-c.ensures.first.0
+          c.sides_at-c.ensures.second.0 refl);
     }
 
 pub returns-then-self-base-2 : goal.returns-then-self-base-2
 unfolding StepAt
 returns-then-self-base-2 c =
     record {
-      each = λ d t. choice_then c.args.self.now.place c.args.sight.now.items t
+      each = λ d t. choice_then c.args.self.now.place (types_in c.args.sight.now) t
           (sym c.requires.is_choice) c.sides_at-c.ensures.first.0 c.sides_at-c.ensures.second.0
-          c.then_sight.new.sight.items refl c.if-self-base.false c.if-self-base-2.true c.byte.ensures.0
+          (types_in c.then_sight.new.sight) refl c.if-self-base.false c.if-self-base-2.true c.byte.ensures.0
           c.then_sight.ensures;
     }
 
@@ -39,7 +42,7 @@ pub returns : goal.returns
 unfolding StepAt
 returns c =
     record {
-      each = λ d t. choice_else c.args.self.now.place c.args.sight.now.items t
+      each = λ d t. choice_else c.args.self.now.place (types_in c.args.sight.now) t
           (sym c.requires.is_choice) c.sides_at-c.ensures.first.0 c.sides_at-c.ensures.second.0 refl
           c.if-self-base.false c.if-self-base-2.false;
     }

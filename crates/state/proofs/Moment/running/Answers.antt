@@ -1,5 +1,5 @@
--- A running table shows a run exactly where the tree at its front is sound, has the units that the head tells, and
--- zeros stand behind it.
+-- A running table shows a run exactly where its head tells no breach, the tree at its front is sound and has the units
+-- that the head tells, and zeros stand behind it.
 use borrow.Author.Rules.{rules}
 use borrow.Author.Tests.{tests}
 use mathlib.Core.Path.{◌≡◌, sym, ◌∙◌}
@@ -10,7 +10,7 @@ use lib.ListN.{length, get_or, take, drop, length-take, length-drop}
 use Rattle.std.proofs.Common.{Some}
 use Rattle.units.specs.Cells.{number_below}
 use Rattle.units.proofs.Tests.{cell_below}
-use Rattle.state.proofs.RunningTables.{running_many, fewer, running_torn, running_is}
+use Rattle.state.proofs.RunningTables.{running_head, running_many, fewer, running_torn, running_is}
 use Rattle.state.proofs.Trees.{more_sights}
 use Rattle.state.proofs.Moment.running.Goals as goal
 use Rattle.state.proofs.Moment.running.Goals.{In_ok-used}
@@ -25,6 +25,11 @@ few c = fewer c.args.table.now c.told-table c.args.self.now.accepted.now c.requi
 -- and as many sights
 seen : (c : In_ok-used) → length (take c.in_ok-used.used c.args.sights.now) ≡ c.in_ok-used.used
 seen c = omega (arith, few c, c.requires.room, length-take c.in_ok-used.used c.args.sights.now)
+
+pub returns-then-not-zeros : goal.returns-then-not-zeros
+returns-then-not-zeros c =
+    running_head c.args.table.now c.told-table c.args.self.now.accepted.now c.requires.head_at c.args.sights.now
+    c.zeros.ensures c.if-not-zeros.true
 
 pub returns-in_err-used : goal.returns-in_err-used
 returns-in_err-used c = rw c.from_residual.ensures
@@ -56,11 +61,13 @@ overflow_add-used c = record { fits = omega (arith, few (goal.at.overflow_add-us
 pub offset_bounds-table-used : goal.offset_bounds-table-used
 offset_bounds-table-used c = record { fits = omega (arith, few (goal.at.offset_bounds-table-used c).In_ok-used) }
 
-pub slice_bounds-zeros-count-then-zeros : goal.slice_bounds-zeros-count-then-zeros
-slice_bounds-zeros-count-then-zeros c = omega (arith, few (goal.at.slice_bounds-zeros-count-then-zeros c).In_ok-used)
+pub slice_bounds-zeros-count-then-tree-used : goal.slice_bounds-zeros-count-then-tree-used
+slice_bounds-zeros-count-then-tree-used c =
+    omega (arith, few (goal.at.slice_bounds-zeros-count-then-tree-used c).In_ok-used)
 
-pub slice_bounds-zeros-start-then-zeros : goal.slice_bounds-zeros-start-then-zeros
-slice_bounds-zeros-start-then-zeros c = omega (arith, few (goal.at.slice_bounds-zeros-start-then-zeros c).In_ok-used)
+pub slice_bounds-zeros-start-then-tree-used : goal.slice_bounds-zeros-start-then-tree-used
+slice_bounds-zeros-start-then-tree-used c =
+    omega (arith, few (goal.at.slice_bounds-zeros-start-then-tree-used c).In_ok-used)
 
 pub returns-in_err-tree : goal.returns-in_err-tree
 returns-in_err-tree c =
@@ -75,4 +82,5 @@ returns c =
     let u = (goal.at.returns c).In_ok-used in
     running_is c.args.table.now c.told-table c.args.self.now.accepted.now c.requires.head_at
     (count u) _ (more_sights _ _ _ _ c.walk_tree.new.sights _ _ (omega (arith, seen u, c.walk_tree.auto.sights))
-    (rw (seen u) at c.walk_tree.ensures)) c.in_ok-tree.was (grind (rules, tests)) c.then_some.ensures
+    (rw (seen u) at c.walk_tree.ensures)) c.in_ok-tree.was (sym c.zeros.ensures ∙ c.if-not-zeros.false)
+    (grind (rules, tests)) c.then_some.ensures

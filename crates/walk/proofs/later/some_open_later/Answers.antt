@@ -1,17 +1,18 @@
 -- Each unit, with its sight, is what the tree says of it, and what is asked of all is asked of each in turn.
 use borrow.Author.Rules.{rules}
 use borrow.Author.Tests.{tests}
-use mathlib.Core.Path.{sym, ap, ◌∙◌}
+use mathlib.Core.Path.{sym, ◌∙◌}
 use Prim.Native.Nat.{ℕ, ◌-◌, ◌/◌, ◌≤◌, ◌<◌}
 use native.Mathlib.Omega.{arith}
 use lib.ListN.{length}
 use Rattle.laws.proofs.Residues.{some_units}
 use Rattle.std.proofs.iter.Yields.{fronts}
 use Rattle.std.specs.List.{zip}
-use Rattle.std.specs.Slice.Iter.{iter_rest, chunks_exact_size, chunks_exact_rest, chunks_exact_steps}
+use Rattle.std.specs.Slice.Iter.{chunks_exact_steps}
 use Rattle.std.proofs.lemmas.Iterator.{YieldsList, zips}
 use Rattle.std.proofs.lemmas.Iterator.Adapters.{serves_from_places}
 use Rattle.std.proofs.lemmas.Iterator.Search.{any_from_yields_List}
+use Rattle.std.proofs.lemmas.List.{take_all}
 use Rattle.walk.proofs.Opening.{UnitAt, each_unit, chunks, yields_units, seen_at, opens, some_unit}
 use Rattle.walk.proofs.later.some_open_later.Goals as goal
 use Rattle.walk.proofs.later.some_open_later.Goals.{Start, After-zip}
@@ -33,12 +34,9 @@ items c = let u = c.args.units in
     YieldsList (zips fronts chunks_exact_steps) (λ p. (p.0.now, p.1.now)) c.zip.result
     (zip u.sights.now (chunks (length u.cells.now / 24) u.cells.now))
 
+-- the sights and the cells are gone through whole, as they stand or from 0 on
 yielded : (c : After-zip) → items c
-yielded c =
-    let z = c.zip.ensures in
-    yields_units c.zip.result _ _ (ap iter_rest z.first ∙ c.iter.ensures.rest)
-    (ap chunks_exact_size z.second ∙ c.chunks_exact-cells.ensures.size)
-    (ap chunks_exact_rest z.second ∙ c.chunks_exact-cells.ensures.rest)
+yielded c = yields_units c.zip.result _ _ (grind (arith, take_all)) (search rules) (grind (arith, take_all))
 
 pub any-requires-clause-callable : goal.any-requires-clause-callable
 any-requires-clause-callable c =

@@ -5,6 +5,7 @@ use Rattle.waits.proofs.Waits.{later_other, later_not, later_holds}
 use native.Mathlib.Omega.{arith}
 use Rattle.csl.specs.Decode.{wait_at}
 use Rattle.waits.specs.Fates.{condition_of, wait_in}
+use Rattle.readings.specs.Values.{values_read}
 use Rattle.waits.proofs.wait.Wait.opens_later.Goals as goal
 use Rattle.waits.proofs.wait.Wait.opens_later.Goals.{then-byte-reading, else-byte-reading}
 
@@ -14,7 +15,7 @@ returns-then-reading-first c = λ p.
     let h = c.args.self.now in
     let r = c.args.reading.now in
     elim c.if-byte-reading.branch [
-      | then-byte-reading w ↦ later_holds h.values.cells.now r.values.items h.a r.time r.tag
+      | then-byte-reading w ↦ later_holds h.values.cells.now (values_read r) h.a r.time r.tag
           (wait_in h p) c.byte.ensures.0 w.if-byte-reading.true
           (omega (arith, r.soon)) (w.first.ensures.is p) w.first.type_inv
           (sym w.value-is ∙ c.if-reading-first.true) c.holds.ensures
@@ -29,11 +30,11 @@ returns-else-reading-first c = λ p.
     let r = c.args.reading.now in
     elim c.if-byte-reading.branch [
       | then-byte-reading w ↦ c.if-reading-first.false
-          ∙ later_not h.values.cells.now r.values.items h.a r.time r.tag
+          ∙ later_not h.values.cells.now (values_read r) h.a r.time r.tag
           (wait_in h p) c.byte.ensures.0 w.if-byte-reading.true
           (omega (arith, r.soon)) (w.first.ensures.is p) w.first.type_inv
           (sym w.value-is ∙ c.if-reading-first.false)
       | else-byte-reading w ↦ c.if-reading-first.false
-          ∙ later_other h.values.cells.now r.values.items h.a r.time r.tag
+          ∙ later_other h.values.cells.now (values_read r) h.a r.time r.tag
           (wait_in h p) c.byte.ensures.0 w.if-byte-reading.false
     ]
